@@ -1,0 +1,25 @@
+use Rattle.std.specs.Prelude.{ℕ, ℤ, List, Option, option_map}
+use Rattle.cal_types.specs.Month.{MonthParts}
+use Rattle.cal_types.specs.declared.fields.DateFields.{DateFields}
+
+-- the fields of a date that are given
+pub record Bag : Type 0 where
+  pub era : Option (List ℕ)
+  pub era_year : Option ℤ
+  pub extended_year : Option ℤ
+  pub month : Option MonthParts
+  pub month_code : Option (List ℕ)
+  pub ordinal_month : Option ℕ
+  pub day : Option ℕ
+
+-- the fields that a value of the program holds
+abbrev pub bag_of : DateFields → Bag
+bag_of f = record {
+  era = option_map (λ bytes. bytes.now) f.era;
+  era_year = f.era_year;
+  extended_year = f.extended_year;
+  month = f.month;
+  month_code = option_map (λ bytes. bytes.now) f.month_code;
+  ordinal_month = f.ordinal_month;
+  day = f.day;
+}

@@ -1,0 +1,3 @@
+pub mod Bag
+pub mod Errors
+pub mod Month

@@ -1,0 +1,22 @@
+//! A bag of fields that may name a date, as the property bags of ECMAScript Temporal.
+
+use crate::month::Month;
+
+/// Some of the fields of a date; a calendar decides whether they name one.
+#[derive(Clone, Copy, Debug, PartialEq, Default)]
+pub struct DateFields<'a> {
+    /// The era's code, in bytes; it goes with `era_year`.
+    pub era: Option<&'a [u8]>,
+    /// The year in the era; it goes with `era`.
+    pub era_year: Option<i32>,
+    /// The extended year, which numbers a calendar's years without eras.
+    pub extended_year: Option<i32>,
+    /// The month by number; it excludes `month_code`.
+    pub month: Option<Month>,
+    /// The month by its code, such as `M05L`, in bytes; it excludes `month`.
+    pub month_code: Option<&'a [u8]>,
+    /// The month by its place in the year, from 1.
+    pub ordinal_month: Option<u8>,
+    /// The day of the month, from 1.
+    pub day: Option<u8>,
+}

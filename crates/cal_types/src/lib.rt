@@ -1,0 +1,22 @@
+//! The plain types of the calendars: months, bags of fields, options, durations and errors.
+//!
+//! Names and shapes follow `icu_calendar`; month codes and options are those of ECMAScript Temporal.
+#![tactic(auto)]
+
+pub mod duration;
+pub mod errors;
+pub mod fields;
+pub mod month;
+pub mod options;
+
+pub use duration::{DateDuration, DateDurationUnit};
+pub use errors::{
+    DateAddError, DateError, DateFromFieldsError, DateNewError, EcmaReferenceYearError,
+    LunisolarDateError, MismatchedCalendarError, MonthCodeParseError, MonthError, RangeError,
+    TinyStrError, UnknownEraError,
+};
+pub use fields::DateFields;
+pub use month::Month;
+pub use options::{
+    DateAddOptions, DateDifferenceOptions, DateFromFieldsOptions, MissingFieldsStrategy, Overflow,
+};

@@ -1,0 +1,50 @@
+//! How dates are read from fields, added to and compared, by the options of ECMAScript Temporal.
+
+use crate::duration::DateDurationUnit;
+
+/// What becomes of a month or a day that the year or the month doesn't have.
+///
+/// This is Temporal's option `overflow`.
+#[derive(Clone, Copy, Debug, PartialEq, Default)]
+pub enum Overflow {
+    /// It becomes the nearest that there is.
+    Constrain,
+    /// It is an error.
+    #[default]
+    Reject,
+}
+
+/// What becomes of fields that name no whole date.
+#[derive(Clone, Copy, Debug, PartialEq, Default)]
+pub enum MissingFieldsStrategy {
+    /// They are an error.
+    #[default]
+    Reject,
+    /// A missing year becomes a reference year, or a missing day the first of the month, as Temporal's
+    /// `PlainMonthDay` and `PlainYearMonth` have it.
+    Ecma,
+}
+
+/// How a date is made of fields. `None` stands for the option's default.
+#[derive(Clone, Copy, Debug, PartialEq, Default)]
+pub struct DateFromFieldsOptions {
+    /// A month or a day that isn't there; the default is [`Overflow::Reject`].
+    pub overflow: Option<Overflow>,
+    /// A missing year or day; the default is [`MissingFieldsStrategy::Reject`].
+    pub missing_fields_strategy: Option<MissingFieldsStrategy>,
+}
+
+/// How a duration is added to a date. `None` stands for the option's default.
+#[derive(Clone, Copy, Debug, PartialEq, Default)]
+pub struct DateAddOptions {
+    /// A month or a day that isn't there once years and months are added; the default is
+    /// [`Overflow::Constrain`].
+    pub overflow: Option<Overflow>,
+}
+
+/// How the difference of two dates is counted. `None` stands for the option's default.
+#[derive(Clone, Copy, Debug, PartialEq, Default)]
+pub struct DateDifferenceOptions {
+    /// The largest unit that the duration uses; the default is [`DateDurationUnit::Days`].
+    pub largest_unit: Option<DateDurationUnit>,
+}
