@@ -1,0 +1,4 @@
+pub mod CalendarList
+pub mod Resolving
+pub mod Difference
+pub mod WithinYear
