@@ -1,3 +1,4 @@
 pub mod Bag
 pub mod Errors
 pub mod Month
+pub mod Text

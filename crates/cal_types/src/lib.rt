@@ -8,6 +8,7 @@ pub mod errors;
 pub mod fields;
 pub mod month;
 pub mod options;
+pub mod tiny;
 
 pub use duration::{DateDuration, DateDurationUnit};
 pub use errors::{
@@ -20,3 +21,4 @@ pub use month::Month;
 pub use options::{
     DateAddOptions, DateDifferenceOptions, DateFromFieldsOptions, MissingFieldsStrategy, Overflow,
 };
+pub use tiny::TinyAsciiStr;
