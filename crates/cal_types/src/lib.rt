@@ -7,6 +7,7 @@ pub mod duration;
 pub mod errors;
 pub mod fields;
 pub mod month;
+pub mod month_code;
 pub mod options;
 pub mod tiny;
 
@@ -18,6 +19,7 @@ pub use errors::{
 };
 pub use fields::DateFields;
 pub use month::Month;
+pub use month_code::MonthCode;
 pub use options::{
     DateAddOptions, DateDifferenceOptions, DateFromFieldsOptions, MissingFieldsStrategy, Overflow,
 };
