@@ -1,3 +1,6 @@
 pub mod Bag
 pub mod Errors
 pub mod Month
+pub mod MonthInfo
+pub mod Text
+pub mod Year

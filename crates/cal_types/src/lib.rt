@@ -1,14 +1,21 @@
-//! The plain types of the calendars: months, bags of fields, options, durations and errors.
+//! The plain types of the calendars: small texts, months, years, bags of fields, options, durations and
+//! errors.
 //!
 //! Names and shapes follow `icu_calendar`; month codes and options are those of ECMAScript Temporal.
 #![tactic(auto)]
 
+pub mod day;
 pub mod duration;
 pub mod errors;
 pub mod fields;
 pub mod month;
+pub mod month_code;
+pub mod month_info;
 pub mod options;
+pub mod tiny;
+pub mod year;
 
+pub use day::{DayOfMonth, DayOfYear};
 pub use duration::{DateDuration, DateDurationUnit};
 pub use errors::{
     DateAddError, DateError, DateFromFieldsError, DateNewError, EcmaReferenceYearError,
@@ -17,6 +24,10 @@ pub use errors::{
 };
 pub use fields::DateFields;
 pub use month::Month;
+pub use month_code::MonthCode;
+pub use month_info::{LeapStatus, MonthInfo};
 pub use options::{
     DateAddOptions, DateDifferenceOptions, DateFromFieldsOptions, MissingFieldsStrategy, Overflow,
 };
+pub use tiny::TinyAsciiStr;
+pub use year::{CyclicYear, EraYear, IntoYearInfo, YearAmbiguity, YearInfo, YearInput};

@@ -1,8 +1,11 @@
 //! A month as its number and whether it is a leap month, as the month codes of ECMAScript Temporal have it.
 
-ghost use Rattle.std.specs.Prelude.{◌≡◌, ◌≤◌};
-ghost use Rattle.cal_types.specs.Month.{plain_month, leap_month};
+ghost use Rattle.std.specs.Prelude.{◌≡◌, ◌≤◌, Some, IfOk, ok_or};
+ghost use Rattle.cal_types.specs.Month.{plain_month, leap_month, code_text, month_read};
 
+use crate::errors::MonthCodeParseError;
+use crate::month_code::MonthCode;
+use crate::tiny::TinyAsciiStr;
 use std::marker::Model;
 
 /// A month of a calendar's year: its number, from 0 to 99, and whether it is a leap month.
@@ -49,6 +52,36 @@ impl Month {
         }
     }
 
+    /// The month that a month code names, as [`Month::try_from_utf8`].
+    pub fn try_from_str(s: &str) -> Result<Month, MonthCodeParseError>
+        ensures value { result ≡ ok_or (month_read s.now) MonthCodeParseError.InvalidSyntax }
+        ensures code { IfOk result (λ m. code_text m ≡ s.now) }
+    {
+        Month::try_from_utf8(s.as_bytes())
+    }
+
+    /// The month that a month code names: `M`, two digits, and `L` for a leap month.
+    /// [`MonthCodeParseError::InvalidSyntax`] comes for every other text.
+    ///
+    /// This is ECMAScript Temporal's `ParseMonthCode`.
+    pub fn try_from_utf8(bytes: &[u8]) -> Result<Month, MonthCodeParseError>
+        ensures value { result ≡ ok_or (month_read bytes.now) MonthCodeParseError.InvalidSyntax }
+        ensures code { IfOk result (λ m. code_text m ≡ bytes.now) }
+    {
+        let (tens, units, is_leap) = match bytes {
+            [b'M', tens, units] => (*tens, *units, false),
+            [b'M', tens, units, b'L'] => (*tens, *units, true),
+            _ => return Err(MonthCodeParseError::InvalidSyntax),
+        };
+        if !tens.is_ascii_digit() || !units.is_ascii_digit() {
+            return Err(MonthCodeParseError::InvalidSyntax);
+        }
+        Ok(Month {
+            number: 10 * (tens - b'0') + (units - b'0'),
+            is_leap,
+        })
+    }
+
     /// The month's number, from 0 to 99.
     pub fn number(self) -> u8
         ensures value { result ≡ self.number }
@@ -62,6 +95,20 @@ impl Month {
         ensures { result ≡ self.is_leap }
     {
         self.is_leap
+    }
+
+    /// The month code: `M`, two digits, and `L` for a leap month, such as `M05L`.
+    pub fn code(self) -> MonthCode
+        ensures text { result.0 ≡ code_text self }
+        ensures read { month_read result.0 ≡ Some self }
+    {
+        let tens = b'0' + self.number / 10;
+        let units = b'0' + self.number % 10;
+        if self.is_leap {
+            MonthCode(TinyAsciiStr::of_text(&[b'M', tens, units, b'L']))
+        } else {
+            MonthCode(TinyAsciiStr::of_text(&[b'M', tens, units]))
+        }
     }
 }
 

@@ -1,0 +1,29 @@
+use Rattle.std.proofs.Common.{◌≡◌, ℕ, ◌-◌, ◌≤◌, List, [], ◌∷◌, ◌++◌, length, take, drop, replicate, refl, arith, zero, suc, length-append}
+use Rattle.std.specs.Str.{IsAscii, IsUtf8}
+use Rattle.std.proofs.lemmas.Str.{IsUtf8-from_ascii}
+use Rattle.std.proofs.lemmas.List.{drop-replicate, length-replicate}
+use Rattle.std.proofs.lemmas.Bool.Decides.{nat_tests}
+use Rattle.std.proofs.Math.Seq.{take-append_seam}
+use Rattle.std.proofs.lemmas.Grind.{common_steps}
+use Rattle.cal_types.specs.Text.{IsText, filled}
+
+-- the bytes of a text are ASCII
+pub IsAscii-from_text : (bs : List ℕ) → IsText bs → IsAscii bs
+IsAscii-from_text [] h i = grind (arith, common_steps)
+IsAscii-from_text (x ∷ xs) h zero = grind (arith, nat_tests, common_steps)
+IsAscii-from_text (x ∷ xs) h (suc i) =
+    let tail : IsText xs = grind (arith, common_steps) in IsAscii-from_text xs tail i
+
+-- the bytes of a text are UTF-8
+pub IsUtf8-from_text : (bs : List ℕ) → IsText bs → IsUtf8 bs
+IsUtf8-from_text bs h = IsUtf8-from_ascii bs (IsAscii-from_text bs h)
+
+-- a text that is copied over n zeros, and its length, are a small text of at most n bytes
+pub made_text : (n : ℕ) (t : List ℕ) → length t ≤ n → IsText t → (length t ≤ n) × (length (t ++ drop (length t) (replicate n 0)) ≡ n) × (t ++ drop (length t) (replicate n 0) ≡ filled n (take (length t) (t ++ drop (length t) (replicate n 0)))) × IsText (take (length t) (t ++ drop (length t) (replicate n 0)))
+made_text n t fits text =
+    rw (drop-replicate {X = ℕ} (length t) n 0, take-append_seam t (replicate (n - length t) 0)) (
+      fits,
+      omega (arith, fits, length-append t (replicate (n - length t) 0), length-replicate {A = ℕ} (n - length t) 0),
+      refl,
+      text,
+    )

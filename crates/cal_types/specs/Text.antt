@@ -1,0 +1,14 @@
+use Rattle.std.specs.Prelude.{◌≡◌, ℕ, ◌-◌, Bool, true, List, ◌++◌, ◌&&◌, nat_lt, length, replicate}
+use Rattle.std.specs.List.{list_all}
+
+-- a byte from 1 to 127
+abbrev pub is_text_byte : ℕ → Bool
+is_text_byte b = nat_lt 0 b && nat_lt b 128
+
+-- bytes that are an ASCII text without the byte 0
+abbrev pub IsText : List ℕ → Type 0
+IsText bs = list_all is_text_byte bs ≡ true
+
+-- a text filled with 0 to n bytes
+abbrev pub filled : ℕ → List ℕ → List ℕ
+filled n bs = bs ++ replicate (n - length bs) 0

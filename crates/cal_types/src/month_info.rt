@@ -1,0 +1,92 @@
+//! What a date says of its month.
+
+ghost use Rattle.std.specs.Prelude.{◌≡◌};
+ghost use Rattle.cal_types.specs.MonthInfo.{month_info};
+
+use crate::month::Month;
+use crate::month_code::MonthCode;
+use std::marker::Model;
+
+/// How a month of a year stands to leap months.
+#[derive(Clone, Copy, Debug, PartialEq, Eq, Hash)]
+pub enum LeapStatus {
+    /// A plain month without a leap month beside it.
+    Normal,
+    /// A leap month.
+    Leap,
+    /// A plain month with a leap month beside it that year.
+    Base,
+}
+
+/// The month of a date: its place in the year, its codes, and how it stands to leap months.
+#[derive(Clone, Copy, Debug, PartialEq)]
+pub struct MonthInfo {
+    /// The month's place in its year, from 1.
+    pub ordinal: u8,
+    /// The month's code, by which it is the same in each year.
+    pub standard_code: MonthCode,
+    /// The code by which the month's name is looked up: `M06L` for the Adar of a Hebrew leap year, and
+    /// otherwise the standard code.
+    pub formatting_code: MonthCode,
+    month: Month,
+    leap_status: LeapStatus,
+}
+
+impl Model for MonthInfo {
+    ghost use Rattle.std.specs.Prelude.{◌≡◌};
+    ghost use Rattle.cal_types.specs.MonthInfo.{MonthInfoParts};
+
+    ghost Value = { MonthInfoParts };
+
+    ghost view = { λ s. record { ordinal = s.ordinal; standard_code = s.standard_code.0; formatting_code = s.formatting_code.0; month = s.month; leap_status = s.leap_status } };
+
+    ghost inverse = { λ v. record { ordinal = v.ordinal; standard_code = record { 0 = v.standard_code }; formatting_code = record { 0 = v.formatting_code }; month = v.month; leap_status = v.leap_status } };
+}
+
+impl MonthInfo {
+    /// The month at this place of a year, which is shown by the code of `formatting_month`.
+    pub fn new(
+        ordinal: u8,
+        month: Month,
+        leap_status: LeapStatus,
+        formatting_month: Month,
+    ) -> MonthInfo
+        ensures { result ≡ month_info ordinal month leap_status formatting_month }
+    {
+        MonthInfo {
+            ordinal,
+            standard_code: month.code(),
+            formatting_code: formatting_month.code(),
+            month,
+            leap_status,
+        }
+    }
+
+    /// The month's number, which its code has; after a leap month it isn't the place.
+    pub fn number(self) -> u8
+        ensures { result ≡ self.month.number }
+    {
+        self.month.number()
+    }
+
+    /// How the month stands to leap months.
+    pub fn leap_status(self) -> LeapStatus
+        ensures { result ≡ self.leap_status }
+    {
+        self.leap_status
+    }
+
+    /// The month as a constructor of dates takes it.
+    pub fn to_input(&self) -> Month
+        ensures { result ≡ self.now.month }
+    {
+        self.month
+    }
+
+    /// Whether this is a leap month.
+    pub fn is_leap(self) -> bool
+        ensures { result ≡ self.month.is_leap }
+    {
+        self.month.is_leap()
+    }
+}

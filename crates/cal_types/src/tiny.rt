@@ -1,0 +1,168 @@
+//! Small ASCII texts that are held in place: the codes of months and eras.
+
+ghost use Rattle.std.specs.Prelude.{◌≡◌, ◌<◌, ◌≤◌, ◌↔◌, length, IsOk, IfOk, IsErrOf, nat_eq, refl, Some};
+ghost use Rattle.std.specs.Ordering.{nat_cmp};
+ghost use Rattle.std.specs.Cmp.{partial_equiv_from_equiv};
+ghost use Rattle.std.specs.Cmp.Lexicographic.{pointwise, slice_cmp, nat_list_eq_equiv, nat_list_cmp_total, texts_po, texts_ties};
+ghost use Rattle.std.specs.Cmp.Rules.{hashing};
+ghost use Rattle.std.specs.Hash as fed;
+ghost use Rattle.std.specs.List.{list_all};
+ghost use Rattle.std.proofs.Common.{rules};
+ghost use Rattle.cal_types.specs.Text.{IsText, filled, is_text_byte};
+
+use crate::errors::TinyStrError;
+use std::cmp::Ordering;
+use std::hash::{Hash, Hasher};
+use std::marker::Model;
+use std::str;
+
+/// A text of at most `N` ASCII bytes, each from 1 to 127.
+///
+/// Equality, order and hash are those of the text as a `str`. This is `tinystr`'s type of the same name.
+#[derive(Clone, Copy, Debug)]
+pub struct TinyAsciiStr<const N: usize> {
+    bytes: [u8; N],
+    len: usize,
+}
+
+impl<const N: usize> Model for TinyAsciiStr<N> {
+    ghost use Rattle.std.specs.Prelude.{◌≡◌, ◌≤◌, ℕ, List, length, take};
+    ghost use Rattle.cal_types.specs.Text.{IsText, filled};
+
+    ghost Value = { List ℕ };
+
+    ghost view = { λ s. take s.len s.bytes };
+
+    ghost invariant = { λ s. (s.len ≤ N) × (length s.bytes ≡ N) × (s.bytes ≡ filled N (take s.len s.bytes)) × IsText (take s.len s.bytes) };
+
+    ghost inverse = { λ t. record { bytes = filled N t; len = length t } };
+
+    ghost use Rattle.std.proofs.Common.{arith, length-take-le, sym};
+
+    ghost inverse_ok = { λ s h i. record { bytes = sym h.2 i; len = length-take-le s.len s.bytes (omega (arith, h.0, h.1)) i } };
+}
+
+impl<const N: usize> TinyAsciiStr<N> {
+    /// The text with these bytes: [`TinyStrError::TooLong`] where there are more than `N`, and otherwise
+    /// [`TinyStrError::NonAscii`] where one is 0 or above 127.
+    pub fn try_from_utf8(bytes: &[u8]) -> Result<Self, TinyStrError>
+        ensures value { IfOk result (λ t. t ≡ bytes.now) }
+        ensures ok { IsOk result ↔ ((length bytes.now ≤ N) × IsText bytes.now) }
+        ensures too_long { IsErrOf result TinyStrError.TooLong ↔ (N < length bytes.now) }
+    {
+        if bytes.len() > N {
+            return Err(TinyStrError::TooLong);
+        }
+        if !is_text(bytes) {
+            return Err(TinyStrError::NonAscii);
+        }
+        Ok(TinyAsciiStr::of_text(bytes))
+    }
+
+    /// The text with these bytes, which are known to fit and to be ASCII.
+    pub(crate) fn of_text(text: &[u8]) -> Self
+        requires fits { length text.now ≤ N }
+        requires text { IsText text.now }
+        ensures { result ≡ text.now }
+    {
+        let n = text.len();
+        let mut bytes = [0u8; N];
+        bytes[..n].copy_from_slice(text);
+        TinyAsciiStr { bytes, len: n }
+    }
+
+    /// The text.
+    pub fn as_str(&self) -> &str
+        ensures value { result.now ≡ self.now }
+        ensures text { IsText result.now }
+    {
+        // Bytes below 128 are UTF-8.
+        unsafe { str::from_utf8_unchecked(&self.bytes[..self.len]) }
+    }
+
+    /// The text's bytes.
+    pub fn as_bytes(&self) -> &[u8]
+        ensures value { result.now ≡ self.now }
+        ensures text { IsText result.now }
+    {
+        &self.bytes[..self.len]
+    }
+
+    /// The text's bytes, filled with 0 to `N`.
+    pub fn all_bytes(&self) -> &[u8; N]
+        ensures { result.now ≡ filled N self.now }
+    {
+        &self.bytes
+    }
+
+    /// The count of the text's bytes, at most `N`.
+    pub fn len(&self) -> usize
+        ensures value { result ≡ length self.now }
+        ensures fits { result ≤ N }
+    {
+        self.len
+    }
+
+    /// The same text with room for `M` bytes, which it must not exceed.
+    pub fn resize<const M: usize>(self) -> TinyAsciiStr<M>
+        requires { length self ≤ M }
+        ensures { result ≡ self.entry }
+    {
+        TinyAsciiStr::of_text(self.as_bytes())
+    }
+}
+
+/// Whether each byte is from 1 to 127.
+fn is_text(bytes: &[u8]) -> bool
+    ensures { result ≡ list_all is_text_byte bytes.now }
+{
+    bytes.iter().all(|b| 0 < *b && *b < 128)
+}
+
+impl<const N: usize> PartialEq for TinyAsciiStr<N> {
+    ghost eq = { λ s t. pointwise nat_eq s t };
+
+    ghost laws = { partial_equiv_from_equiv nat_list_eq_equiv };
+
+    fn eq(&self, other: &Self) -> bool {
+        self.as_str() == other.as_str()
+    }
+}
+
+impl<const N: usize> Eq for TinyAsciiStr<N> {
+    ghost laws = { nat_list_eq_equiv };
+}
+
+impl<const N: usize> PartialOrd for TinyAsciiStr<N> {
+    ghost partial_cmp = { λ s t. Some (slice_cmp nat_cmp s t) };
+
+    ghost laws = { texts_po };
+
+    fn partial_cmp(&self, other: &Self) -> Option<Ordering> {
+        Some(self.cmp(other))
+    }
+}
+
+impl<const N: usize> Ord for TinyAsciiStr<N> {
+    ghost cmp = { λ s t. slice_cmp nat_cmp s t };
+
+    ghost total = { nat_list_cmp_total };
+
+    ghost matches_partial_cmp = { λ s t. refl };
+
+    ghost matches_eq = { λ s t. texts_ties s t };
+
+    fn cmp(&self, other: &Self) -> Ordering {
+        self.as_str().cmp(other.as_str())
+    }
+}
+
+impl<const N: usize> Hash for TinyAsciiStr<N> {
+    ghost hash_input = { λ s. fed.str s };
+
+    ghost respects_eq = { Prim.search (hashing, rules) };
+
+    fn hash<H: Hasher>(&self, state: &mut H) {
+        self.as_str().hash(state);
+    }
+}

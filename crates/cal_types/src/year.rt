@@ -1,0 +1,174 @@
+//! Years: as a caller gives them, and as a date shows them.
+
+ghost use Rattle.std.specs.Prelude.{◌≡◌};
+ghost use Rattle.cal_types.specs.Year.{era_year_or_related_iso_of, extended_year_of, era_of, cyclic_of};
+ghost use Rattle.cal_types.specs.declared.year.YearInfo.{YearInfo};
+
+use crate::tiny::TinyAsciiStr;
+
+/// A year as a constructor of dates takes it.
+#[derive(Clone, Copy, Debug, PartialEq)]
+pub enum YearInput<'a> {
+    /// The extended year, which numbers a calendar's years without eras.
+    Extended(i32),
+    /// An era's code and the year in that era.
+    EraYear(&'a str, i32),
+}
+
+/// The extended year.
+impl<'a> From<i32> for YearInput<'a> {
+    ghost use Rattle.cal_types.specs.declared.year.YearInput.TheVariants.{Extended};
+
+    ghost from_gives = { λ year input. input ≡ Extended year };
+
+    fn from(year: i32) -> YearInput<'a> {
+        YearInput::Extended(year)
+    }
+}
+
+/// How much of a year and its era a reader needs to know which year is meant.
+#[derive(Clone, Copy, Debug, PartialEq)]
+pub enum YearAmbiguity {
+    /// The last two digits are enough.
+    Unambiguous,
+    /// The whole number is needed.
+    CenturyRequired,
+    /// The era is needed.
+    EraRequired,
+    /// The whole number and the era are needed.
+    EraAndCenturyRequired,
+}
+
+/// A year in an era.
+#[derive(Clone, Copy, Debug, PartialEq)]
+pub struct EraYear {
+    /// The year in the era.
+    pub year: i32,
+    /// The extended year, which numbers the calendar's years without eras.
+    pub extended_year: i32,
+    /// The era's code, as CLDR (UTS 35) has it where it defines one.
+    pub era: TinyAsciiStr<16>,
+    /// The era's index among the calendar's eras, where it has one.
+    pub era_index: Option<u8>,
+    /// How much of year and era a reader needs.
+    pub ambiguity: YearAmbiguity,
+}
+
+/// A year of the cycle of sixty years.
+#[derive(Clone, Copy, Debug, PartialEq)]
+pub struct CyclicYear {
+    /// The year in the cycle, from 1 to 60.
+    pub year: u8,
+    /// The ISO year in which the year begins.
+    pub related_iso: i32,
+}
+
+/// A date's year: in an era, or in the cycle of sixty years.
+#[derive(Clone, Copy, Debug, PartialEq)]
+pub enum YearInfo {
+    /// A year in an era.
+    Era(EraYear),
+    /// A year in the cycle of sixty years.
+    Cyclic(CyclicYear),
+}
+
+impl YearInfo {
+    /// The year in the era, or the ISO year in which a year of the cycle begins.
+    pub fn era_year_or_related_iso(self) -> i32
+        ensures { result ≡ era_year_or_related_iso_of self }
+    {
+        match self {
+            YearInfo::Era(era) => era.year,
+            YearInfo::Cyclic(cyclic) => cyclic.related_iso,
+        }
+    }
+
+    /// The extended year; for a year of the cycle that is the ISO year in which it begins.
+    pub fn extended_year(self) -> i32
+        ensures { result ≡ extended_year_of self }
+    {
+        match self {
+            YearInfo::Era(era) => era.extended_year,
+            YearInfo::Cyclic(cyclic) => cyclic.related_iso,
+        }
+    }
+
+    /// The year in an era. None exactly for a year of the cycle.
+    pub fn era(self) -> Option<EraYear>
+        ensures { result ≡ era_of self }
+    {
+        match self {
+            YearInfo::Era(era) => Some(era),
+            YearInfo::Cyclic(_) => None,
+        }
+    }
+
+    /// The year in the cycle. None exactly for a year in an era.
+    pub fn cyclic(self) -> Option<CyclicYear>
+        ensures { result ≡ cyclic_of self }
+    {
+        match self {
+            YearInfo::Era(_) => None,
+            YearInfo::Cyclic(cyclic) => Some(cyclic),
+        }
+    }
+}
+
+/// [`YearInfo::Era`].
+impl From<EraYear> for YearInfo {
+    ghost use Rattle.cal_types.specs.declared.year.YearInfo.TheVariants.{Era};
+
+    ghost from_gives = { λ era info. info ≡ Era era };
+
+    fn from(era: EraYear) -> YearInfo {
+        YearInfo::Era(era)
+    }
+}
+
+/// [`YearInfo::Cyclic`].
+impl From<CyclicYear> for YearInfo {
+    ghost use Rattle.cal_types.specs.declared.year.YearInfo.TheVariants.{Cyclic};
+
+    ghost from_gives = { λ cyclic info. info ≡ Cyclic cyclic };
+
+    fn from(cyclic: CyclicYear) -> YearInfo {
+        YearInfo::Cyclic(cyclic)
+    }
+}
+
+/// What a date's year is shown by: [`YearInfo`], or one of its two kinds where a calendar has that alone.
+pub trait IntoYearInfo {
+    ghost info: { Self → YearInfo };
+
+    /// The year of either kind.
+    fn into_year_info(self) -> YearInfo
+        ensures { result ≡ info self };
+}
+
+impl IntoYearInfo for YearInfo {
+    ghost info = { λ y. y };
+
+    fn into_year_info(self) -> YearInfo {
+        self
+    }
+}
+
+impl IntoYearInfo for EraYear {
+    ghost use Rattle.cal_types.specs.declared.year.YearInfo.TheVariants.{Era};
+
+    ghost info = { λ y. Era y };
+
+    fn into_year_info(self) -> YearInfo {
+        YearInfo::Era(self)
+    }
+}
+
+impl IntoYearInfo for CyclicYear {
+    ghost use Rattle.cal_types.specs.declared.year.YearInfo.TheVariants.{Cyclic};
+
+    ghost info = { λ y. Cyclic y };
+
+    fn into_year_info(self) -> YearInfo {
+        YearInfo::Cyclic(self)
+    }
+}
