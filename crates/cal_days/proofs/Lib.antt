@@ -1,0 +1,5 @@
+pub mod Signed
+pub mod RangeLemmas
+pub mod DivisionLemmas
+pub mod SumLemmas
+pub mod GregorianLemmas

@@ -1,0 +1,14 @@
+use Rattle.std.proofs.Common.{◌≡◌, pos, ◌-ℤ◌, ap, arith, to_z, of_z, w64}
+use Rattle.cal_days.specs.Gregorian.{leap_days_through, gregorian_start}
+use Rattle.cal_days.proofs.Signed.{signed}
+use Rattle.cal_days.proofs.GregorianLemmas.{gregorian_start-next}
+use Rattle.cal_days.proofs.gregorian.year_start.Goals as goal
+
+pub returns-clause-formula : goal.returns-clause-formula
+unfolding gregorian_start
+returns-clause-formula c =
+    let before : to_z w64 (of_z w64 (to_z w64 (of_z w64 c.from-before.result) -ℤ pos 1)) ≡ c.args.year -ℤ pos 1 = omega (arith, signed) in
+    omega (arith, signed, c.leap_days.ensures.value, ap leap_days_through before)
+
+pub returns-clause-joins : goal.returns-clause-joins
+returns-clause-joins c = gregorian_start-next c.args.year

@@ -1,0 +1,4 @@
+pub mod Day
+pub mod Division
+pub mod Sums
+pub mod Gregorian

@@ -1,0 +1,71 @@
+//! Day numbers.
+
+ghost use Rattle.std.specs.Prelude.{◌≡◌, ◌↔◌, IsSome, IfSome, ◌+ℤ◌, ◌-ℤ◌};
+ghost use Rattle.cal_days.specs.Day.{IsHeld};
+
+use std::marker::Model;
+
+/// The least day number.
+const MIN: i64 = -36028797018963968;
+
+/// The greatest day number.
+const MAX: i64 = 36028797018963967;
+
+/// A day number, from -2^55 to 2^55 - 1: day 1 is 0001-01-01 in the proleptic Gregorian calendar.
+///
+/// The name and the count are those of Reingold and Dershowitz, Calendrical Calculations.
+#[derive(Clone, Copy, Debug, PartialEq, Eq, PartialOrd, Ord, Hash)]
+pub struct RataDie {
+    day: i64,
+}
+
+impl Model for RataDie {
+    ghost use Rattle.std.specs.Prelude.{ℤ};
+    ghost use Rattle.cal_days.specs.Day.{IsHeld};
+
+    ghost Value = { ℤ };
+
+    ghost view = { λ a. a.day };
+
+    ghost invariant = { λ a. IsHeld a.day };
+
+    ghost inverse = { λ v. record { day = v } };
+}
+
+impl RataDie {
+    /// The day of a number from -2^55 to 2^55 - 1.
+    pub const fn new(value: i64) -> RataDie
+        requires { IsHeld value }
+        ensures { result ≡ value }
+    {
+        RataDie { day: value }
+    }
+
+    /// The number of the day.
+    pub const fn to_i64_date(self) -> i64
+        ensures value { result ≡ self }
+        ensures range { IsHeld result }
+    {
+        self.day
+    }
+
+    /// How many days lie from `other` to this day; negative where this day is the earlier one.
+    pub const fn since(self, other: RataDie) -> i64
+        ensures { result ≡ self -ℤ other }
+    {
+        self.day - other.day
+    }
+
+    /// The day that lies `days` days later, or earlier where `days` is negative. `None` exactly where its
+    /// number isn't from -2^55 to 2^55 - 1.
+    pub fn checked_add(self, days: i64) -> Option<RataDie>
+        ensures some { IfSome result (λ sum. sum ≡ self +ℤ days) }
+        ensures exact { IsSome result ↔ IsHeld (self +ℤ days) }
+    {
+        let sum = self.day.checked_add(days)?;
+        if sum < MIN || sum > MAX {
+            return None;
+        }
+        Some(RataDie { day: sum })
+    }
+}

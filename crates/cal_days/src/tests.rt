@@ -1,0 +1,73 @@
+//! Known days and years, from published conversion tables.
+
+use crate::gregorian::{is_leap_year, year_from_fixed, year_start};
+use crate::rata_die::RataDie;
+
+#[test]
+fn years_start_on_known_days(rt: HostRuntime) {
+    let cases = [
+        (1, 1),
+        (0, -365),
+        (-1, -730),
+        (1970, 719163),
+        (2000, 730120),
+        (2024, 738886),
+        (-999999, -365242499),
+    ];
+    for (year, day) in cases {
+        assert!(rt; -8000000 <= year && year <= 8000000);
+        assert_eq!(rt; year_start(year).to_i64_date(), day, "at {year}");
+    }
+}
+
+#[test]
+fn centuries_are_leap_every_400_years(rt: HostRuntime) {
+    let cases = [
+        (2024, true),
+        (2023, false),
+        (1900, false),
+        (2000, true),
+        (0, true),
+        (-4, true),
+        (-100, false),
+    ];
+    for (year, is_leap) in cases {
+        assert!(rt; -8000000 <= year && year <= 8000000);
+        assert_eq!(rt; is_leap_year(year), is_leap, "at {year}");
+    }
+}
+
+#[test]
+fn days_lie_in_known_years(rt: HostRuntime) {
+    let cases = [
+        (1, 1),
+        (0, 0),
+        (365, 1),
+        (366, 2),
+        (719162, 1969),
+        (719163, 1970),
+        (738885, 2023),
+        (738886, 2024),
+        (739251, 2024),
+        (739252, 2025),
+        (-365242499, -999999),
+        (365242134, 999999),
+    ];
+    for (day, year) in cases {
+        assert!(rt; -365242499 <= day && day <= 365242134);
+        assert_eq!(rt; year_from_fixed(RataDie::new(day)), year, "at {day}");
+    }
+}
+
+#[test]
+fn sums_stop_at_both_ends(rt: HostRuntime) {
+    let first = RataDie::new(-36028797018963968);
+    let last = RataDie::new(36028797018963967);
+    assert!(rt; first.checked_add(-1).is_none());
+    assert!(rt; last.checked_add(1).is_none());
+    assert!(rt; first.checked_add(i64::MIN).is_none());
+    assert!(rt; last.checked_add(i64::MAX).is_none());
+    assert!(rt; first.checked_add(72057594037927935) == Some(last));
+    assert!(rt; last.checked_add(-72057594037927935) == Some(first));
+    assert_eq!(rt; last.since(first), 72057594037927935);
+}
