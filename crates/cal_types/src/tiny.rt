@@ -60,7 +60,7 @@ impl<const N: usize> TinyAsciiStr<N> {
     }
 
     /// The text with these bytes, which are known to fit and to be ASCII.
-    pub(crate) fn of_text(text: &[u8]) -> Self
+    pub fn of_text(text: &[u8]) -> Self
         requires fits { length text.now ≤ N }
         requires text { IsText text.now }
         ensures { result ≡ text.now }

@@ -1,0 +1,19 @@
+-- What a calendar is to its callers: its list, and how it names its years and shows its months.
+-- Source: the eras and month codes of CLDR (UTS 35).
+use Rattle.std.specs.Prelude.{ℕ, ℤ}
+use Rattle.cal_types.specs.Month.{MonthParts}
+use Rattle.cal_types.specs.MonthInfo.{MonthInfoParts, month_info}
+use Rattle.cal_types.specs.declared.month_info.LeapStatus.{LeapStatus}
+use Rattle.cal_types.specs.declared.year.YearInfo.{YearInfo}
+use Rattle.cal_model.specs.CalendarList.{CalendarList, Date, month_at}
+
+-- the list of years; for a date, the year of its era or cycle; and for a place of a year, how its month stands to leap months, and the month by which it is formatted
+pub record CalendarSystem : Type 0 where
+  pub list : CalendarList
+  pub year_info : Date → YearInfo
+  pub leap_status : ℤ → ℕ → LeapStatus
+  pub formatted_month : ℤ → ℕ → MonthParts
+
+-- what a date says of its month
+abbrev pub month_info_of : CalendarSystem → Date → MonthInfoParts
+month_info_of s t = month_info t.month (month_at s.list t.year t.month) (s.leap_status t.year t.month) (s.formatted_month t.year t.month)
