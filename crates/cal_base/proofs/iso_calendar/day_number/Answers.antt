@@ -1,0 +1,29 @@
+use Rattle.std.proofs.Common.{◌≡◌, ℤ, to_z, of_z, w32, ap, ◌∙◌, sym, arith}
+use Rattle.cal_days.specs.Gregorian.{gregorian_start}
+use Rattle.cal_days.proofs.Signed.{signed}
+use Rattle.cal_days.proofs.GregorianLemmas.{gregorian_start-bounds}
+use Rattle.cal_model.specs.CalendarList.{start_of_year}
+use Rattle.cal_base.specs.GregorianList.{gregorian_list}
+use Rattle.cal_base.proofs.GregorianListLemmas.{leap_is, month_count-gregorian, month_length-most, start_of_year-gregorian}
+use Rattle.cal_base.proofs.iso_calendar.day_number.Goals as goal
+
+pub days_before_day-before-requires-clause-month : goal.days_before_day-before-requires-clause-month
+days_before_day-before-requires-clause-month c = (c.requires.date.place.0, omega (arith, month_count-gregorian c.args.year))
+
+pub days_before_day-before-requires-clause-day : goal.days_before_day-before-requires-clause-day
+days_before_day-before-requires-clause-day c = (c.requires.date.day.0, omega (arith, month_length-most c.args.year c.args.month c.requires.date.place))
+
+same_year : (c : goal.After-new) → to_z w32 (of_z w32 c.args.year) ≡ c.args.year
+same_year c = omega (arith, signed)
+
+pub new-requires : goal.new-requires
+new-requires c =
+    let same : to_z w32 (of_z w32 c.args.year) ≡ c.args.year = omega (arith, signed) in
+    let start = ap gregorian_start same in
+    (omega (arith, signed, start, c.year_start.ensures.formula, gregorian_start-bounds c.args.year), omega (arith, signed, start, c.year_start.ensures.formula, gregorian_start-bounds c.args.year))
+
+pub returns : goal.returns
+returns c =
+    let same = same_year c in
+    let leap = leap_is c.is_leap_year.result c.args.year (to_z w32 (of_z w32 c.args.year)) same c.is_leap_year.ensures in
+    omega (arith, signed, start_of_year-gregorian c.args.year, ap gregorian_start same, c.year_start.ensures.formula, c.days_before_day-before.ensures.value c.args.year leap)

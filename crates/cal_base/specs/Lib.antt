@@ -1,0 +1,3 @@
+pub mod GregorianList
+pub mod IsoSystem
+pub mod Conditions
