@@ -12,6 +12,11 @@ use Rattle.cal_model.specs.Difference.{toward, IsBeyond, IsBeyondDay, YearsSurpa
 use Rattle.cal_days.proofs.Signed.{signed, by_lt}
 use Rattle.cal_model.proofs.ListLemmas.{day_number-rises, day_number-order, place_of-own, spot-own, spot-place, month_number-order, month_number-injective, month-finds, by_place_order, start_of_year-later, date-in_year, year_length-most}
 
+-- no step leads nowhere
+pub toward-zero : (back : Bool) (z : ℤ) → z +ℤ toward back 0 ≡ z
+toward-zero false z = omega (arith, signed)
+toward-zero true z = omega (arith, signed)
+
 -- counting goes toward the second date
 pub leads-not_beyond : (c : CalendarList) (back : Bool) (t u : Date) → IsDate c t → IsDate c u → Leads c back t u → ¬ IsBeyond back (t.year, t.month, t.day) (u.year, u.month, u.day)
 leads-not_beyond c false t u h k leads beyond = omega (arith, signed, day_number-rises c u t k h beyond)
@@ -124,12 +129,9 @@ years_surpass-none c law back t u h k leads p =
     (λ le.
     let none : unsigned_abs (u.year -ℤ t.year) ≡ 0 = omega arith in
     let same : u.year ≡ t.year +ℤ toward back 0 = subst (λ (n : ℕ). u.year ≡ t.year +ℤ toward back n) none e in
-    let years : t.year ≡ u.year = no_years back same in
+    let years : t.year ≡ u.year = sym (same ∙ toward-zero back t.year) in
     let stands = law.stands u.year (month_at c t.year t.month) (law.kind t.year t.month h.place) in
-    years-one_year c law back t u stands.0 h k leads years stands.1 (here-years_surpass c back t u 0 stands.0 same stands.1 p)) where
-  no_years : (back : Bool) → u.year ≡ t.year +ℤ toward back 0 → t.year ≡ u.year
-  no_years false same = omega (arith, signed)
-  no_years true same = omega (arith, signed)
+    years-one_year c law back t u stands.0 h k leads years stands.1 (here-years_surpass c back t u 0 stands.0 same stands.1 p))
 
 -- months: those that the month reached by the years is from the second date's month
 months_surpass-compare : (c : CalendarList) (back : Bool) (y : ℤ) (i : ℕ) (n k : ℕ) (z : ℤ) (j : ℕ) (u : Date) → month_number c u.year u.month ≡ month_number c y i +ℤ toward back n → month_number c z j ≡ month_number c y i +ℤ toward back k → HasPlace c z j → HasPlace c u.year u.month → (d : ℕ) → n < k → IsBeyond back (z, j, d) (u.year, u.month, u.day)
@@ -305,12 +307,9 @@ months_surpass-none c back t u years i y e s short (z, j, r, beyond) =
     let here = spot-place c y (month_at c t.year t.month) Constrain i s in
     let there : spot c (t.year +ℤ toward back years) (month_at c t.year t.month) Constrain ≡ Some i = subst (λ (x : ℤ). spot c x (month_at c t.year t.month) Constrain ≡ Some i) e s in
     let from_is : r.from ≡ i = some_same (sym r.spot_is ∙ there) in
-    let number : month_number c z j ≡ month_number c y i = r.moved.moved ∙ no_step back (month_number c (t.year +ℤ toward back years) r.from) ∙ ap (λ (p : ℕ). month_number c (t.year +ℤ toward back years) p) from_is ∙ ap (λ (x : ℤ). month_number c x i) (sym e) in
+    let number : month_number c z j ≡ month_number c y i = r.moved.moved ∙ toward-zero back (month_number c (t.year +ℤ toward back years) r.from) ∙ ap (λ (p : ℕ). month_number c (t.year +ℤ toward back years) p) from_is ∙ ap (λ (x : ℤ). month_number c x i) (sym e) in
     let same = month_number-injective c z j y i r.moved.place here number in
-    short (subst (λ (x : ℤ). IsBeyond back (x, i, t.day) (u.year, u.month, u.day)) same.0 (subst (λ (p : ℕ). IsBeyond back (z, p, t.day) (u.year, u.month, u.day)) same.1 beyond)) where
-  no_step : (back : Bool) (n : ℤ) → n +ℤ toward back 0 ≡ n
-  no_step false n = omega (arith, signed)
-  no_step true n = omega (arith, signed)
+    short (subst (λ (x : ℤ). IsBeyond back (x, i, t.day) (u.year, u.month, u.day)) same.0 (subst (λ (p : ℕ). IsBeyond back (z, p, t.day) (u.year, u.month, u.day)) same.1 beyond))
 
 -- how many days are left
 pub days-left : (back : Bool) (n m : ℤ) → ¬ IsBeyondDay back n m → m ≡ n +ℤ toward back (unsigned_abs (m -ℤ n))

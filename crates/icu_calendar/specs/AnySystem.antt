@@ -1,0 +1,18 @@
+-- Any calendar is the one that it holds.
+use Rattle.std.specs.Prelude.{Bool}
+use Rattle.cal_model.specs.CalendarList.{Date}
+use Rattle.cal_model.specs.CalendarSystem.{CalendarSystem}
+use Rattle.cal_base.specs.IsoSystem.{iso_system, iso_date, iso_belongs}
+use Rattle.icu_calendar.specs.declared.any_calendars.AnyCalendar.{AnyCalendar}
+use Rattle.icu_calendar.specs.declared.any_calendars.AnyDateInner.{AnyDateInner}
+use Rattle.icu_calendar.specs.declared.any_calendars.AnyCalendar.TheVariants as calendar
+use Rattle.icu_calendar.specs.declared.any_calendars.AnyDateInner.TheVariants as inner
+
+abbrev pub any_system : AnyCalendar → CalendarSystem
+any_system (calendar.Iso _) = iso_system
+
+abbrev pub any_date : AnyDateInner → Date
+any_date (inner.Iso d) = iso_date d
+
+abbrev pub any_belongs : AnyCalendar → AnyDateInner → Bool
+any_belongs (calendar.Iso _) (inner.Iso d) = iso_belongs d

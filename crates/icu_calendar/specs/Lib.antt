@@ -1,0 +1,2 @@
+pub mod AnySystem
+pub mod Spans
