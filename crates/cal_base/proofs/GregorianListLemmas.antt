@@ -1,14 +1,15 @@
 -- The months of a year of the Gregorian list.
-use Rattle.std.proofs.Common.{◌≡◌, ◌≢◌, ◌==◌, ◌||◌, ℕ, zero, suc, ◌+◌, ◌-◌, ◌*◌, ◌/◌, ◌<◌, ◌≤◌, Bool, true, false, cond, if◌then◌else◌, IsTrue, ◌↔◌, Some, sum_by, take, refl, sym, ap, subst, ◌∙◌, arith, ℤ, pos, ◌+ℤ◌}
+use Rattle.std.proofs.Common.{nat_abs, ◌≤ℤ◌, ◌<ℤ◌, ◌-ℤ◌, ◌≡◌, ◌≢◌, ◌==◌, ◌||◌, ℕ, zero, suc, ◌+◌, ◌-◌, ◌*◌, ◌/◌, ◌<◌, ◌≤◌, Bool, true, false, cond, if◌then◌else◌, IsTrue, ◌↔◌, Some, sum_by, take, refl, sym, ap, subst, ◌∙◌, arith, ℤ, pos, ◌+ℤ◌}
 use Rattle.std.specs.Prelude.{slice_index_or, nat_le, nat_lt}
 use Rattle.std.proofs.lemmas.Bool.Decides.{nat_tests}
 use Rattle.cal_days.specs.Gregorian.{gregorian_leap, gregorian_start, gregorian_year_length, leap_days_through}
 use Rattle.cal_days.specs.Division.{floor_div}
+use Rattle.cal_days.proofs.Signed.{signed, signed_casts}
 use Rattle.cal_days.proofs.GregorianLemmas.{gregorian_start-next}
 use Rattle.cal_types.specs.Month.{MonthParts, month_rank}
 use Rattle.cal_types.specs.declared.options.Overflow.TheVariants.{Constrain}
-use Rattle.cal_model.specs.CalendarList.{days_of, no_entry, days_before, month_length, month_count, month_at, year_length, start_of_year, HasPlace, place_of, spot, IsLawful}
-use Rattle.cal_model.proofs.ListLemmas.{start_of_year-unique, spot-own}
+use Rattle.cal_model.specs.CalendarList.{days_of, no_entry, days_before, month_length, month_count, month_at, year_length, start_of_year, HasPlace, IsOn, date, place_of, spot, IsLawful}
+use Rattle.cal_model.proofs.ListLemmas.{start_of_year-unique, spot-own, on-rest}
 use Rattle.cal_base.specs.GregorianList.{gregorian_months, gregorian_list, is_plain_month}
 
 -- what holds of each month from 1 to 12
@@ -187,3 +188,24 @@ leap_is r y z e h = ap gregorian_leap (sym e) ∙ same_truth r (gregorian_leap z
 -- no month has more than 31 days
 pub month_length-most : (y : ℤ) (i : ℕ) → HasPlace gregorian_list y i → month_length gregorian_list y i ≤ 31
 month_length-most y i h = (gregorian_list-lawful.lengths y i h).1
+
+pub year_length-leap : (y : ℤ) (leap : Bool) → gregorian_leap y ≡ leap → year_length gregorian_list y ≡ (if leap then 366 else 365)
+year_length-leap y leap e = year_length-gregorian y ∙ ap (λ (b : Bool). if b then 366 else 365) e
+
+-- the day p of a year, counted from 0, lies in the month that it was found in
+pub day_found : (y z : ℤ) (month before p : ℕ) → z ≡ y → (1 ≤ month) × (month ≤ 12) → before ≡ days_before gregorian_list y month → before ≤ p → p < before + month_length gregorian_list y month → IsOn gregorian_list (start_of_year gregorian_list y +ℤ pos p) (date z month (p - before + 1))
+day_found y z month before p e place is low high =
+    let here : HasPlace gregorian_list y month = (place.0, omega (arith, month_count-gregorian y)) in
+    let number : start_of_year gregorian_list y +ℤ pos (days_before gregorian_list y month + (p - before)) ≡ start_of_year gregorian_list y +ℤ pos p = omega (arith, signed) in
+    subst (λ (x : ℤ). IsOn gregorian_list (start_of_year gregorian_list y +ℤ pos p) (date x month (p - before + 1))) (sym e)
+    (on-rest gregorian_list y month (p - before) (start_of_year gregorian_list y +ℤ pos p) here number (omega arith))
+
+-- a day number between a year's start and the next lies in the year, so many days after the start
+pub day_in_year : (rd y z start since : ℤ) → z ≡ y → start ≡ gregorian_start z → since ≡ rd -ℤ start → gregorian_start y ≤ℤ rd → rd <ℤ gregorian_start (y +ℤ pos 1) → (nat_abs since < year_length gregorian_list z) × (start_of_year gregorian_list z +ℤ pos (nat_abs since) ≡ rd)
+day_in_year rd y z start since e is apart low high =
+    let same = ap gregorian_start e in
+    let length = ap (year_length gregorian_list) e in
+    let next = gregorian_start-next y in
+    let in_list = year_length-gregorian y in
+    let listed = start_of_year-gregorian z in
+    (omega (arith, signed_casts, same, length, next, in_list), omega (arith, signed_casts, same, listed))

@@ -1,12 +1,15 @@
 //! The ISO calendar.
 
-ghost use Rattle.std.specs.Prelude.{◌≡◌, ℕ, ℤ, ◌+◌, ◌-◌, ◌≤◌, ◌-ℤ◌, IsTrue, IfOk, Some, unsigned_abs, int_lt};
-ghost use Rattle.cal_days.specs.Day.{IsRuleYear, IsValidDay};
+ghost use Rattle.std.specs.Prelude.{◌≡◌, ℕ, ℤ, ◌+◌, ◌-◌, ◌≤◌, ◌+ℤ◌, ◌-ℤ◌, pos, ◌<ℤ◌, ◌<◌, ◌↔◌, List, IsTrue, IfOk, Some, unsigned_abs, int_lt};
+ghost use Rattle.cal_days.specs.Day.{IsRuleYear, IsFieldYear, IsValidDay, is_field_year, is_valid_day};
 ghost use Rattle.cal_days.specs.Gregorian.{gregorian_leap};
-ghost use Rattle.cal_types.specs.Bag.{bag_of};
-ghost use Rattle.cal_model.specs.CalendarList.{date, day_number, days_before, IsDate};
-ghost use Rattle.cal_model.specs.Resolving.{resolve};
-ghost use Rattle.cal_base.specs.GregorianList.{gregorian_list};
+ghost use Rattle.cal_types.specs.Bag.{Bag, bag_of};
+ghost use Rattle.cal_types.specs.Month.{MonthParts};
+ghost use Rattle.cal_model.specs.CalendarList.{date, day_number, days_before, start_of_year, year_length, IsDate, IsOn};
+ghost use Rattle.cal_model.specs.Difference.{IsDifference};
+ghost use Rattle.cal_base.specs.Conditions.{date_answer};
+ghost use Rattle.cal_model.specs.Resolving.{resolve, Names};
+ghost use Rattle.cal_base.specs.GregorianList.{gregorian_list, is_plain_month};
 ghost use Rattle.cal_base.specs.IsoSystem.{iso_system, iso_date, iso_belongs};
 
 use crate::calendars::{AsCalendar, Calendar};
@@ -15,7 +18,7 @@ use crate::scaffold::UnstableSealed;
 use cal_days::{RataDie, gregorian};
 use cal_types::{
     DateDifferenceOptions, DateDuration, DateFields, DateFromFieldsError, DateFromFieldsOptions,
-    DayOfMonth, EraYear, LeapStatus, Month, MonthInfo, TinyAsciiStr, YearAmbiguity,
+    DayOfMonth, EraYear, LeapStatus, Month, MonthInfo, Overflow, TinyAsciiStr, YearAmbiguity,
 };
 
 /// The ISO calendar: the proleptic Gregorian calendar with astronomical year numbers (ISO 8601).
@@ -58,4 +61,93 @@ fn day_number(year: i32, month: u8, day: u8) -> RataDie
     let before = days_before_day(gregorian::is_leap_year(year), month, day);
     let start = gregorian::year_start(year).to_i64_date();
     RataDie::new(start + i64::from(before))
+}
+
+/// The date of a day of a year, which is counted from 0.
+fn date_in_year(year: i32, leap: bool, day_of_year: u16) -> IsoDateInner
+    requires leap { gregorian_leap year ≡ leap }
+    requires within { day_of_year < year_length gregorian_list year }
+    ensures { IsOn gregorian_list (start_of_year gregorian_list year +ℤ pos day_of_year) (iso_date result) }
+{
+    let month = month_of_day(leap, day_of_year);
+    let day = (day_of_year - days_before_month(leap, month)) as u8 + 1;
+    IsoDateInner { year, month, day }
+}
+
+/// The date of a day number in the valid range.
+fn date_on(rd: RataDie) -> IsoDateInner
+    requires { IsValidDay rd }
+    ensures { IsOn gregorian_list rd (iso_date result) }
+{
+    let year = gregorian::year_from_fixed(rd);
+    let day_of_year = rd.since(gregorian::year_start(year)) as u16;
+    date_in_year(year, gregorian::is_leap_year(year), day_of_year)
+}
+
+/// Whether fields may name a year.
+fn is_field_year(year: i32) -> bool
+    ensures { result ≡ is_field_year year }
+{
+    -1040000 <= year && year <= 1040000
+}
+
+/// Whether a day number is in the valid range.
+fn is_valid_day(rd: RataDie) -> bool
+    ensures { result ≡ is_valid_day rd }
+{
+    let day = rd.to_i64_date();
+    -365242499 <= day && day <= 365242134
+}
+
+/// Whether a month is a plain month from 1 to 12.
+fn is_iso_month(month: Month) -> bool
+    ensures { result ≡ is_plain_month 12 month }
+{
+    !month.is_leap() && 1 <= month.number() && month.number() <= 12
+}
+
+/// The date of a year, a month and a day, or the first fault.
+fn date_of_fields(year: i32, month: Month, day: u8) -> Result<IsoDateInner, DateFromFieldsError>
+    ensures resolved { (b : Bag) → Names b year month day → date_answer iso_date result ≡ resolve gregorian_list b Overflow.Reject }
+    ensures belongs { IfOk result (λ d. IsTrue (iso_belongs d)) }
+{
+    if !is_field_year(year) {
+        return Err(DateFromFieldsError::Overflow);
+    }
+    if !is_iso_month(month) {
+        return Err(DateFromFieldsError::MonthNotInCalendar);
+    }
+    let number = month.number();
+    let max = days_in_month(gregorian::is_leap_year(year), number);
+    if day == 0 || day > max {
+        return Err(DateFromFieldsError::InvalidDay { max });
+    }
+    if !is_valid_day(day_number(year, number, day)) {
+        return Err(DateFromFieldsError::Overflow);
+    }
+    Ok(IsoDateInner {
+        year,
+        month: number,
+        day,
+    })
+}
+
+/// The days from one day to another, as a duration.
+fn days_between(from: RataDie, to: RataDie) -> DateDuration
+    requires from { IsValidDay from }
+    requires to { IsValidDay to }
+    ensures sign { IsTrue result.is_negative ↔ (to <ℤ from) }
+    ensures years { result.years ≡ 0 }
+    ensures months { result.months ≡ 0 }
+    ensures weeks { result.weeks ≡ 0 }
+    ensures days { result.days ≡ unsigned_abs (to -ℤ from) }
+{
+    let days = to.since(from);
+    DateDuration {
+        is_negative: days < 0,
+        years: 0,
+        months: 0,
+        weeks: 0,
+        days: days.unsigned_abs() as u32,
+    }
 }

@@ -7,13 +7,7 @@ use Rattle.cal_types.specs.declared.options.Overflow.{Overflow}
 use Rattle.cal_types.specs.declared.errors.DateFromFieldsError.{DateFromFieldsError}
 use Rattle.cal_types.specs.declared.errors.DateFromFieldsError.TheVariants.{Overflow as OutOfRange, MonthNotInCalendar, MonthNotInYear}
 use Rattle.cal_model.specs.CalendarList.{CalendarList, Date, date, month_length, day_number, spot}
-use Rattle.cal_model.specs.Resolving.{resolve, resolved_day}
-
--- the bag names this year, month and day
-pub record Names (b : Bag) (y : ℤ) (m : MonthParts) (d : ℕ) : Type 0 where
-  pub year : b.extended_year ≡ Some y
-  pub month : b.month ≡ Some m
-  pub day : b.day ≡ Some d
+use Rattle.cal_model.specs.Resolving.{resolve, resolved_day, Names}
 
 module _ (c : CalendarList) (b : Bag) (o : Overflow) (y : ℤ) (m : MonthParts) (d : ℕ) (names : Names b y m d) where
   -- the year is none that fields may name

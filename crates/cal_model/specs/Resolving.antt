@@ -62,3 +62,9 @@ resolve c bag o =
     after (resolved_place (spot c y known o)) (λ (i : ℕ).
     after (resolved_day (month_length c y i) o d) (λ (day : ℕ).
     valid_date c (date y i day))))))))
+
+-- the bag names this year, month and day
+pub record Names (bag : Bag) (y : ℤ) (m : MonthParts) (d : ℕ) : Type 0 where
+  pub year : bag.extended_year ≡ Some y
+  pub month : bag.month ≡ Some m
+  pub day : bag.day ≡ Some d
