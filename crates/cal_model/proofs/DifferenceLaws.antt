@@ -19,6 +19,7 @@ greatest-unique Surpasses j k p q =
     by_lt {P = j ≡ k} j k (λ lt. absurd (q.within (p.most k lt)))
     (λ ge. by_lt {P = j ≡ k} k j (λ lt. absurd (p.within (q.most j lt))) (λ le. omega arith))
 
+-- and only one that of a unit, admitted or not
 pub greatest_if-unique : (b : Bool) (Surpasses : ℕ → Type 0) (j k : ℕ) → IsGreatestIf b Surpasses j → IsGreatestIf b Surpasses k → j ≡ k
 greatest_if-unique true Surpasses j k p q = greatest-unique Surpasses j k p q
 greatest_if-unique false Surpasses j k p q = p ∙ sym q
@@ -150,6 +151,7 @@ pub record IsLeft (c : CalendarList) (t u : Date) (back : Bool) (years months : 
   pub reaches : Reaches c t back years months year month
   pub apart : day_number c u ≡ day_number c (base c t year month) +ℤ toward back left
 
+-- there are days left, where the months do not surpass
 pub days_left-exist : (c : CalendarList) → IsLawful c → (back : Bool) (t u : Date) → IsDate c t → IsDate c u → (years months : ℕ) → ¬ MonthsSurpass c t u back years months → (left : ℕ) × IsLeft c t u back years months left
 days_left-exist c law back t u h k years months short =
     let y = t.year +ℤ toward back years in
@@ -170,6 +172,7 @@ pub greatest_weeks-left : (c : CalendarList) (t u : Date) (back : Bool) (years m
 greatest_weeks-left c t u back years months left w d l sum lt =
     greatest-weeks c back t u years months l.year l.month l.reaches left l.apart w d sum lt
 
+-- the days that are left after some weeks
 pub greatest_days-left : (c : CalendarList) (t u : Date) (back : Bool) (years months left w d : ℕ) → IsLeft c t u back years months left → 7 * w + d ≡ left → IsGreatest (λ k. DaysSurpass c t u back years months (7 * w + k)) d
 greatest_days-left c t u back years months left w d l sum =
     greatest-days c back t u years months l.year l.month l.reaches left l.apart (7 * w) d sum
