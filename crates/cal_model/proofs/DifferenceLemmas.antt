@@ -1,14 +1,14 @@
 -- The greatest numbers of years, months and days that do not surpass.
-use Rattle.std.proofs.Common.{◌≡◌, ℕ, zero, suc, ◌+◌, ◌-◌, ◌*◌, ◌/◌, ◌<◌, ◌≤◌, ◌⊎◌, inl, inr, Bool, true, false, min, Option, Some, None, refl, sym, ap, subst, ◌∙◌, arith, unsigned_abs, ℤ, pos, neg_ℤ, ◌+ℤ◌, ◌-ℤ◌, ◌<ℤ◌, ◌≤ℤ◌}
+use Rattle.std.proofs.Common.{◌≡◌, ℕ, ◌+◌, ◌-◌, ◌*◌, ◌<◌, ◌≤◌, ◌⊎◌, inl, inr, Bool, true, false, min, Some, refl, sym, ap, subst, ◌∙◌, arith, unsigned_abs, ℤ, pos, neg_ℤ, ◌+ℤ◌, ◌-ℤ◌, ◌<ℤ◌, ◌≤ℤ◌}
 use Rattle.std.proofs.lemmas.Int.{by_lt_z}
-use Rattle.cal_types.specs.Month.{MonthParts, month_rank}
+use Rattle.cal_types.specs.Month.{month_rank}
 use Rattle.cal_types.specs.declared.options.Overflow.TheVariants.{Constrain}
 use Rattle.cal_types.specs.declared.duration.DateDurationUnit.{DateDurationUnit}
 use Rattle.cal_types.specs.declared.duration.DateDurationUnit.TheVariants.{Years, Months, Weeks, Days}
 use Rattle.cal_days.specs.Day.{IsFieldYear, IsValidDay}
-use Rattle.cal_model.specs.CalendarList.{CalendarList, Date, date, month_count, month_at, month_length, place_of, spot, day_number, HasPlace, IsDate, IsMonthsAfter, IsBefore, IsLawful, start_of_year, month_number}
+use Rattle.cal_model.specs.CalendarList.{CalendarList, Date, date, month_at, month_length, spot, day_number, HasPlace, IsDate, IsBefore, IsLawful, start_of_year, month_number}
 use Rattle.cal_model.specs.WithinYear.{Leads, IsPast, IsPastDay, SurpassesInYear}
-use Rattle.cal_model.specs.Difference.{toward, IsBeyond, IsBeyondDay, YearsSurpass, Reaches, MonthsSurpass, DaysSurpass, IsGreatest, IsGreatestIf, admits_years, admits_months, admits_weeks}
+use Rattle.cal_model.specs.Difference.{toward, IsBeyond, IsBeyondDay, YearsSurpass, Reaches, MonthsSurpass, DaysSurpass, IsGreatest, IsGreatestIf, admits_years}
 use Rattle.cal_days.proofs.Signed.{signed, by_lt}
 use Rattle.cal_model.proofs.ListLemmas.{day_number-rises, day_number-order, place_of-own, spot-own, spot-place, month_number-order, month_number-injective, month-finds, by_place_order, start_of_year-later, date-in_year, year_length-most}
 
@@ -57,19 +57,21 @@ rank-place c law back y i j d e h k past =
     (λ lt. below back (law.rises y i j h k lt) lt past)
     (λ ge. by_lt {P = IsPast back i d j e} j i (λ lt. above back (law.rises y j i k h lt) lt past)
     (λ le. let same : i ≡ j = omega arith in level back same past)) where
-  below : (back : Bool) → month_rank (month_at c y i) < month_rank (month_at c y j) → i < j → IsPast back (month_rank (month_at c y i)) d (month_rank (month_at c y j)) e → IsPast back i d j e
-  below false rank lt (inl p) = absurd (omega arith)
-  below false rank lt (inr p) = absurd (omega arith)
-  below true rank lt p = inl lt
-  above : (back : Bool) → month_rank (month_at c y j) < month_rank (month_at c y i) → j < i → IsPast back (month_rank (month_at c y i)) d (month_rank (month_at c y j)) e → IsPast back i d j e
-  above false rank lt p = inl lt
-  above true rank lt (inl p) = absurd (omega arith)
-  above true rank lt (inr p) = absurd (omega arith)
-  level : (back : Bool) → i ≡ j → IsPast back (month_rank (month_at c y i)) d (month_rank (month_at c y j)) e → IsPast back i d j e
-  level false same (inl p) = absurd (omega (arith, ap (λ (n : ℕ). month_rank (month_at c y n)) same))
-  level false same (inr p) = inr (sym same, p.1)
-  level true same (inl p) = absurd (omega (arith, ap (λ (n : ℕ). month_rank (month_at c y n)) same))
-  level true same (inr p) = inr (same, p.1)
+      below : (back : Bool) → month_rank (month_at c y i) < month_rank (month_at c y j) → i < j → IsPast back (month_rank (month_at c y i)) d (month_rank (month_at c y j)) e → IsPast back i d j e
+      below false rank lt (inl p) = absurd (omega arith)
+      below false rank lt (inr p) = absurd (omega arith)
+      below true rank lt p = inl lt
+
+      above : (back : Bool) → month_rank (month_at c y j) < month_rank (month_at c y i) → j < i → IsPast back (month_rank (month_at c y i)) d (month_rank (month_at c y j)) e → IsPast back i d j e
+      above false rank lt p = inl lt
+      above true rank lt (inl p) = absurd (omega arith)
+      above true rank lt (inr p) = absurd (omega arith)
+
+      level : (back : Bool) → i ≡ j → IsPast back (month_rank (month_at c y i)) d (month_rank (month_at c y j)) e → IsPast back i d j e
+      level false same (inl p) = absurd (omega (arith, ap (λ (n : ℕ). month_rank (month_at c y n)) same))
+      level false same (inr p) = inr (sym same, p.1)
+      level true same (inl p) = absurd (omega (arith, ap (λ (n : ℕ). month_rank (month_at c y n)) same))
+      level true same (inr p) = inr (same, p.1)
 
 years_surpass-here : (c : CalendarList) (back : Bool) (t u : Date) (n i : ℕ) → u.year ≡ t.year +ℤ toward back n → spot c u.year (month_at c t.year t.month) Constrain ≡ Some i → SurpassesInYear c back t u i → YearsSurpass c t u back n
 years_surpass-here c back t u n i e s (inl p) = inl (past-beyond back _ _ _ _ _ _ (sym e) p)
@@ -97,8 +99,8 @@ pub greatest-years_less : (c : CalendarList) (back : Bool) (t u : Date) (n i : �
 greatest-years_less c back t u n i e s some p = record {
   within = years_surpass-near c back t u n (n - 1) e (omega arith);
   most = λ j lt. by_lt {P = YearsSurpass c t u back j} n j (years_surpass-far c back t u n j e) (λ le.
-  let same : n ≡ j = omega arith in
-  subst (YearsSurpass c t u back) same (years_surpass-here c back t u n i e s p));
+      let same : n ≡ j = omega arith in
+      subst (YearsSurpass c t u back) same (years_surpass-here c back t u n i e s p));
 }
 
 -- in one year nothing surpasses, since counting goes toward the second date
@@ -109,10 +111,10 @@ years-one_year c law back t u i h k leads same s p =
     let own = spot-own c u.year (month_at c u.year t.month) Constrain t.month (place_of-own c u.year t.month (law.rises u.year) here) in
     let place : i ≡ t.month = some_same (sym (subst (λ m. spot c u.year m Constrain ≡ Some i) months s) ∙ own) in
     leads-not_beyond c back t u h k leads (past-beyond back _ _ _ _ _ _ same (either p here months place)) where
-  either : SurpassesInYear c back t u i → HasPlace c u.year t.month → month_at c t.year t.month ≡ month_at c u.year t.month → i ≡ t.month → IsPast back t.month t.day u.month u.day
-  either (inl p) here months place =
-      rank-place c law back u.year t.month u.month t.day u.day here k.place (subst (λ m. IsPast back (month_rank m) t.day (month_rank (month_at c u.year u.month)) u.day) months p)
-  either (inr p) here months place = subst (λ (j : ℕ). IsPast back j t.day u.month u.day) place p
+      either : SurpassesInYear c back t u i → HasPlace c u.year t.month → month_at c t.year t.month ≡ month_at c u.year t.month → i ≡ t.month → IsPast back t.month t.day u.month u.day
+      either (inl p) here months place =
+          rank-place c law back u.year t.month u.month t.day u.day here k.place (subst (λ m. IsPast back (month_rank m) t.day (month_rank (month_at c u.year u.month)) u.day) months p)
+      either (inr p) here months place = subst (λ (j : ℕ). IsPast back j t.day u.month u.day) place p
 
 -- how many years lie between the years
 pub leads-years : (c : CalendarList) (back : Bool) (t u : Date) → IsDate c t → IsDate c u → Leads c back t u → u.year ≡ t.year +ℤ toward back (unsigned_abs (u.year -ℤ t.year))
@@ -141,17 +143,17 @@ months_surpass-compare c false y i n k z j u e f p q d lt =
     (λ before. absurd (omega (arith, signed, month_number-order c z j u.year u.month p q before)))
     (λ after. beyond after)
     (λ years places. absurd (omega (arith, signed, ap (λ (x : ℤ). month_number c x j) years, ap (month_number c u.year) places))) where
-  beyond : (u.year <ℤ z) ⊎ ((u.year ≡ z) × (u.month < j)) → IsBeyond false (z, j, d) (u.year, u.month, u.day)
-  beyond (inl h) = inl h
-  beyond (inr h) = inr (h.0, inl h.1)
+      beyond : (u.year <ℤ z) ⊎ ((u.year ≡ z) × (u.month < j)) → IsBeyond false (z, j, d) (u.year, u.month, u.day)
+      beyond (inl h) = inl h
+      beyond (inr h) = inr (h.0, inl h.1)
 months_surpass-compare c true y i n k z j u e f p q d lt =
     by_place_order {P = IsBeyond true (z, j, d) (u.year, u.month, u.day)} z j u.year u.month
     (λ before. beyond before)
     (λ after. absurd (omega (arith, signed, month_number-order c u.year u.month z j q p after)))
     (λ years places. absurd (omega (arith, signed, ap (λ (x : ℤ). month_number c x j) years, ap (month_number c u.year) places))) where
-  beyond : (z <ℤ u.year) ⊎ ((z ≡ u.year) × (j < u.month)) → IsBeyond true (z, j, d) (u.year, u.month, u.day)
-  beyond (inl h) = inl h
-  beyond (inr h) = inr (h.0, inl h.1)
+      beyond : (z <ℤ u.year) ⊎ ((z ≡ u.year) × (j < u.month)) → IsBeyond true (z, j, d) (u.year, u.month, u.day)
+      beyond (inl h) = inl h
+      beyond (inr h) = inr (h.0, inl h.1)
 
 -- fewer months lead to an earlier month in the direction of counting
 months_surpass-short : (c : CalendarList) (back : Bool) (y : ℤ) (i : ℕ) (n k : ℕ) (z : ℤ) (j : ℕ) (u : Date) → month_number c u.year u.month ≡ month_number c y i +ℤ toward back n → month_number c z j ≡ month_number c y i +ℤ toward back k → HasPlace c z j → HasPlace c u.year u.month → (d : ℕ) → k < n → ¬ IsBeyond back (z, j, d) (u.year, u.month, u.day)
@@ -198,8 +200,8 @@ module _ (c : CalendarList) (law : IsLawful c) (back : Bool) (t u : Date) (years
   pub greatest-months : ¬ IsPastDay back t.day u.day → IsGreatest (MonthsSurpass c t u back years) n
   greatest-months short = record {
     within = λ (z, p, r, beyond).
-      let same = month_number-injective c z p u.year u.month r.moved.place k (reached-number n z p r ∙ sym e) in
-      short (beyond-past_day back z p u.year u.month t.day u.day same.0 same.1 beyond);
+        let same = month_number-injective c z p u.year u.month r.moved.place k (reached-number n z p r ∙ sym e) in
+        short (beyond-past_day back z p u.year u.month t.day u.day same.0 same.1 beyond);
     most = months_surpass-far;
   }
 
@@ -208,9 +210,9 @@ module _ (c : CalendarList) (law : IsLawful c) (back : Bool) (t u : Date) (years
   greatest-months_less some past = record {
     within = months_surpass-near (n - 1) (omega arith);
     most = λ j lt. by_lt {P = MonthsSurpass c t u back years j} n j (months_surpass-far j) (λ le.
-      let same : n ≡ j = omega arith in
-      let reach : Reaches c t back years n u.year u.month = record { from = i; spot_is = spot_is; moved = record { place = k; moved = e } } in
-      subst (MonthsSurpass c t u back years) same (u.year, u.month, reach, past_day-beyond back u.year u.month u.year u.month t.day u.day refl refl past));
+        let same : n ≡ j = omega arith in
+        let reach : Reaches c t back years n u.year u.month = record { from = i; spot_is = spot_is; moved = record { place = k; moved = e } } in
+        subst (MonthsSurpass c t u back years) same (u.year, u.month, reach, past_day-beyond back u.year u.month u.year u.month t.day u.day refl refl past));
   }
 
 -- years and months lead to one month
@@ -298,17 +300,17 @@ within-order c false y i d z j e h k short =
     (λ before. omega (arith, signed, month_number-order c y i z j h k before))
     (λ after. absurd (short (beyond after)))
     (λ years places. omega (arith, signed, ap (λ (x : ℤ). month_number c x i) years, ap (month_number c z) places)) where
-  beyond : (z <ℤ y) ⊎ ((z ≡ y) × (j < i)) → IsBeyond false (y, i, d) (z, j, e)
-  beyond (inl p) = inl p
-  beyond (inr p) = inr (p.0, inl p.1)
+      beyond : (z <ℤ y) ⊎ ((z ≡ y) × (j < i)) → IsBeyond false (y, i, d) (z, j, e)
+      beyond (inl p) = inl p
+      beyond (inr p) = inr (p.0, inl p.1)
 within-order c true y i d z j e h k short =
     by_place_order {P = month_number c z j ≤ℤ month_number c y i} y i z j
     (λ before. absurd (short (beyond before)))
     (λ after. omega (arith, signed, month_number-order c z j y i k h after))
     (λ years places. omega (arith, signed, ap (λ (x : ℤ). month_number c x i) years, ap (month_number c z) places)) where
-  beyond : (y <ℤ z) ⊎ ((y ≡ z) × (i < j)) → IsBeyond true (y, i, d) (z, j, e)
-  beyond (inl p) = inl p
-  beyond (inr p) = inr (p.0, inl p.1)
+      beyond : (y <ℤ z) ⊎ ((y ≡ z) × (i < j)) → IsBeyond true (y, i, d) (z, j, e)
+      beyond (inl p) = inl p
+      beyond (inr p) = inr (p.0, inl p.1)
 
 -- the direction that the sign tells leads to the second date
 pub leads-of : (c : CalendarList) (back : Bool) (t u : Date) → (back ≡ true → day_number c u <ℤ day_number c t) → (day_number c u <ℤ day_number c t → back ≡ true) → Leads c back t u

@@ -1,17 +1,17 @@
 -- Dates of a list: years join, dates are ordered as their day numbers, and each day number has one date.
-use Rattle.std.proofs.Common.{◌≡◌, ℕ, zero, suc, ◌+◌, ◌-◌, ◌*◌, ◌<◌, ◌≤◌, ◌⊎◌, inl, inr, Bool, true, false, cond, nat_eq, Option, Some, None, eq-eqb, List, [], ◌∷◌, length, take, get_or, refl, sym, ap, ◌∙◌, arith, ℤ, pos, ◌+ℤ◌, ◌-ℤ◌, ◌<ℤ◌, ◌≤ℤ◌}
+use Rattle.std.proofs.Common.{◌≡◌, ℕ, zero, suc, ◌+◌, ◌-◌, ◌*◌, ◌<◌, ◌≤◌, ◌⊎◌, inl, inr, Bool, true, false, cond, nat_eq, Option, Some, None, eq-eqb, List, [], ◌∷◌, length, get_or, refl, sym, ap, ◌∙◌, arith, ℤ, pos, ◌+ℤ◌, ◌-ℤ◌, ◌<ℤ◌, ◌≤ℤ◌}
 use Rattle.std.proofs.lemmas.Int.{by_lt_z}
 use Rattle.std.proofs.lemmas.Bool.{eqb-true, ne_eqb}
 use Rattle.std.proofs.lemmas.List.{take_all}
-use Rattle.std.proofs.lemmas.List.Sums.{sum_by_more, sum_by-take-le}
+use Rattle.std.proofs.lemmas.List.Sums.{sum_by_more}
 use Rattle.std.specs.List.{position_from}
 use Rattle.cal_types.specs.Month.{MonthParts, month_rank}
 use Rattle.cal_types.specs.declared.options.Overflow.{Overflow}
 use Rattle.cal_types.specs.declared.options.Overflow.TheVariants.{Constrain, Reject}
 use Rattle.cal_days.specs.Sums.{span}
-use Rattle.cal_model.specs.CalendarList.{month_at, place_of, spot, first_of_two, Entry, no_entry, days_of, CalendarList, Date, date, year_length, month_count, month_length, start_of_year, days_before, day_number, HasPlace, IsDate, IsOn, month_number, IsMonthsAfter, IsBefore, IsLawful}
-use Rattle.cal_days.proofs.Signed.{signed, by_lt, by_bool, by_years}
-use Rattle.cal_days.proofs.SumLemmas.{span-same, span-next, span-unique, span-later, span-one_year, span-finds}
+use Rattle.cal_model.specs.CalendarList.{month_at, place_of, spot, first_of_two, Entry, no_entry, days_of, CalendarList, Date, date, year_length, month_count, month_length, start_of_year, days_before, day_number, HasPlace, IsDate, IsOn, month_number, IsBefore, IsLawful}
+use Rattle.cal_days.proofs.Signed.{signed, by_lt, by_bool}
+use Rattle.cal_days.proofs.SumLemmas.{span-same, span-next, span-unique, span-later, span-finds}
 
 -- the anchor year starts on the anchor day
 pub start_of_year-anchor : (c : CalendarList) → start_of_year c c.anchor_year ≡ c.anchor_day
@@ -165,11 +165,14 @@ year_length-some c law y =
 pub date-within : (c : CalendarList) (y : ℤ) (a : ℕ) → a < year_length c y → (t : Date) × IsOn c (start_of_year c y +ℤ pos a) t × (t.year ≡ y)
 date-within c y a lt =
     let found = find_place c y a (month_count c y) (omega arith) (omega (arith, days_before-end c y (month_count c y + 1) (omega arith))) in
-    let i = found.0 in
-    (date y i (a - days_before c y i + 1), record {
-      date = record { place = found.1; day = (omega arith, omega (arith, found.2, found.3)) };
-      day = omega (arith, signed, found.2);
-    }, refl)
+    let i = found.0 in (
+      date y i (a - days_before c y i + 1),
+      record {
+        date = record { place = found.1; day = (omega arith, omega (arith, found.2, found.3)) };
+        day = omega (arith, signed, found.2);
+      },
+      refl,
+    )
 
 -- each day number has a date
 pub on-finds : (c : CalendarList) → IsLawful c → (n : ℤ) → (t : Date) × IsOn c n t

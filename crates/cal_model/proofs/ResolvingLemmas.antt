@@ -1,16 +1,14 @@
 -- What is resolved is a date.
-use Rattle.std.proofs.Common.{◌≡◌, ℕ, ◌+◌, ◌<◌, ◌≤◌, Bool, true, false, cond, ◌&&◌, nat_le, min, max, Option, Some, None, Result, Ok, Err, refl, sym, ap, subst, ◌∙◌, arith, ℤ}
+use Rattle.std.proofs.Common.{◌≡◌, ℕ, ◌≤◌, Bool, true, false, cond, ◌&&◌, nat_le, min, max, Option, Some, None, Ok, Err, refl, subst, arith, ℤ}
 use Rattle.std.proofs.lemmas.Bool.Decides.{nat_tests}
 use Rattle.cal_days.specs.Day.{IsFieldYear, IsValidDay, is_field_year, is_valid_day}
-use Rattle.cal_types.specs.Month.{MonthParts}
 use Rattle.cal_types.specs.Bag.{Bag}
 use Rattle.cal_types.specs.declared.options.Overflow.{Overflow}
 use Rattle.cal_types.specs.declared.options.Overflow.TheVariants.{Constrain, Reject}
 use Rattle.cal_types.specs.declared.errors.DateFromFieldsError.{DateFromFieldsError}
 use Rattle.cal_types.specs.declared.errors.DateFromFieldsError.TheVariants.{Overflow as OutOfRange, InvalidDay}
-use Rattle.cal_model.specs.CalendarList.{CalendarList, Date, date, month_length, day_number, spot, HasPlace, IsDate, IsLawful}
+use Rattle.cal_model.specs.CalendarList.{CalendarList, Date, date, month_length, day_number, spot, IsDate, IsLawful}
 use Rattle.cal_model.specs.Resolving.{Resolved, after, required, field_year, month_of_kind, resolved_place, resolved_day, valid_date, resolve}
-use Rattle.cal_days.proofs.Signed.{by_bool}
 use Rattle.cal_days.proofs.RangeLemmas.{is_between-true}
 use Rattle.cal_model.proofs.ListLemmas.{spot-place}
 

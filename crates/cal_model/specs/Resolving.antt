@@ -1,6 +1,6 @@
 -- Resolving the fields of a date: the date, or the first fault.
 -- Source: ECMAScript Temporal's CalendarResolveFields and NonISOCalendarDateToISO. The year is named by an extended year and the month by a month, so far.
-use Rattle.std.specs.Prelude.{◌≡◌, ℕ, ℤ, min, max, ◌&&◌, nat_le, Option, Some, None, Result, Ok, Err, if◌then◌else◌}
+use Rattle.std.specs.Prelude.{ℕ, ℤ, min, max, ◌&&◌, nat_le, Option, Some, None, Result, Ok, Err, if◌then◌else◌}
 use Rattle.cal_days.specs.Day.{is_field_year, is_valid_day}
 use Rattle.cal_types.specs.Month.{MonthParts}
 use Rattle.cal_types.specs.Bag.{Bag}
