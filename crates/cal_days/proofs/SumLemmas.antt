@@ -13,6 +13,7 @@ total-first size y (suc n) =
     let same : y +ℤ pos (suc n) ≡ y +ℤ pos 1 +ℤ pos n = omega (arith, signed) in
     rw same (omega (arith, total-first size y n))
 
+-- up from the anchor
 pub span-up : (size : ℤ → ℕ) (from to : ℤ) (n : ℕ) → to ≡ from +ℤ pos n → span size from to ≡ pos (total size from n)
 unfolding span total
 span-up size from to n e =
@@ -20,6 +21,7 @@ span-up size from to n e =
     let back : years_up (from -ℤ to) ≡ 0 = omega (arith, signed) in
     rw (ahead, back) (omega (arith, signed))
 
+-- and down
 pub span-down : (size : ℤ → ℕ) (from to : ℤ) (n : ℕ) → from ≡ to +ℤ pos n → span size from to ≡ neg_ℤ (pos (total size to n))
 unfolding span total
 span-down size from to n e =
@@ -27,6 +29,7 @@ span-down size from to n e =
     let back : years_up (from -ℤ to) ≡ n = omega (arith, signed) in
     rw (ahead, back) (omega (arith, signed))
 
+-- from a year to itself there is nothing
 pub span-same : (size : ℤ → ℕ) (from : ℤ) → span size from from ≡ pos 0
 unfolding total
 span-same size from = span-up size from from 0 (omega (arith, signed))

@@ -1,7 +1,7 @@
 -- What the test of a date says.
-use Rattle.std.proofs.Common.{◌≡◌, ℕ, ◌≤◌, ◌&&◌, Bool, true, false, refl, sym, ◌∙◌, ap, arith}
+use Rattle.std.proofs.Common.{◌≡◌, ◌&&◌, Bool, true, false, refl, arith}
 use Rattle.std.proofs.lemmas.Bool.Decides.{nat_tests}
-use Rattle.cal_model.specs.CalendarList.{CalendarList, Date, IsDate, is_date, month_count, month_length}
+use Rattle.cal_model.specs.CalendarList.{CalendarList, Date, IsDate, is_date}
 
 pub is_date-true : (c : CalendarList) (t : Date) → is_date c t ≡ true → IsDate c t
 is_date-true c t h = record {

@@ -1,17 +1,17 @@
 -- Two dates have one difference in each unit, and there is one.
-use Rattle.std.proofs.Common.{◌≡◌, ℕ, zero, suc, ◌+◌, ◌-◌, ◌*◌, ◌/◌, ◌%◌, ◌<◌, ◌≤◌, ◌⊎◌, inl, inr, ◌↔◌, Bool, true, false, IsTrue, min, Option, Some, refl, sym, ap, subst, ◌∙◌, arith, unsigned_abs, int_lt, ℤ, pos, neg_ℤ, ◌+ℤ◌, ◌-ℤ◌, ◌<ℤ◌, ◌≤ℤ◌}
-use Rattle.std.proofs.lemmas.Int.{ints, by_lt_z}
+use Rattle.std.proofs.Common.{◌≡◌, ℕ, ◌+◌, ◌-◌, ◌*◌, ◌/◌, ◌%◌, ◌<◌, ◌≤◌, ◌⊎◌, inl, inr, ◌↔◌, Bool, true, false, IsTrue, min, Some, refl, sym, ap, subst, ◌∙◌, arith, unsigned_abs, int_lt, ℤ, ◌+ℤ◌, ◌-ℤ◌, ◌<ℤ◌}
+use Rattle.std.proofs.lemmas.Int.{ints}
 use Rattle.cal_types.specs.Month.{month_rank}
 use Rattle.cal_types.specs.declared.options.Overflow.TheVariants.{Constrain}
 use Rattle.cal_types.specs.declared.duration.DateDuration.{DateDuration}
 use Rattle.cal_types.specs.declared.duration.DateDurationUnit.{DateDurationUnit}
-use Rattle.cal_types.specs.declared.duration.DateDurationUnit.TheVariants.{Years, Months, Weeks, Days}
-use Rattle.cal_model.specs.CalendarList.{CalendarList, Date, date, month_at, month_length, spot, day_number, HasPlace, IsDate, IsMonthsAfter, IsBefore, IsLawful, month_number}
+use Rattle.cal_types.specs.declared.duration.DateDurationUnit.TheVariants.{Weeks, Days}
+use Rattle.cal_model.specs.CalendarList.{CalendarList, Date, date, month_at, month_length, spot, day_number, HasPlace, IsDate, IsLawful, month_number}
 use Rattle.cal_model.specs.WithinYear.{Leads, IsPast, IsPastDay, SurpassesInYear}
-use Rattle.cal_model.specs.Difference.{toward, IsBeyond, IsBeyondDay, YearsSurpass, Reaches, MonthsSurpass, DaysSurpass, IsGreatest, IsGreatestIf, admits_years, admits_months, admits_weeks, IsDifference}
-use Rattle.cal_days.proofs.Signed.{signed, by_lt, by_bool}
+use Rattle.cal_model.specs.Difference.{toward, IsBeyondDay, YearsSurpass, Reaches, MonthsSurpass, DaysSurpass, IsGreatest, IsGreatestIf, admits_years, admits_months, admits_weeks, IsDifference}
+use Rattle.cal_days.proofs.Signed.{signed, by_lt}
 use Rattle.cal_model.proofs.ListLemmas.{place_of-own, spot-own, spot-place, month_number-injective, month-finds}
-use Rattle.cal_model.proofs.DifferenceLemmas.{IsMonthOrder, base, base-within, days-left, greatest-days, greatest-months, greatest-months_less, greatest-weeks, greatest-years, greatest-years_less, leads-of, leads-years, months_surpass-none, past_day-beyond, within-order, years-one_year, reach-unique, toward-zero, years_surpass-none}
+use Rattle.cal_model.proofs.DifferenceLemmas.{IsMonthOrder, base, base-within, days-left, greatest-days, greatest-months, greatest-months_less, greatest-weeks, greatest-years, greatest-years_less, leads-of, leads-years, months_surpass-none, past_day-beyond, within-order, years-one_year, toward-zero, years_surpass-none}
 
 -- only one number is the greatest
 pub greatest-unique : (Surpasses : ℕ → Type 0) (j k : ℕ) → IsGreatest Surpasses j → IsGreatest Surpasses k → j ≡ k
@@ -19,6 +19,7 @@ greatest-unique Surpasses j k p q =
     by_lt {P = j ≡ k} j k (λ lt. absurd (q.within (p.most k lt)))
     (λ ge. by_lt {P = j ≡ k} k j (λ lt. absurd (p.within (q.most j lt))) (λ le. omega arith))
 
+-- and only one that of a unit, admitted or not
 pub greatest_if-unique : (b : Bool) (Surpasses : ℕ → Type 0) (j k : ℕ) → IsGreatestIf b Surpasses j → IsGreatestIf b Surpasses k → j ≡ k
 greatest_if-unique true Surpasses j k p q = greatest-unique Surpasses j k p q
 greatest_if-unique false Surpasses j k p q = p ∙ sym q
@@ -37,23 +38,23 @@ pub difference-unique : (c : CalendarList) (t u : Date) (unit : DateDurationUnit
 difference-unique c t u unit d e p q =
     let back : e.is_negative ≡ d.is_negative = same_truth e.is_negative d.is_negative (λ x. p.sign.1 (q.sign.0 x)) (λ x. q.sign.1 (p.sign.0 x)) in
     let years : e.years ≡ d.years =
-        greatest_if-unique (admits_years unit) (YearsSurpass c t u d.is_negative) e.years d.years
-        (subst (λ (b : Bool). IsGreatestIf (admits_years unit) (YearsSurpass c t u b) e.years) back q.years) p.years in
+    greatest_if-unique (admits_years unit) (YearsSurpass c t u d.is_negative) e.years d.years
+    (subst (λ (b : Bool). IsGreatestIf (admits_years unit) (YearsSurpass c t u b) e.years) back q.years) p.years in
     let months : e.months ≡ d.months =
-        greatest_if-unique (admits_months unit) (MonthsSurpass c t u d.is_negative d.years) e.months d.months
-        (subst (λ (b : Bool). IsGreatestIf (admits_months unit) (MonthsSurpass c t u b d.years) e.months) back
-        (subst (λ (y : ℕ). IsGreatestIf (admits_months unit) (MonthsSurpass c t u e.is_negative y) e.months) years q.months)) p.months in
+    greatest_if-unique (admits_months unit) (MonthsSurpass c t u d.is_negative d.years) e.months d.months
+    (subst (λ (b : Bool). IsGreatestIf (admits_months unit) (MonthsSurpass c t u b d.years) e.months) back
+    (subst (λ (y : ℕ). IsGreatestIf (admits_months unit) (MonthsSurpass c t u e.is_negative y) e.months) years q.months)) p.months in
     let weeks : e.weeks ≡ d.weeks =
-        greatest_if-unique (admits_weeks unit) (λ k. DaysSurpass c t u d.is_negative d.years d.months (7 * k)) e.weeks d.weeks
-        (subst (λ (b : Bool). IsGreatestIf (admits_weeks unit) (λ k. DaysSurpass c t u b d.years d.months (7 * k)) e.weeks) back
-        (subst (λ (y : ℕ). IsGreatestIf (admits_weeks unit) (λ k. DaysSurpass c t u e.is_negative y d.months (7 * k)) e.weeks) years
-        (subst (λ (m : ℕ). IsGreatestIf (admits_weeks unit) (λ k. DaysSurpass c t u e.is_negative e.years m (7 * k)) e.weeks) months q.weeks))) p.weeks in
+    greatest_if-unique (admits_weeks unit) (λ k. DaysSurpass c t u d.is_negative d.years d.months (7 * k)) e.weeks d.weeks
+    (subst (λ (b : Bool). IsGreatestIf (admits_weeks unit) (λ k. DaysSurpass c t u b d.years d.months (7 * k)) e.weeks) back
+    (subst (λ (y : ℕ). IsGreatestIf (admits_weeks unit) (λ k. DaysSurpass c t u e.is_negative y d.months (7 * k)) e.weeks) years
+    (subst (λ (m : ℕ). IsGreatestIf (admits_weeks unit) (λ k. DaysSurpass c t u e.is_negative e.years m (7 * k)) e.weeks) months q.weeks))) p.weeks in
     let days : e.days ≡ d.days =
-        greatest-unique (λ k. DaysSurpass c t u d.is_negative d.years d.months (7 * d.weeks + k)) e.days d.days
-        (subst (λ (b : Bool). IsGreatest (λ k. DaysSurpass c t u b d.years d.months (7 * d.weeks + k)) e.days) back
-        (subst (λ (y : ℕ). IsGreatest (λ k. DaysSurpass c t u e.is_negative y d.months (7 * d.weeks + k)) e.days) years
-        (subst (λ (m : ℕ). IsGreatest (λ k. DaysSurpass c t u e.is_negative e.years m (7 * d.weeks + k)) e.days) months
-        (subst (λ (w : ℕ). IsGreatest (λ k. DaysSurpass c t u e.is_negative e.years e.months (7 * w + k)) e.days) weeks q.days)))) p.days in
+    greatest-unique (λ k. DaysSurpass c t u d.is_negative d.years d.months (7 * d.weeks + k)) e.days d.days
+    (subst (λ (b : Bool). IsGreatest (λ k. DaysSurpass c t u b d.years d.months (7 * d.weeks + k)) e.days) back
+    (subst (λ (y : ℕ). IsGreatest (λ k. DaysSurpass c t u e.is_negative y d.months (7 * d.weeks + k)) e.days) years
+    (subst (λ (m : ℕ). IsGreatest (λ k. DaysSurpass c t u e.is_negative e.years m (7 * d.weeks + k)) e.days) months
+    (subst (λ (w : ℕ). IsGreatest (λ k. DaysSurpass c t u e.is_negative e.years e.months (7 * w + k)) e.days) weeks q.days)))) p.days in
     let same : duration d.is_negative d.years d.months d.weeks d.days ≡ duration e.is_negative e.years e.months e.weeks e.days = cc in
     same
 
@@ -94,23 +95,27 @@ greatest_years-exist c law back t u h k leads =
     choose (decided-or
     (decided-past back (month_rank (month_at c t.year t.month)) t.day (month_rank (month_at c u.year u.month)) u.day)
     (decided-past back i t.day u.month u.day)) where
-  stands : (j : ℕ) × (spot c u.year (month_at c t.year t.month) Constrain ≡ Some j)
-  stands = law.stands u.year (month_at c t.year t.month) (law.kind t.year t.month h.place)
-  i : ℕ
-  i = stands.0
-  n : ℕ
-  n = unsigned_abs (u.year -ℤ t.year)
-  apart : u.year ≡ t.year +ℤ toward back n
-  apart = leads-years c back t u h k leads
-  choose : Decided (SurpassesInYear c back t u i) → (years : ℕ) × IsGreatest (YearsSurpass c t u back) years
-  choose (inr short) = (n, greatest-years c back t u n i apart stands.1 short)
-  choose (inl past) =
-      by_lt {P = (years : ℕ) × IsGreatest (YearsSurpass c t u back) years} 0 n
-      (λ some. (n - 1, greatest-years_less c back t u n i apart stands.1 some past))
-      (λ none.
-      let zero_years : n ≡ 0 = omega arith in
-      let same : t.year ≡ u.year = sym (subst (λ (m : ℕ). u.year ≡ t.year +ℤ toward back m) zero_years apart ∙ toward-zero back t.year) in
-      absurd (years-one_year c law back t u i h k leads same stands.1 past))
+      stands : (j : ℕ) × (spot c u.year (month_at c t.year t.month) Constrain ≡ Some j)
+      stands = law.stands u.year (month_at c t.year t.month) (law.kind t.year t.month h.place)
+
+      i : ℕ
+      i = stands.0
+
+      n : ℕ
+      n = unsigned_abs (u.year -ℤ t.year)
+
+      apart : u.year ≡ t.year +ℤ toward back n
+      apart = leads-years c back t u h k leads
+
+      choose : Decided (SurpassesInYear c back t u i) → (years : ℕ) × IsGreatest (YearsSurpass c t u back) years
+      choose (inr short) = (n, greatest-years c back t u n i apart stands.1 short)
+      choose (inl past) =
+          by_lt {P = (years : ℕ) × IsGreatest (YearsSurpass c t u back) years} 0 n
+          (λ some. (n - 1, greatest-years_less c back t u n i apart stands.1 some past))
+          (λ none.
+          let zero_years : n ≡ 0 = omega arith in
+          let same : t.year ≡ u.year = sym (subst (λ (m : ℕ). u.year ≡ t.year +ℤ toward back m) zero_years apart ∙ toward-zero back t.year) in
+          absurd (years-one_year c law back t u i h k leads same stands.1 past))
 
 -- how many months lie between two of them
 months-apart : (c : CalendarList) (back : Bool) (y : ℤ) (i : ℕ) (z : ℤ) (j : ℕ) → IsMonthOrder c back y i z j → month_number c z j ≡ month_number c y i +ℤ toward back (unsigned_abs (month_number c z j -ℤ month_number c y i))
@@ -122,16 +127,22 @@ pub greatest_months-exist : (c : CalendarList) → IsLawful c → (back : Bool) 
 greatest_months-exist c law back t u h k years short = choose (decided-day back t.day u.day) where
   y : ℤ
   y = t.year +ℤ toward back years
+
   stands : (j : ℕ) × (spot c y (month_at c t.year t.month) Constrain ≡ Some j)
   stands = law.stands y (month_at c t.year t.month) (law.kind t.year t.month h.place)
+
   i : ℕ
   i = stands.0
+
   here : HasPlace c y i
   here = spot-place c y (month_at c t.year t.month) Constrain i stands.1
+
   n : ℕ
   n = unsigned_abs (month_number c u.year u.month -ℤ month_number c y i)
+
   apart : month_number c u.year u.month ≡ month_number c y i +ℤ toward back n
   apart = months-apart c back y i u.year u.month (within-order c back y i t.day u.year u.month u.day here k.place (λ beyond. short (inr (i, stands.1, beyond))))
+
   choose : Decided (IsPastDay back t.day u.day) → (months : ℕ) × IsGreatest (MonthsSurpass c t u back years) months
   choose (inr before) = (n, greatest-months c law back t u years i stands.1 k.place n apart before)
   choose (inl past) =
@@ -150,6 +161,7 @@ pub record IsLeft (c : CalendarList) (t u : Date) (back : Bool) (years months : 
   pub reaches : Reaches c t back years months year month
   pub apart : day_number c u ≡ day_number c (base c t year month) +ℤ toward back left
 
+-- there are days left, where the months do not surpass
 pub days_left-exist : (c : CalendarList) → IsLawful c → (back : Bool) (t u : Date) → IsDate c t → IsDate c u → (years months : ℕ) → ¬ MonthsSurpass c t u back years months → (left : ℕ) × IsLeft c t u back years months left
 days_left-exist c law back t u h k years months short =
     let y = t.year +ℤ toward back years in
@@ -157,19 +169,22 @@ days_left-exist c law back t u h k years months short =
     let found = month-finds c law (month_number c y stands.0 +ℤ toward back months) in
     let reach : Reaches c t back years months found.0 found.1 = record { from = stands.0; spot_is = stands.1; moved = record { place = found.2; moved = found.3 } } in
     let within = base-within c law back t u found.0 found.1 found.2 h.day.0 k (λ beyond. short (found.0, found.1, reach, beyond)) in
-    let n = day_number c (base c t found.0 found.1) in
-    (unsigned_abs (day_number c u -ℤ n), record {
-      year = found.0;
-      month = found.1;
-      reaches = reach;
-      apart = days-left back n (day_number c u) within;
-    })
+    let n = day_number c (base c t found.0 found.1) in (
+      unsigned_abs (day_number c u -ℤ n),
+      record {
+        year = found.0;
+        month = found.1;
+        reaches = reach;
+        apart = days-left back n (day_number c u) within;
+      },
+    )
 
 -- the whole weeks that are left, and the other days
 pub greatest_weeks-left : (c : CalendarList) (t u : Date) (back : Bool) (years months left w d : ℕ) → IsLeft c t u back years months left → 7 * w + d ≡ left → d < 7 → IsGreatest (λ k. DaysSurpass c t u back years months (7 * k)) w
 greatest_weeks-left c t u back years months left w d l sum lt =
     greatest-weeks c back t u years months l.year l.month l.reaches left l.apart w d sum lt
 
+-- the days that are left after some weeks
 pub greatest_days-left : (c : CalendarList) (t u : Date) (back : Bool) (years months left w d : ℕ) → IsLeft c t u back years months left → 7 * w + d ≡ left → IsGreatest (λ k. DaysSurpass c t u back years months (7 * w + k)) d
 greatest_days-left c t u back years months left w d l sum =
     greatest-days c back t u years months l.year l.month l.reaches left l.apart (7 * w) d sum
@@ -193,31 +208,43 @@ months_surpass-not_zero c law back t u h years short =
 
 -- two dates have a difference in each unit
 pub difference-exists : (c : CalendarList) → IsLawful c → (t u : Date) → IsDate c t → IsDate c u → (unit : DateDurationUnit) → (d : DateDuration) × IsDifference c t u unit d
-difference-exists c law t u h k unit =
-    (duration back years.0 months.0 weeks.0 weeks.1, record {
-      sign = sign;
-      years = years.1;
-      months = months.1;
-      weeks = weeks.2;
-      days = weeks.3;
-    }) where
+difference-exists c law t u h k unit = (
+  duration back years.0 months.0 weeks.0 weeks.1,
+  record {
+    sign = sign;
+    years = years.1;
+    months = months.1;
+    weeks = weeks.2;
+    days = weeks.3;
+  },
+) where
   back : Bool
   back = int_lt (day_number c u) (day_number c t)
+
   sign : IsTrue back ↔ (day_number c u <ℤ day_number c t)
   sign = int_lt-true (day_number c u) (day_number c t)
+
   leads : Leads c back t u
   leads = leads-of c back t u sign.0 sign.1
+
   years : Counted (admits_years unit) (YearsSurpass c t u back)
   years = counted (admits_years unit) (YearsSurpass c t u back) (λ _. greatest_years-exist c law back t u h k leads) (years_surpass-none c law back t u h k leads)
+
   months : Counted (admits_months unit) (MonthsSurpass c t u back years.0)
   months = counted (admits_months unit) (MonthsSurpass c t u back years.0) (λ _. greatest_months-exist c law back t u h k years.0 years.2) (months_surpass-not_zero c law back t u h years.0 years.2)
+
   left : (n : ℕ) × IsLeft c t u back years.0 months.0 n
   left = days_left-exist c law back t u h k years.0 months.0 months.2
+
   split : (b : Bool) → (w : ℕ) × (d : ℕ) × IsGreatestIf b (λ k. DaysSurpass c t u back years.0 months.0 (7 * k)) w × IsGreatest (λ k. DaysSurpass c t u back years.0 months.0 (7 * w + k)) d
-  split true = (left.0 / 7, left.0 % 7,
-      greatest_weeks-left c t u back years.0 months.0 left.0 (left.0 / 7) (left.0 % 7) left.1 (omega arith) (omega arith),
-      greatest_days-left c t u back years.0 months.0 left.0 (left.0 / 7) (left.0 % 7) left.1 (omega arith))
+  split true = (
+    left.0 / 7,
+    left.0 % 7,
+    greatest_weeks-left c t u back years.0 months.0 left.0 (left.0 / 7) (left.0 % 7) left.1 (omega arith) (omega arith),
+    greatest_days-left c t u back years.0 months.0 left.0 (left.0 / 7) (left.0 % 7) left.1 (omega arith),
+  )
   split false = (0, left.0, refl, greatest_days-left c t u back years.0 months.0 left.0 0 left.0 left.1 (omega arith))
+
   weeks : (w : ℕ) × (d : ℕ) × IsGreatestIf (admits_weeks unit) (λ k. DaysSurpass c t u back years.0 months.0 (7 * k)) w × IsGreatest (λ k. DaysSurpass c t u back years.0 months.0 (7 * w + k)) d
   weeks = split (admits_weeks unit)
 
@@ -226,9 +253,9 @@ pub reaches-own : (c : CalendarList) → IsLawful c → (back : Bool) (t : Date)
 reaches-own c law back t h years months no_years no_months =
     let same : t.year ≡ t.year +ℤ toward back years = sym (ap (λ (n : ℕ). t.year +ℤ toward back n) no_years ∙ toward-zero back t.year) in
     let own : spot c t.year (month_at c t.year t.month) Constrain ≡ Some t.month =
-        spot-own c t.year (month_at c t.year t.month) Constrain t.month (place_of-own c t.year t.month (law.rises t.year) h.place) in
+    spot-own c t.year (month_at c t.year t.month) Constrain t.month (place_of-own c t.year t.month (law.rises t.year) h.place) in
     let number : month_number c t.year t.month ≡ month_number c (t.year +ℤ toward back years) t.month +ℤ toward back months =
-        ap (λ (x : ℤ). month_number c x t.month) same ∙ sym (ap (λ (n : ℕ). month_number c (t.year +ℤ toward back years) t.month +ℤ toward back n) no_months ∙ toward-zero back (month_number c (t.year +ℤ toward back years) t.month)) in
+    ap (λ (x : ℤ). month_number c x t.month) same ∙ sym (ap (λ (n : ℕ). month_number c (t.year +ℤ toward back years) t.month +ℤ toward back n) no_months ∙ toward-zero back (month_number c (t.year +ℤ toward back years) t.month)) in
     record {
       from = t.month;
       spot_is = subst (λ (y : ℤ). spot c y (month_at c t.year t.month) Constrain ≡ Some t.month) same own;

@@ -2,4 +2,5 @@ pub mod ListLemmas
 pub mod DifferenceLemmas
 pub mod DifferenceLaws
 pub mod ResolvingSteps
+pub mod ResolvingLemmas
 pub mod DateTests

@@ -1,23 +1,24 @@
 -- Dates of a list: years join, dates are ordered as their day numbers, and each day number has one date.
-use Rattle.std.proofs.Common.{◌≡◌, ℕ, zero, suc, ◌+◌, ◌-◌, ◌*◌, ◌<◌, ◌≤◌, ◌⊎◌, inl, inr, Bool, true, false, cond, nat_eq, Option, Some, None, eq-eqb, List, [], ◌∷◌, length, take, get_or, refl, sym, ap, ◌∙◌, arith, ℤ, pos, ◌+ℤ◌, ◌-ℤ◌, ◌<ℤ◌, ◌≤ℤ◌}
+use Rattle.std.proofs.Common.{◌≡◌, ℕ, zero, suc, ◌+◌, ◌-◌, ◌*◌, ◌<◌, ◌≤◌, ◌⊎◌, inl, inr, Bool, true, false, cond, nat_eq, Option, Some, None, eq-eqb, List, [], ◌∷◌, length, get_or, refl, sym, ap, ◌∙◌, arith, ℤ, pos, ◌+ℤ◌, ◌-ℤ◌, ◌<ℤ◌, ◌≤ℤ◌}
 use Rattle.std.proofs.lemmas.Int.{by_lt_z}
 use Rattle.std.proofs.lemmas.Bool.{eqb-true, ne_eqb}
 use Rattle.std.proofs.lemmas.List.{take_all}
-use Rattle.std.proofs.lemmas.List.Sums.{sum_by_more, sum_by-take-le}
+use Rattle.std.proofs.lemmas.List.Sums.{sum_by_more}
 use Rattle.std.specs.List.{position_from}
 use Rattle.cal_types.specs.Month.{MonthParts, month_rank}
 use Rattle.cal_types.specs.declared.options.Overflow.{Overflow}
 use Rattle.cal_types.specs.declared.options.Overflow.TheVariants.{Constrain, Reject}
 use Rattle.cal_days.specs.Sums.{span}
-use Rattle.cal_model.specs.CalendarList.{month_at, place_of, spot, first_of_two, Entry, no_entry, days_of, CalendarList, Date, date, year_length, month_count, month_length, start_of_year, days_before, day_number, HasPlace, IsDate, IsOn, month_number, IsMonthsAfter, IsBefore, IsLawful}
-use Rattle.cal_days.proofs.Signed.{signed, by_lt, by_bool, by_years}
-use Rattle.cal_days.proofs.SumLemmas.{span-same, span-next, span-unique, span-later, span-one_year, span-finds}
+use Rattle.cal_model.specs.CalendarList.{month_at, place_of, spot, first_of_two, Entry, no_entry, days_of, CalendarList, Date, date, year_length, month_count, month_length, start_of_year, days_before, day_number, HasPlace, IsDate, IsOn, month_number, IsBefore, IsLawful}
+use Rattle.cal_days.proofs.Signed.{signed, by_lt, by_bool}
+use Rattle.cal_days.proofs.SumLemmas.{span-same, span-next, span-unique, span-later, span-finds}
 
--- years join
+-- the anchor year starts on the anchor day
 pub start_of_year-anchor : (c : CalendarList) → start_of_year c c.anchor_year ≡ c.anchor_day
 unfolding start_of_year
 start_of_year-anchor c = omega (arith, signed, span-same (year_length c) c.anchor_year)
 
+-- the next year starts where a year ends
 pub start_of_year-next : (c : CalendarList) (y : ℤ) → start_of_year c (y +ℤ pos 1) ≡ start_of_year c y +ℤ pos (year_length c y)
 unfolding start_of_year
 start_of_year-next c y = omega (arith, signed, span-next (year_length c) c.anchor_year y)
@@ -27,21 +28,24 @@ pub start_of_year-unique : (c : CalendarList) (f : ℤ → ℤ) → f c.anchor_y
 unfolding start_of_year
 start_of_year-unique c f anchor join y = omega (arith, signed, span-unique (year_length c) c.anchor_year f join y)
 
+-- a later year starts at or after the end of this one
 pub start_of_year-later : (c : CalendarList) (y later : ℤ) → y <ℤ later → (start_of_year c y +ℤ pos (year_length c y)) ≤ℤ start_of_year c later
 unfolding start_of_year
 start_of_year-later c y later h = omega (arith, signed, span-later (year_length c) c.anchor_year y later h)
 
--- months of a year join
+-- the first month starts with the year
 pub days_before-first : (c : CalendarList) (y : ℤ) → days_before c y 1 ≡ 0
 unfolding days_before
 days_before-first c y = refl
 
+-- the next month starts where a month ends
 pub days_before-next : (c : CalendarList) (y : ℤ) (i : ℕ) → HasPlace c y i → days_before c y (i + 1) ≡ days_before c y i + month_length c y i
 unfolding days_before
 days_before-next c y i h =
     let same : i + 1 - 1 ≡ i - 1 + 1 = omega arith in
     rw same (sum_by_more days_of (c.entries y) (i - 1) no_entry (omega arith))
 
+-- past the last month lies the whole year
 pub days_before-end : (c : CalendarList) (y : ℤ) (i : ℕ) → month_count c y < i → days_before c y i ≡ year_length c y
 unfolding days_before
 days_before-end c y i h = rw (take_all (i - 1) (c.entries y) (omega arith))
@@ -55,6 +59,7 @@ days_before-add c y i (suc k) h =
     (λ past. omega (arith, days_before-end c y (i + k) past, days_before-end c y (i + suc k) (omega arith)))
     (λ le. rw same (omega (arith, days_before-next c y (i + k) (omega arith, le))))
 
+-- a later month starts at or after the end of this one
 pub days_before-later : (c : CalendarList) (y : ℤ) (i j : ℕ) → HasPlace c y i → i < j → days_before c y i + month_length c y i ≤ days_before c y j
 days_before-later c y i j h lt =
     let same : i + 1 + (j - (i + 1)) ≡ j = omega arith in
@@ -100,7 +105,7 @@ day_number-order c t u h k lt =
     (λ after. absurd (omega (arith, signed, day_number-rises c u t k h after)))
     (λ years places days. absurd (omega (arith, signed, ap (day_number c) (same_date t u years places days))))
 
--- a day number has one date
+-- dates with the same day number are the same
 pub day_number-injective : (c : CalendarList) (t u : Date) → IsDate c t → IsDate c u → day_number c t ≡ day_number c u → t ≡ u
 day_number-injective c t u h k e =
     by_order {P = t ≡ u} t.year t.month t.day u.year u.month u.day
@@ -108,6 +113,7 @@ day_number-injective c t u h k e =
     (λ after. absurd (omega (arith, signed, day_number-rises c u t k h after)))
     (same_date t u)
 
+-- a day number has one date
 pub on-unique : (c : CalendarList) (n : ℤ) (t u : Date) → IsOn c n t → IsOn c n u → t ≡ u
 on-unique c n t u h k = day_number-injective c t u h.date k.date (h.day ∙ sym k.day)
 
@@ -117,6 +123,7 @@ unfolding month_number
 month_number-order c y i z j h k (inl years) = omega (arith, signed, span-later (month_count c) c.anchor_year y z years)
 month_number-order c y i z j h k (inr (same, lt)) = let here = ap (span (month_count c) c.anchor_year) same in omega (arith, signed)
 
+-- of two months one is before the other, or they are the same
 pub by_place_order : {P : Type 0} (y : ℤ) (i : ℕ) (z : ℤ) (j : ℕ) → ((y <ℤ z) ⊎ ((y ≡ z) × (i < j)) → P) → ((z <ℤ y) ⊎ ((z ≡ y) × (j < i)) → P) → (y ≡ z → i ≡ j → P) → P
 by_place_order {P} y i z j before after same =
     by_lt_z {P = P} y z (λ lt. before (inl lt)) (λ ge.
@@ -125,6 +132,7 @@ by_place_order {P} y i z j before after same =
     by_lt i j (λ lt. before (inr (years, lt))) (λ above.
     by_lt j i (λ lt. after (inr (sym years, lt))) (λ below. same years (omega arith)))))
 
+-- a number is that of one month
 pub month_number-injective : (c : CalendarList) (y : ℤ) (i : ℕ) (z : ℤ) (j : ℕ) → HasPlace c y i → HasPlace c z j → month_number c y i ≡ month_number c z j → (y ≡ z) × (i ≡ j)
 month_number-injective c y i z j h k e =
     by_place_order {P = (y ≡ z) × (i ≡ j)} y i z j
@@ -147,6 +155,7 @@ find_place c y a (suc k) le lt =
     (λ below. find_place c y a k (omega arith) below)
     (λ above. (suc k, (omega arith, le), rw same (omega arith), omega (arith, days_before-next c y (suc k) (omega arith, le))))
 
+-- no year is empty
 pub year_length-some : (c : CalendarList) → IsLawful c → (y : ℤ) → 0 < year_length c y
 year_length-some c law y =
     let has : HasPlace c y 1 = (omega arith, omega (arith, law.count y)) in
@@ -156,11 +165,14 @@ year_length-some c law y =
 pub date-within : (c : CalendarList) (y : ℤ) (a : ℕ) → a < year_length c y → (t : Date) × IsOn c (start_of_year c y +ℤ pos a) t × (t.year ≡ y)
 date-within c y a lt =
     let found = find_place c y a (month_count c y) (omega arith) (omega (arith, days_before-end c y (month_count c y + 1) (omega arith))) in
-    let i = found.0 in
-    (date y i (a - days_before c y i + 1), record {
-      date = record { place = found.1; day = (omega arith, omega (arith, found.2, found.3)) };
-      day = omega (arith, signed, found.2);
-    }, refl)
+    let i = found.0 in (
+      date y i (a - days_before c y i + 1),
+      record {
+        date = record { place = found.1; day = (omega arith, omega (arith, found.2, found.3)) };
+        day = omega (arith, signed, found.2);
+      },
+      refl,
+    )
 
 -- each day number has a date
 pub on-finds : (c : CalendarList) → IsLawful c → (n : ℤ) → (t : Date) × IsOn c n t
@@ -228,7 +240,6 @@ spot-place c y m Constrain i e = either_place (place_of c y m) refl where
   either_place (Some k) f = (place_of-some c y m i (f ∙ sym (sym e ∙ ap (λ r. first_of_two r (place_of c y (c.stand_in m))) f))).0
   either_place None f = (place_of-some c y (c.stand_in m) i (sym (sym e ∙ ap (λ r. first_of_two r (place_of c y (c.stand_in m))) f))).0
 
--- no year has more than 403 days
 days_before-most : (c : CalendarList) (y : ℤ) → IsLawful c → (k : ℕ) → k ≤ month_count c y → days_before c y (k + 1) ≤ 31 * k
 days_before-most c y law zero h = omega (arith, days_before-first c y)
 days_before-most c y law (suc k) h =
@@ -236,6 +247,7 @@ days_before-most c y law (suc k) h =
     let same : suc k + 1 ≡ k + 1 + 1 = omega arith in
     rw same (omega (arith, days_before-most c y law k (omega arith), days_before-next c y (k + 1) here, law.lengths y (k + 1) here))
 
+-- no year has more than 403 days
 pub year_length-most : (c : CalendarList) (y : ℤ) → IsLawful c → year_length c y ≤ 403
 year_length-most c y law =
     omega (arith, law.count y, days_before-most c y law (month_count c y) (omega arith), days_before-end c y (month_count c y + 1) (omega arith))
@@ -255,20 +267,24 @@ on-rest c y i rest n h e lt = record {
   day = omega (arith, signed);
 }
 
+-- the first date of a year is its first day
 pub day_number-first : (c : CalendarList) (y : ℤ) → day_number c (date y 1 1) ≡ start_of_year c y
 day_number-first c y = omega (arith, signed, days_before-first c y)
 
+-- each year has a first month
 pub first-place : (c : CalendarList) (y : ℤ) → IsLawful c → HasPlace c y 1
 first-place c y law = (omega arith, omega (arith, law.count y))
 
+-- and that month a first day
 pub first-date : (c : CalendarList) (y : ℤ) → IsLawful c → IsDate c (date y 1 1)
 first-date c y law = record { place = first-place c y law; day = (omega arith, (law.lengths y 1 (first-place c y law)).0) }
 
--- months of a year have numbers in a row, and the next year's follow them
+-- months of a year have numbers in a row
 pub month_number-place : (c : CalendarList) (y : ℤ) (i : ℕ) → 1 ≤ i → month_number c y i +ℤ pos 1 ≡ month_number c y 1 +ℤ pos i
 unfolding month_number
 month_number-place c y i h = omega (arith, signed)
 
+-- the next year's first month follows the last of this year
 pub month_number-next : (c : CalendarList) (y : ℤ) → month_number c (y +ℤ pos 1) 1 ≡ month_number c y 1 +ℤ pos (month_count c y)
 unfolding month_number
 month_number-next c y = omega (arith, signed, span-next (month_count c) c.anchor_year y)

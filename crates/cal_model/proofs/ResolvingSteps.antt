@@ -1,12 +1,12 @@
 -- What fields resolve to, by the first step that refuses.
-use Rattle.std.proofs.Common.{◌≡◌, ℕ, ℤ, Bool, true, false, Option, Some, None, Result, Ok, Err, refl}
+use Rattle.std.proofs.Common.{◌≡◌, ℕ, ℤ, true, false, Some, None, Ok, Err, refl}
 use Rattle.cal_days.specs.Day.{is_field_year, is_valid_day}
 use Rattle.cal_types.specs.Month.{MonthParts}
 use Rattle.cal_types.specs.Bag.{Bag}
 use Rattle.cal_types.specs.declared.options.Overflow.{Overflow}
 use Rattle.cal_types.specs.declared.errors.DateFromFieldsError.{DateFromFieldsError}
 use Rattle.cal_types.specs.declared.errors.DateFromFieldsError.TheVariants.{Overflow as OutOfRange, MonthNotInCalendar, MonthNotInYear}
-use Rattle.cal_model.specs.CalendarList.{CalendarList, Date, date, month_length, day_number, spot}
+use Rattle.cal_model.specs.CalendarList.{CalendarList, date, month_length, day_number, spot}
 use Rattle.cal_model.specs.Resolving.{resolve, resolved_day, Names}
 
 module _ (c : CalendarList) (b : Bag) (o : Overflow) (y : ℤ) (m : MonthParts) (d : ℕ) (names : Names b y m d) where

@@ -23,4 +23,3 @@ abbrev pub SurpassesInYear : CalendarList → Bool → Date → Date → ℕ →
 SurpassesInYear c back t u i =
     IsPast back (month_rank (month_at c t.year t.month)) t.day (month_rank (month_at c u.year u.month)) u.day
     ⊎ IsPast back i t.day u.month u.day
-
