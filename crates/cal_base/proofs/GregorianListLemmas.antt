@@ -146,7 +146,7 @@ place_of-gregorian y =
     by_month (λ n. place_of gregorian_list y (record { number = n; is_leap = false }) ≡ Some n)
     refl refl refl refl refl refl refl refl refl refl refl refl
 
-plain_is : (m : MonthParts) → is_plain_month 12 m ≡ true → (1 ≤ m.number) × (m.number ≤ 12) × (m ≡ record { number = m.number; is_leap = false })
+pub plain_is : (m : MonthParts) → is_plain_month 12 m ≡ true → (1 ≤ m.number) × (m.number ≤ 12) × (m ≡ record { number = m.number; is_leap = false })
 plain_is m h =
     let plain : m.is_leap ≡ false = grind (arith, nat_tests) in
     (grind (arith, nat_tests), grind (arith, nat_tests), ap (λ (b : Bool). plain_or b) plain) where
@@ -156,7 +156,7 @@ plain_is m h =
 true-plain : (n : ℕ) → 1 ≤ n → n ≤ 12 → is_plain_month 12 (record { number = n; is_leap = false }) ≡ true
 true-plain n low high = grind (arith, nat_tests)
 
-is_of_kind-gregorian : (m : MonthParts) → gregorian_list.is_of_kind m ≡ is_plain_month 12 m
+pub is_of_kind-gregorian : (m : MonthParts) → gregorian_list.is_of_kind m ≡ is_plain_month 12 m
 unfolding gregorian_list
 is_of_kind-gregorian m = refl
 

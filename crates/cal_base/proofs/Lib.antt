@@ -1,1 +1,2 @@
 pub mod GregorianListLemmas
+pub mod FieldLemmas
