@@ -123,3 +123,6 @@ impl From<u8> for Month {
         Month::new(number)
     }
 }
+
+#[cfg(test)]
+mod tests;

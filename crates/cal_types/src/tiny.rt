@@ -166,3 +166,6 @@ impl<const N: usize> Hash for TinyAsciiStr<N> {
         self.as_str().hash(state);
     }
 }
+
+#[cfg(test)]
+mod tests;
