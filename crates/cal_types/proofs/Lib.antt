@@ -1,1 +1,2 @@
+pub mod MonthLemmas
 pub mod TextLemmas

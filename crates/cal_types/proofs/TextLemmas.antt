@@ -5,7 +5,7 @@ use Rattle.std.proofs.lemmas.List.{drop-replicate, length-replicate}
 use Rattle.std.proofs.lemmas.Bool.Decides.{nat_tests}
 use Rattle.std.proofs.Math.Seq.{take-append_seam}
 use Rattle.std.proofs.lemmas.Grind.{common_steps}
-use Rattle.cal_types.specs.Text.{IsText, filled}
+use Rattle.cal_types.specs.Text.{IsText, HoldsText}
 
 -- the bytes of a text are ASCII
 pub IsAscii-from_text : (bs : List ℕ) → IsText bs → IsAscii bs
@@ -18,12 +18,13 @@ IsAscii-from_text (x ∷ xs) h (suc i) =
 pub IsUtf8-from_text : (bs : List ℕ) → IsText bs → IsUtf8 bs
 IsUtf8-from_text bs h = IsUtf8-from_ascii bs (IsAscii-from_text bs h)
 
--- a text that is copied over n zeros, and its length, are a small text of at most n bytes
-pub made_text : (n : ℕ) (t : List ℕ) → length t ≤ n → IsText t → (length t ≤ n) × (length (t ++ drop (length t) (replicate n 0)) ≡ n) × (t ++ drop (length t) (replicate n 0) ≡ filled n (take (length t) (t ++ drop (length t) (replicate n 0)))) × IsText (take (length t) (t ++ drop (length t) (replicate n 0)))
-made_text n t fits text =
-    rw (drop-replicate {X = ℕ} (length t) n 0, take-append_seam t (replicate (n - length t) 0)) (
-      fits,
-      omega (arith, fits, length-append t (replicate (n - length t) 0), length-replicate {A = ℕ} (n - length t) 0),
-      refl,
-      text,
-    )
+-- a text that is copied over the first of n zeros is held in those n bytes
+pub HoldsText-copied : (n : ℕ) (t : List ℕ) → length t ≤ n → IsText t → HoldsText n (t ++ drop (length t) (replicate n 0)) (length t)
+HoldsText-copied n t fits text =
+    rw (drop-replicate {X = ℕ} (length t) n 0)
+    (record {
+      fits = fits;
+      size = omega (arith, fits, length-append t (replicate (n - length t) 0), length-replicate {A = ℕ} (n - length t) 0);
+      zeros = rw (take-append_seam t (replicate (n - length t) 0)) refl;
+      text = rw (take-append_seam t (replicate (n - length t) 0)) text;
+    })

@@ -1,4 +1,4 @@
-use Rattle.std.specs.Prelude.{◌≡◌, ℕ, ◌-◌, Bool, true, List, ◌++◌, ◌&&◌, nat_lt, length, replicate}
+use Rattle.std.specs.Prelude.{◌≡◌, ℕ, ◌-◌, ◌≤◌, Bool, true, List, ◌++◌, ◌&&◌, nat_lt, length, take, replicate}
 use Rattle.std.specs.List.{list_all}
 
 -- a byte from 1 to 127
@@ -12,3 +12,10 @@ IsText bs = list_all is_text_byte bs ≡ true
 -- a text filled with 0 to n bytes
 abbrev pub filled : ℕ → List ℕ → List ℕ
 filled n bs = bs ++ replicate (n - length bs) 0
+
+-- an array of n bytes that holds a text of `len` bytes: the text stands first, and zeros follow
+pub record HoldsText (n : ℕ) (bytes : List ℕ) (len : ℕ) : Type 0 where
+  pub fits : len ≤ n
+  pub size : length bytes ≡ n
+  pub zeros : bytes ≡ filled n (take len bytes)
+  pub text : IsText (take len bytes)

@@ -27,3 +27,20 @@ pub struct DateDuration {
     /// The count of days.
     pub days: u32,
 }
+
+#[cfg(test)]
+mod tests {
+    use super::*;
+
+    #[test]
+    fn the_default_is_zero(rt: HostRuntime) {
+        let zero = DateDuration {
+            is_negative: false,
+            years: 0,
+            months: 0,
+            weeks: 0,
+            days: 0,
+        };
+        assert_eq!(rt; DateDuration::default(), zero);
+    }
+}

@@ -283,3 +283,6 @@ impl From<EcmaReferenceYearError> for DateFromFieldsError {
         }
     }
 }
+
+#[cfg(test)]
+mod tests;

@@ -1,6 +1,6 @@
 //! A month as its number and whether it is a leap month, as the month codes of ECMAScript Temporal have it.
 
-ghost use Rattle.std.specs.Prelude.{◌≡◌, ◌≤◌, Some, IfOk, ok_or};
+ghost use Rattle.std.specs.Prelude.{◌≡◌, ◌≤◌, min, Some, IfOk, ok_or};
 ghost use Rattle.cal_types.specs.Month.{plain_month, leap_month, code_text, month_read};
 
 use crate::errors::MonthCodeParseError;
@@ -37,7 +37,7 @@ impl Month {
         ensures { result ≡ plain_month number }
     {
         Month {
-            number: if number > 99 { 99 } else { number },
+            number: at_most_99(number),
             is_leap: false,
         }
     }
@@ -47,7 +47,7 @@ impl Month {
         ensures { result ≡ leap_month number }
     {
         Month {
-            number: if number > 99 { 99 } else { number },
+            number: at_most_99(number),
             is_leap: true,
         }
     }
@@ -123,3 +123,13 @@ impl From<u8> for Month {
         Month::new(number)
     }
 }
+
+/// The number, or 99 where it is larger.
+const fn at_most_99(number: u8) -> u8
+    ensures { result ≡ min number 99 }
+{
+    if number > 99 { 99 } else { number }
+}
+
+#[cfg(test)]
+mod tests;

@@ -26,20 +26,20 @@ pub struct TinyAsciiStr<const N: usize> {
 }
 
 impl<const N: usize> Model for TinyAsciiStr<N> {
-    ghost use Rattle.std.specs.Prelude.{◌≡◌, ◌≤◌, ℕ, List, length, take};
-    ghost use Rattle.cal_types.specs.Text.{IsText, filled};
+    ghost use Rattle.std.specs.Prelude.{ℕ, List, length, take};
+    ghost use Rattle.cal_types.specs.Text.{HoldsText, filled};
 
     ghost Value = { List ℕ };
 
     ghost view = { λ s. take s.len s.bytes };
 
-    ghost invariant = { λ s. (s.len ≤ N) × (length s.bytes ≡ N) × (s.bytes ≡ filled N (take s.len s.bytes)) × IsText (take s.len s.bytes) };
+    ghost invariant = { λ s. HoldsText N s.bytes s.len };
 
     ghost inverse = { λ t. record { bytes = filled N t; len = length t } };
 
     ghost use Rattle.std.proofs.Common.{arith, length-take-le, sym};
 
-    ghost inverse_ok = { λ s h i. record { bytes = sym h.2 i; len = length-take-le s.len s.bytes (omega (arith, h.0, h.1)) i } };
+    ghost inverse_ok = { λ s h i. record { bytes = sym h.zeros i; len = length-take-le s.len s.bytes (omega (arith, h.fits, h.size)) i } };
 }
 
 impl<const N: usize> TinyAsciiStr<N> {
@@ -166,3 +166,6 @@ impl<const N: usize> Hash for TinyAsciiStr<N> {
         self.as_str().hash(state);
     }
 }
+
+#[cfg(test)]
+mod tests;

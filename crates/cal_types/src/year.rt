@@ -172,3 +172,6 @@ impl IntoYearInfo for CyclicYear {
         YearInfo::Cyclic(self)
     }
 }
+
+#[cfg(test)]
+mod tests;
