@@ -1,2 +1,3 @@
 pub mod GregorianListLemmas
 pub mod FieldLemmas
+pub mod IsoLemmas

@@ -151,3 +151,67 @@ fn days_between(from: RataDie, to: RataDie) -> DateDuration
         days: days.unsigned_abs() as u32,
     }
 }
+
+impl UnstableSealed for Iso {}
+
+impl Calendar for Iso {
+    ghost use Rattle.cal_base.specs.IsoSystem.{iso_system, iso_date, iso_belongs};
+
+    type DateInner = IsoDateInner;
+
+    type Year = EraYear;
+
+    ghost system = { λ _. iso_system };
+
+    ghost date_of = { λ _ d. iso_date d };
+
+    ghost belongs = { λ _ d. iso_belongs d };
+
+    fn from_fields(&self, fields: DateFields<'_>, _options: DateFromFieldsOptions) -> Result<IsoDateInner, DateFromFieldsError> {
+        match (fields.extended_year, fields.month, fields.day) {
+            (Some(year), Some(month), Some(day)) => date_of_fields(year, month, day),
+            _ => Err(DateFromFieldsError::NotEnoughFields),
+        }
+    }
+
+    fn from_rata_die(&self, rd: RataDie) -> IsoDateInner {
+        date_on(rd)
+    }
+
+    fn to_rata_die(&self, date: &IsoDateInner) -> RataDie {
+        day_number(date.year, date.month, date.day)
+    }
+
+    fn year_info(&self, date: &IsoDateInner) -> EraYear {
+        EraYear {
+            year: date.year,
+            extended_year: date.year,
+            era: TinyAsciiStr::of_text(b"default"),
+            era_index: Some(0),
+            ambiguity: YearAmbiguity::Unambiguous,
+        }
+    }
+
+    fn month(&self, date: &IsoDateInner) -> MonthInfo {
+        let month = Month::new(date.month);
+        MonthInfo::new(date.month, month, LeapStatus::Normal, month)
+    }
+
+    fn day_of_month(&self, date: &IsoDateInner) -> DayOfMonth {
+        DayOfMonth(date.day)
+    }
+
+    fn until(&self, date1: &IsoDateInner, date2: &IsoDateInner, _options: DateDifferenceOptions) -> DateDuration {
+        days_between(self.to_rata_die(date1), self.to_rata_die(date2))
+    }
+}
+
+impl AsCalendar for Iso {
+    type Calendar = Iso;
+
+    ghost cal_of = { λ c. c };
+
+    fn as_calendar(&self) -> &Iso {
+        self
+    }
+}
