@@ -1,2 +1,3 @@
 pub mod AnySystem
 pub mod Spans
+pub mod SpanAnswers

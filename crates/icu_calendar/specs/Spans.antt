@@ -21,9 +21,9 @@ pub record SpanDates : Type 0 where
   pub duration : DateDuration
 
 -- each bag names its date; the shown dates have the same day numbers in the second list; and the duration is the difference
-pub record AnswersBags (c shown : CalendarList) (from to : Bag) (o : Overflow) (unit : DateDurationUnit) (s : SpanDates) : Type 0 where
-  pub from : resolve c from o ≡ Ok s.from
-  pub to : resolve c to o ≡ Ok s.to
+pub record AnswersBags (c shown : CalendarList) (first second : Bag) (o : Overflow) (unit : DateDurationUnit) (s : SpanDates) : Type 0 where
+  pub from : resolve c first o ≡ Ok s.from
+  pub to : resolve c second o ≡ Ok s.to
   pub from_shown : IsOn shown (day_number c s.from) s.from_shown
   pub to_shown : IsOn shown (day_number c s.to) s.to_shown
   pub duration : IsDifference c s.from s.to unit s.duration
