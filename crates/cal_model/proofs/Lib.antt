@@ -4,3 +4,4 @@ pub mod DifferenceLaws
 pub mod ResolvingSteps
 pub mod ResolvingLemmas
 pub mod DateTests
+pub mod ListedLemmas

@@ -3,3 +3,5 @@ pub mod CalendarSystem
 pub mod Resolving
 pub mod Difference
 pub mod WithinYear
+pub mod YearList
+pub mod ListedYears

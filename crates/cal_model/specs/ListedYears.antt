@@ -1,0 +1,36 @@
+-- A calendar by a list of some of its years, and what is counted over it.
+use Rattle.std.specs.Prelude.{◌≡◌, ℕ, ◌+◌, ◌-◌, ◌<◌, ◌≤◌, Bool, ◌&&◌, nat_le, List, map, length, sum_by, slice_get, Option, Some, None, MatchOption, ℤ, pos, ◌+ℤ◌, ◌≤ℤ◌, ◌<ℤ◌}
+use Rattle.std.specs.List.{list_all}
+use Rattle.std.specs.Borrow.{Bor}
+use Rattle.cal_model.specs.declared.listed_years.ListedMonth.{ListedMonth}
+use Rattle.cal_model.specs.declared.listed_years.ListedDate.{ListedDate}
+use Rattle.cal_model.specs.declared.listed_years.ListedYears.{ListedYears}
+use Rattle.cal_model.specs.YearList.{YearList}
+use Rattle.cal_model.specs.CalendarList.{CalendarList, Date, date, Entry, IsDate, IsOn, day_number, start_of_year}
+
+-- a listed month as an entry of a calendar
+abbrev pub entry_of : ListedMonth → Entry
+entry_of m = record { month = m.month; days = m.days }
+
+-- the calendar has the listed years, and the first of them starts on its day
+pub record IsListOf (c : CalendarList) (l : ListedYears) : Type 0 where
+  pub first_day : start_of_year c l.first_year ≡ l.first_day
+  pub months : (k : ℕ) (year : YearList) → slice_get l.years.now k ≡ Some year → c.entries (l.first_year +ℤ pos k) ≡ map entry_of year.now
+
+-- the year is one of those listed
+abbrev pub IsListed : ListedYears → ℤ → Type 0
+IsListed l y = (l.first_year ≤ℤ y) × (y <ℤ (l.first_year +ℤ pos (length l.years.now)))
+
+-- a listed date as a date of a calendar
+abbrev pub date_of : ListedDate → Date
+date_of t = date t.year t.month t.day
+
+-- the day number of a date, where its year is listed and has it
+abbrev pub IsDayNumberOf : ListedYears → Date → Option ℤ → Type 0
+IsDayNumberOf l t r = (c : CalendarList) → IsListOf c l →
+    MatchOption r (IsListed l t.year → IsDate c t → ⊥) (λ n. IsListed l t.year × IsOn c n t)
+
+-- the date of a day number, where its year is listed
+abbrev pub IsDateOn : ListedYears → ℤ → Option ListedDate → Type 0
+IsDateOn l n r = (c : CalendarList) → IsListOf c l →
+    MatchOption r ((t : Date) → IsListed l t.year → IsOn c n t → ⊥) (λ t. IsListed l t.year × IsOn c n (date_of t))
