@@ -1,5 +1,6 @@
 use Rattle.std.specs.Prelude.{ℕ, ℤ, List, Option, option_map}
 use Rattle.cal_types.specs.Month.{MonthParts}
+use Rattle.cal_types.specs.MonthParts.{month_parts}
 use Rattle.cal_types.specs.declared.fields.DateFields.{DateFields}
 
 -- the fields of a date that are given
@@ -18,7 +19,7 @@ bag_of f = record {
   era = option_map (λ bytes. bytes.now) f.era;
   era_year = f.era_year;
   extended_year = f.extended_year;
-  month = f.month;
+  month = option_map month_parts f.month;
   month_code = option_map (λ bytes. bytes.now) f.month_code;
   ordinal_month = f.ordinal_month;
   day = f.day;

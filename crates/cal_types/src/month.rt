@@ -6,7 +6,6 @@ ghost use Rattle.cal_types.specs.Month.{plain_month, leap_month, code_text, mont
 use crate::errors::MonthCodeParseError;
 use crate::month_code::MonthCode;
 use crate::tiny::TinyAsciiStr;
-use std::marker::Model;
 
 /// A month of a calendar's year: its number, from 0 to 99, and whether it is a leap month.
 ///
@@ -16,25 +15,15 @@ use std::marker::Model;
 pub struct Month {
     number: u8,
     is_leap: bool,
-}
-
-impl Model for Month {
-    ghost use Rattle.std.specs.Prelude.{◌≤◌};
-    ghost use Rattle.cal_types.specs.Month.{MonthParts};
-
-    ghost Value = { MonthParts };
-
-    ghost view = { λ m. record { number = m.number; is_leap = m.is_leap } };
-
-    ghost invariant = { λ m. m.number ≤ 99 };
-
-    ghost inverse = { λ p. record { number = p.number; is_leap = p.is_leap } };
+    ghost bound: { number ≤ 99 },
 }
 
 impl Month {
+    ghost use Rattle.cal_types.specs.MonthParts.{month_parts, parts_read};
+
     /// The plain month of this number; a number above 99 is taken as 99.
     pub const fn new(number: u8) -> Month
-        ensures { result ≡ plain_month number }
+        ensures { month_parts result ≡ plain_month number }
     {
         Month {
             number: at_most_99(number),
@@ -44,7 +33,7 @@ impl Month {
 
     /// The leap month of this number; a number above 99 is taken as 99.
     pub const fn leap(number: u8) -> Month
-        ensures { result ≡ leap_month number }
+        ensures { month_parts result ≡ leap_month number }
     {
         Month {
             number: at_most_99(number),
@@ -54,8 +43,8 @@ impl Month {
 
     /// The month that a month code names, as [`Month::try_from_utf8`].
     pub fn try_from_str(s: &str) -> Result<Month, MonthCodeParseError>
-        ensures value { result ≡ ok_or (month_read s.now) MonthCodeParseError.InvalidSyntax }
-        ensures code { IfOk result (λ m. code_text m ≡ s.now) }
+        ensures value { parts_read result ≡ ok_or (month_read s.now) MonthCodeParseError.InvalidSyntax }
+        ensures code { IfOk result (λ m. code_text (month_parts m) ≡ s.now) }
     {
         Month::try_from_utf8(s.as_bytes())
     }
@@ -65,8 +54,8 @@ impl Month {
     ///
     /// This is ECMAScript Temporal's `ParseMonthCode`.
     pub fn try_from_utf8(bytes: &[u8]) -> Result<Month, MonthCodeParseError>
-        ensures value { result ≡ ok_or (month_read bytes.now) MonthCodeParseError.InvalidSyntax }
-        ensures code { IfOk result (λ m. code_text m ≡ bytes.now) }
+        ensures value { parts_read result ≡ ok_or (month_read bytes.now) MonthCodeParseError.InvalidSyntax }
+        ensures code { IfOk result (λ m. code_text (month_parts m) ≡ bytes.now) }
     {
         let (tens, units, is_leap) = match bytes {
             [b'M', tens, units] => (*tens, *units, false),
@@ -84,7 +73,7 @@ impl Month {
 
     /// The month's number, from 0 to 99.
     pub fn number(self) -> u8
-        ensures value { result ≡ self.number }
+        ensures value { result ≡ (month_parts self).number }
         ensures bound { result ≤ 99 }
     {
         self.number
@@ -92,15 +81,15 @@ impl Month {
 
     /// Whether this is a leap month.
     pub fn is_leap(self) -> bool
-        ensures { result ≡ self.is_leap }
+        ensures { result ≡ (month_parts self).is_leap }
     {
         self.is_leap
     }
 
     /// The month code: `M`, two digits, and `L` for a leap month, such as `M05L`.
     pub fn code(self) -> MonthCode
-        ensures text { result.0 ≡ code_text self }
-        ensures read { month_read result.0 ≡ Some self }
+        ensures text { result.0 ≡ code_text (month_parts self) }
+        ensures read { month_read result.0 ≡ Some (month_parts self) }
     {
         let tens = b'0' + self.number / 10;
         let units = b'0' + self.number % 10;
@@ -116,8 +105,9 @@ impl Month {
 impl From<u8> for Month {
     ghost use Rattle.std.specs.Prelude.{◌≡◌};
     ghost use Rattle.cal_types.specs.Month.{plain_month};
+    ghost use Rattle.cal_types.specs.MonthParts.{month_parts};
 
-    ghost from_gives = { λ n m. m ≡ plain_month n };
+    ghost from_gives = { λ n m. month_parts m ≡ plain_month n };
 
     fn from(number: u8) -> Month {
         Month::new(number)

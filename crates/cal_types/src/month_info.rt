@@ -5,7 +5,6 @@ ghost use Rattle.cal_types.specs.MonthInfo.{month_info};
 
 use crate::month::Month;
 use crate::month_code::MonthCode;
-use std::marker::Model;
 
 /// How a month of a year stands to leap months.
 #[derive(Clone, Copy, Debug, PartialEq, Eq, Hash)]
@@ -32,18 +31,10 @@ pub struct MonthInfo {
     leap_status: LeapStatus,
 }
 
-impl Model for MonthInfo {
-    ghost use Rattle.std.specs.Prelude.{◌≡◌};
-    ghost use Rattle.cal_types.specs.MonthInfo.{MonthInfoParts};
-
-    ghost Value = { MonthInfoParts };
-
-    ghost view = { λ s. record { ordinal = s.ordinal; standard_code = s.standard_code.0; formatting_code = s.formatting_code.0; month = s.month; leap_status = s.leap_status } };
-
-    ghost inverse = { λ v. record { ordinal = v.ordinal; standard_code = record { 0 = v.standard_code }; formatting_code = record { 0 = v.formatting_code }; month = v.month; leap_status = v.leap_status } };
-}
-
 impl MonthInfo {
+    ghost use Rattle.cal_types.specs.MonthParts.{month_parts};
+    ghost use Rattle.cal_types.specs.MonthInfoParts.{month_info_parts};
+
     /// The month at this place of a year, which is shown by the code of `formatting_month`.
     pub fn new(
         ordinal: u8,
@@ -51,7 +42,7 @@ impl MonthInfo {
         leap_status: LeapStatus,
         formatting_month: Month,
     ) -> MonthInfo
-        ensures { result ≡ month_info ordinal month leap_status formatting_month }
+        ensures { month_info_parts result ≡ month_info ordinal (month_parts month) leap_status (month_parts formatting_month) }
     {
         MonthInfo {
             ordinal,
@@ -64,28 +55,28 @@ impl MonthInfo {
 
     /// The month's number, which its code has; after a leap month it isn't the place.
     pub fn number(self) -> u8
-        ensures { result ≡ self.month.number }
+        ensures { result ≡ (month_info_parts self).month.number }
     {
         self.month.number()
     }
 
     /// How the month stands to leap months.
     pub fn leap_status(self) -> LeapStatus
-        ensures { result ≡ self.leap_status }
+        ensures { result ≡ (month_info_parts self).leap_status }
     {
         self.leap_status
     }
 
     /// The month as a constructor of dates takes it.
     pub fn to_input(&self) -> Month
-        ensures { result ≡ self.now.month }
+        ensures { month_parts result ≡ (month_info_parts self.now).month }
     {
         self.month
     }
 
     /// Whether this is a leap month.
     pub fn is_leap(self) -> bool
-        ensures { result ≡ self.month.is_leap }
+        ensures { result ≡ (month_info_parts self).month.is_leap }
     {
         self.month.is_leap()
     }

@@ -1,5 +1,6 @@
 ghost use Rattle.std.specs.Prelude.{◌<◌, ◌↔◌, IsTrue};
 ghost use Rattle.cal_types.specs.Month.{month_rank};
+ghost use Rattle.cal_types.specs.MonthParts.{month_parts};
 
 use super::*;
 use std::test::Fail;
@@ -70,7 +71,7 @@ fn months_are_ordered_by_number_then_leap(rt: HostRuntime) {
 
 /// The order of months is that of their ranks.
 fn comes_before(a: Month, b: Month) -> bool
-    ensures { IsTrue result ↔ (month_rank a < month_rank b) }
+    ensures { IsTrue result ↔ (month_rank (month_parts a) < month_rank (month_parts b)) }
 {
     a < b
 }
