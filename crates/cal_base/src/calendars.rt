@@ -3,6 +3,7 @@
 ghost use Rattle.std.specs.Prelude.{◌≡◌, Bool, IsTrue, IfOk, None, Some};
 ghost use Rattle.cal_days.specs.Day.{IsValidDay};
 ghost use Rattle.cal_types.specs.Bag.{bag_of};
+ghost use Rattle.cal_types.specs.MonthInfoParts.{month_info_parts};
 ghost use Rattle.cal_model.specs.CalendarList.{Date, IsOn, day_number};
 ghost use Rattle.cal_model.specs.CalendarSystem.{CalendarSystem, month_info_of};
 ghost use Rattle.cal_model.specs.Resolving.{resolve, overflow_of};
@@ -60,7 +61,7 @@ pub trait Calendar: UnstableSealed + Drop {
     /// The month of a date: its place in the year, and its month codes.
     fn month(&self, date: &Self::DateInner) -> MonthInfo
         requires { IsTrue (belongs self.now date.now) }
-        ensures { result ≡ month_info_of (system self.now) (date_of self.now date.now) };
+        ensures { month_info_parts result ≡ month_info_of (system self.now) (date_of self.now date.now) };
 
     /// The day of the month.
     fn day_of_month(&self, date: &Self::DateInner) -> DayOfMonth

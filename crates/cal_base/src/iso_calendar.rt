@@ -4,7 +4,7 @@ ghost use Rattle.std.specs.Prelude.{◌≡◌, ℕ, ℤ, ◌+◌, ◌-◌, ◌�
 ghost use Rattle.cal_days.specs.Day.{IsRuleYear, IsFieldYear, IsValidDay, is_field_year, is_valid_day};
 ghost use Rattle.cal_days.specs.Gregorian.{gregorian_leap};
 ghost use Rattle.cal_types.specs.Bag.{Bag, bag_of};
-ghost use Rattle.cal_types.specs.Month.{MonthParts};
+ghost use Rattle.cal_types.specs.MonthParts.{month_parts};
 ghost use Rattle.cal_model.specs.CalendarList.{date, day_number, days_before, start_of_year, year_length, IsDate, IsOn};
 ghost use Rattle.cal_model.specs.Difference.{IsDifference};
 ghost use Rattle.cal_base.specs.Conditions.{date_answer};
@@ -101,14 +101,14 @@ fn is_valid_day(rd: RataDie) -> bool
 
 /// Whether a month is a plain month from 1 to 12.
 fn is_iso_month(month: Month) -> bool
-    ensures { result ≡ is_plain_month 12 month }
+    ensures { result ≡ is_plain_month 12 (month_parts month) }
 {
     !month.is_leap() && 1 <= month.number() && month.number() <= 12
 }
 
 /// The date of a year, a month and a day, or the first fault.
 fn date_of_fields(year: i32, month: Month, day: u8) -> Result<IsoDateInner, DateFromFieldsError>
-    ensures resolved { (b : Bag) → Names b year month day → date_answer iso_date result ≡ resolve gregorian_list b Overflow.Reject }
+    ensures resolved { (b : Bag) → Names b year (month_parts month) day → date_answer iso_date result ≡ resolve gregorian_list b Overflow.Reject }
     ensures belongs { IfOk result (λ d. IsTrue (iso_belongs d)) }
 {
     if !is_field_year(year) {

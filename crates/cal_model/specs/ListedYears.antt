@@ -2,6 +2,7 @@
 use Rattle.std.specs.Prelude.{◌≡◌, ℕ, ◌+◌, ◌-◌, ◌<◌, ◌≤◌, Bool, ◌&&◌, nat_le, List, map, length, sum_by, slice_get, Option, Some, None, MatchOption, ℤ, pos, ◌+ℤ◌, ◌≤ℤ◌, ◌<ℤ◌}
 use Rattle.std.specs.List.{list_all}
 use Rattle.std.specs.Borrow.{Bor}
+use Rattle.cal_types.specs.MonthParts.{month_parts}
 use Rattle.cal_model.specs.declared.listed_years.ListedMonth.{ListedMonth}
 use Rattle.cal_model.specs.declared.listed_years.ListedDate.{ListedDate}
 use Rattle.cal_model.specs.declared.listed_years.ListedYears.{ListedYears}
@@ -10,7 +11,7 @@ use Rattle.cal_model.specs.CalendarList.{CalendarList, Date, date, Entry, IsDate
 
 -- a listed month as an entry of a calendar
 abbrev pub entry_of : ListedMonth → Entry
-entry_of m = record { month = m.month; days = m.days }
+entry_of m = record { month = month_parts m.month; days = m.days }
 
 -- the calendar has the listed years, and the first of them starts on its day
 pub record IsListOf (c : CalendarList) (l : ListedYears) : Type 0 where

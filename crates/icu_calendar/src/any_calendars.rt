@@ -25,13 +25,6 @@ pub enum AnyDateInner {
     Iso(IsoDateInner),
 }
 
-// A copy. A value with a lifetime isn't passed on as it came (docs/DECISIONS.md).
-pub(crate) fn copy_of<T: Copy>(value: &T) -> T
-    ensures { result ≡ value.now }
-{
-    *value
-}
-
 impl UnstableSealed for AnyCalendar {}
 
 impl Calendar for AnyCalendar {
@@ -47,7 +40,7 @@ impl Calendar for AnyCalendar {
 
     fn from_fields(&self, fields: DateFields<'_>, options: DateFromFieldsOptions) -> Result<AnyDateInner, DateFromFieldsError> {
         match self {
-            AnyCalendar::Iso(calendar) => Ok(AnyDateInner::Iso(calendar.from_fields(copy_of(&fields), options)?)),
+            AnyCalendar::Iso(calendar) => Ok(AnyDateInner::Iso(calendar.from_fields(fields, options)?)),
         }
     }
 

@@ -3,6 +3,7 @@
 ghost use Rattle.std.specs.Prelude.{◌≡◌, IsTrue, IfOk};
 ghost use Rattle.cal_days.specs.Day.{IsValidDay};
 ghost use Rattle.cal_types.specs.Bag.{bag_of};
+ghost use Rattle.cal_types.specs.MonthInfoParts.{month_info_parts};
 ghost use Rattle.cal_model.specs.CalendarList.{IsOn, day_number};
 ghost use Rattle.cal_model.specs.Resolving.{resolve, overflow_of};
 ghost use Rattle.cal_model.specs.Difference.{IsDifference, largest_unit_of};
@@ -63,7 +64,7 @@ where
 
     /// The month: its place in the year, and its month codes.
     pub fn month(&self) -> MonthInfo
-        ensures { result ≡ month_info_of (A.Calendar.system (A.cal_of self.now.calendar)) (A.Calendar.date_of (A.cal_of self.now.calendar) self.now.inner) }
+        ensures { month_info_parts result ≡ month_info_of (A.Calendar.system (A.cal_of self.now.calendar)) (A.Calendar.date_of (A.cal_of self.now.calendar) self.now.inner) }
     {
         self.calendar.as_calendar().month(&self.inner)
     }
