@@ -14,7 +14,7 @@ use Rattle.cal_model.proofs.ListLemmas.{spot-own}
 use Rattle.cal_model.proofs.DateTests.{true-is_date, true-and}
 use Rattle.cal_model.proofs.ResolvingSteps.{resolve-year, resolve-month, resolve-day, resolve-range, resolve-ok}
 use Rattle.cal_base.specs.GregorianList.{gregorian_list, is_plain_month}
-use Rattle.cal_base.proofs.GregorianListLemmas.{is_of_kind-gregorian, place_of-kind, plain_is, month_count-gregorian}
+use Rattle.cal_base.specs.GregorianLaws.{is_of_kind-gregorian, place_of-kind, plain_is, month_count-gregorian}
 
 -- a day that the month lacks
 pub resolved_day-out : (last d : ℕ) → (d ≡ 0) ⊎ ((d ≡ 0 → ⊥) × (last < d)) → resolved_day last Reject d ≡ Err (InvalidDay last)

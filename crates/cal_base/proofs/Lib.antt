@@ -1,3 +1,1 @@
-pub mod GregorianListLemmas
 pub mod FieldLemmas
-pub mod IsoLemmas

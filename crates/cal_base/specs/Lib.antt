@@ -1,3 +1,5 @@
 pub mod GregorianList
+pub mod GregorianLaws
 pub mod IsoSystem
+pub mod IsoLaws
 pub mod Conditions

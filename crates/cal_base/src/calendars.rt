@@ -3,8 +3,9 @@
 ghost use Rattle.std.specs.Prelude.{◌≡◌, Bool, IsTrue, IfOk, None, Some};
 ghost use Rattle.cal_days.specs.Day.{IsValidDay};
 ghost use Rattle.cal_types.specs.Bag.{bag_of};
+ghost use Rattle.cal_types.specs.Year.{extended_year_of};
 ghost use Rattle.cal_types.specs.MonthInfoParts.{month_info_parts};
-ghost use Rattle.cal_model.specs.CalendarList.{Date, IsOn, day_number};
+ghost use Rattle.cal_model.specs.CalendarList.{Date, IsLawful, IsOn, IsValidDate, day_number};
 ghost use Rattle.cal_model.specs.CalendarSystem.{CalendarSystem, month_info_of};
 ghost use Rattle.cal_model.specs.Resolving.{resolve, overflow_of};
 ghost use Rattle.cal_model.specs.Difference.{IsDifference, largest_unit_of};
@@ -75,6 +76,15 @@ pub trait Calendar: UnstableSealed + Drop {
         requires second { IsTrue (belongs self.now date2.now) }
         requires unit { IsInDays options }
         ensures { IsDifference (system self.now).list (date_of self.now date1.now) (date_of self.now date2.now) (largest_unit_of options.largest_unit) result };
+
+    /// The list is a calendar's.
+    ghost lawful: { (s : Self) → IsLawful (system s).list };
+
+    /// What belongs is a date of the list, with a valid day number.
+    ghost dated: { (s : Self) (d : Self.DateInner) → IsTrue (belongs s d) → IsValidDate (system s).list (date_of s d) };
+
+    /// The year that a date is printed in has its extended year.
+    ghost named: { (s : Self) (t : Date) → extended_year_of ((system s).year_info t) ≡ t.year };
 }
 
 /// What leads to a calendar: the calendar itself, or a pointer to it.

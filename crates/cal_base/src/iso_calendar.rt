@@ -155,7 +155,10 @@ fn days_between(from: RataDie, to: RataDie) -> DateDuration
 impl UnstableSealed for Iso {}
 
 impl Calendar for Iso {
+    ghost use Rattle.std.specs.Prelude.{refl};
     ghost use Rattle.cal_base.specs.IsoSystem.{iso_system, iso_date, iso_belongs};
+    ghost use Rattle.cal_base.specs.GregorianLaws.{gregorian_list-lawful};
+    ghost use Rattle.cal_base.specs.IsoLaws.{iso_belongs-dated};
 
     type DateInner = IsoDateInner;
 
@@ -204,6 +207,12 @@ impl Calendar for Iso {
     fn until(&self, date1: &IsoDateInner, date2: &IsoDateInner, _options: DateDifferenceOptions) -> DateDuration {
         days_between(self.to_rata_die(date1), self.to_rata_die(date2))
     }
+
+    ghost lawful = { λ _. gregorian_list-lawful };
+
+    ghost dated = { λ _ d h. iso_belongs-dated d h };
+
+    ghost named = { λ _ t. refl };
 }
 
 impl AsCalendar for Iso {

@@ -5,6 +5,7 @@ use Rattle.std.specs.List.{position_from}
 use Rattle.cal_types.specs.Month.{MonthParts, month_rank}
 use Rattle.cal_types.specs.declared.options.Overflow.{Overflow}
 use Rattle.cal_types.specs.declared.options.Overflow.TheVariants.{Constrain, Reject}
+use Rattle.cal_days.specs.Day.{IsValidDay}
 use Rattle.cal_days.specs.Sums.{span}
 
 -- a month of a year, and how many days it has
@@ -78,6 +79,11 @@ pub record IsDate (c : CalendarList) (t : Date) : Type 0 where
 -- the same as a test
 abbrev pub is_date : CalendarList → Date → Bool
 is_date c t = (nat_le 1 t.month && nat_le t.month (month_count c t.year)) && (nat_le 1 t.day && nat_le t.day (month_length c t.year t.month))
+
+-- the calendar has this date, and its day number is in the valid range
+pub record IsValidDate (c : CalendarList) (t : Date) : Type 0 where
+  pub date : IsDate c t
+  pub valid : IsValidDay (day_number c t)
 
 -- t is the date of day number n
 pub record IsOn (c : CalendarList) (n : ℤ) (t : Date) : Type 0 where

@@ -5,7 +5,7 @@ use Rattle.cal_types.specs.MonthParts.{month_parts}
 use Rattle.cal_types.specs.declared.errors.DateFromFieldsError.{DateFromFieldsError}
 use Rattle.cal_model.specs.CalendarList.{Date, date, month_length, IsDate}
 use Rattle.cal_base.specs.GregorianList.{gregorian_list}
-use Rattle.cal_base.proofs.GregorianListLemmas.{leap_is}
+use Rattle.cal_base.specs.GregorianLaws.{leap_is}
 use Rattle.cal_base.proofs.FieldLemmas.{iso-year, iso-month, iso-day, iso-range, iso-ok, iso-date, iso-belongs, valid_is}
 use Rattle.cal_base.proofs.iso_calendar.date_of_fields.Goals as goal
 

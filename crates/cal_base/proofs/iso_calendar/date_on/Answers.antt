@@ -3,7 +3,7 @@ use Rattle.cal_days.proofs.Signed.{signed}
 use Rattle.cal_model.specs.CalendarList.{IsOn, year_length}
 use Rattle.cal_base.specs.GregorianList.{gregorian_list}
 use Rattle.cal_base.specs.IsoSystem.{iso_date}
-use Rattle.cal_base.proofs.GregorianListLemmas.{day_in_year}
+use Rattle.cal_base.specs.GregorianLaws.{day_in_year}
 use Rattle.cal_base.proofs.iso_calendar.date_on.Goals as goal
 
 pub date_in_year-requires-clause-within : goal.date_in_year-requires-clause-within

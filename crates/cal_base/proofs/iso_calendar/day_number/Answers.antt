@@ -4,7 +4,7 @@ use Rattle.cal_days.proofs.Signed.{signed}
 use Rattle.cal_days.proofs.GregorianLemmas.{gregorian_start-bounds}
 use Rattle.cal_model.specs.CalendarList.{start_of_year}
 use Rattle.cal_base.specs.GregorianList.{gregorian_list}
-use Rattle.cal_base.proofs.GregorianListLemmas.{leap_is, month_count-gregorian, month_length-most, start_of_year-gregorian}
+use Rattle.cal_base.specs.GregorianLaws.{leap_is, month_count-gregorian, month_length-most, start_of_year-gregorian}
 use Rattle.cal_base.proofs.iso_calendar.day_number.Goals as goal
 
 pub days_before_day-before-requires-clause-month : goal.days_before_day-before-requires-clause-month

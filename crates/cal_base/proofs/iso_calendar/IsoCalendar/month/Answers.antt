@@ -3,8 +3,8 @@ use Rattle.cal_types.specs.MonthInfo.{month_info}
 use Rattle.cal_types.specs.Month.{MonthParts}
 use Rattle.cal_types.specs.declared.month_info.LeapStatus.TheVariants.{Normal}
 use Rattle.cal_base.specs.IsoSystem.{iso_date}
-use Rattle.cal_base.proofs.GregorianListLemmas.{month_at-gregorian, month_count-gregorian}
-use Rattle.cal_base.proofs.IsoLemmas.{iso_belongs-date, plain_month-small}
+use Rattle.cal_base.specs.GregorianLaws.{month_at-gregorian, month_count-gregorian}
+use Rattle.cal_base.specs.IsoLaws.{iso_belongs-date, plain_month-small}
 use Rattle.cal_base.proofs.iso_calendar.IsoCalendar.month.Goals as goal
 
 pub returns : goal.returns

@@ -1,6 +1,6 @@
 use Rattle.std.proofs.Common.{◌≡◌, ℤ, to_z, of_z, w32, arith}
 use Rattle.cal_days.proofs.Signed.{signed}
-use Rattle.cal_base.proofs.IsoLemmas.{iso_belongs-date, iso_belongs-valid, gregorian-ranged}
+use Rattle.cal_base.specs.IsoLaws.{iso_belongs-date, iso_belongs-valid, gregorian-ranged}
 use Rattle.cal_base.specs.IsoSystem.{iso_date}
 use Rattle.cal_base.proofs.iso_calendar.IsoCalendar.to_rata_die.Goals as goal
 

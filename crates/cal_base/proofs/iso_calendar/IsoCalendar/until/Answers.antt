@@ -1,5 +1,5 @@
 use Rattle.cal_base.specs.IsoSystem.{iso_date}
-use Rattle.cal_base.proofs.IsoLemmas.{iso_belongs-date, iso-difference}
+use Rattle.cal_base.specs.IsoLaws.{iso_belongs-date, iso-difference}
 use Rattle.cal_base.proofs.iso_calendar.IsoCalendar.until.Goals as goal
 
 pub returns : goal.returns

@@ -13,19 +13,22 @@ use Rattle.cal_types.specs.declared.duration.DateDurationUnit.{DateDurationUnit}
 use Rattle.cal_types.specs.declared.duration.DateDurationUnit.TheVariants.{Days}
 use Rattle.cal_model.specs.Difference.{IsDifference, largest_unit_of}
 use Rattle.cal_model.proofs.DifferenceLaws.{days-difference}
-use Rattle.cal_model.specs.CalendarList.{Date, IsDate, is_date, day_number, year_length}
+use Rattle.cal_model.specs.CalendarList.{Date, IsDate, IsValidDate, is_date, day_number, year_length}
 use Rattle.cal_model.proofs.DateTests.{is_date-true, and-left, and-right}
 use Rattle.cal_model.proofs.ListLemmas.{date-in_year}
 use Rattle.cal_base.specs.GregorianList.{gregorian_list}
 use Rattle.cal_base.specs.IsoSystem.{iso_date, iso_belongs}
 use Rattle.cal_base.specs.declared.iso_calendar.IsoDateInner.{IsoDateInner}
-use Rattle.cal_base.proofs.GregorianListLemmas.{start_of_year-gregorian, year_length-leap, gregorian_list-lawful}
+use Rattle.cal_base.specs.GregorianLaws.{start_of_year-gregorian, year_length-leap, gregorian_list-lawful}
 
 pub iso_belongs-date : (d : IsoDateInner) → IsTrue (iso_belongs d) → IsDate gregorian_list (iso_date d)
 iso_belongs-date d h = is_date-true gregorian_list (iso_date d) (and-left (is_date gregorian_list (iso_date d)) (is_valid_day (day_number gregorian_list (iso_date d))) h)
 
 pub iso_belongs-valid : (d : IsoDateInner) → IsTrue (iso_belongs d) → IsValidDay (day_number gregorian_list (iso_date d))
 iso_belongs-valid d h = is_between-true _ _ _ (and-right (is_date gregorian_list (iso_date d)) (is_valid_day (day_number gregorian_list (iso_date d))) h)
+
+pub iso_belongs-dated : (d : IsoDateInner) → IsTrue (iso_belongs d) → IsValidDate gregorian_list (iso_date d)
+iso_belongs-dated d h = record { date = iso_belongs-date d h; valid = iso_belongs-valid d h }
 
 length-most : (leap : Bool) → (if leap then 366 else 365) ≤ 366
 length-most leap = grind (arith, nat_tests)
