@@ -1,3 +1,4 @@
 pub mod AnySystem
+pub mod AnyLaws
 pub mod Spans
 pub mod SpanAnswers

@@ -28,6 +28,8 @@ pub enum AnyDateInner {
 impl UnstableSealed for AnyCalendar {}
 
 impl Calendar for AnyCalendar {
+    ghost use Rattle.icu_calendar.specs.AnyLaws.{any_lawful, any_dated, any_named};
+
     type DateInner = AnyDateInner;
 
     type Year = YearInfo;
@@ -83,6 +85,12 @@ impl Calendar for AnyCalendar {
             }
         }
     }
+
+    ghost lawful = { any_lawful };
+
+    ghost dated = { any_dated };
+
+    ghost named = { any_named };
 }
 
 impl AsCalendar for AnyCalendar {
