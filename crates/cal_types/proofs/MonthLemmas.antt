@@ -1,7 +1,7 @@
-use Rattle.std.proofs.Common.{◌≡◌, ℕ, ◌+◌, ◌-◌, ◌*◌, ◌/◌, ◌%◌, ◌<◌, ◌≤◌, Bool, true, false, List, [], ◌∷◌, Option, Some, None, refl, arith, rules}
+use Rattle.std.proofs.Common.{◌≡◌, ℕ, ◌≤◌, List, [], ◌∷◌, Some, arith, rules}
 use Rattle.std.proofs.lemmas.Bool.Decides.{nat_tests}
 use Rattle.std.proofs.lemmas.Grind.{common_steps}
-use Rattle.cal_types.specs.Month.{MonthParts, month_rank, code_text, month_read, leap_read}
+use Rattle.cal_types.specs.Month.{MonthParts, month_rank, code_text, month_read}
 
 -- a month code is read as its month
 pub month_read-code_text : (m : MonthParts) → m.number ≤ 99 → month_read (code_text m) ≡ Some m
