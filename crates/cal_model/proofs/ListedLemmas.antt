@@ -1,6 +1,6 @@
 -- What listed years say of a calendar that has them.
-use Rattle.std.proofs.Common.{◌≡◌, ℕ, zero, suc, ◌+◌, ◌-◌, ◌<◌, ◌≤◌, ◌⊎◌, inl, inr, None, List, [], ◌∷◌, length, take, map, sum_by, get_or, Option, Some, true, false, nat_le, slice_get, refl, sym, ap, subst, ◌∙◌, arith, ℤ, pos, ◌+ℤ◌, ◌-ℤ◌, ◌<ℤ◌, ◌≤ℤ◌}
-use Rattle.std.proofs.lemmas.List.{length-map, take-map, take_all}
+use Rattle.std.proofs.Common.{◌≡◌, ℕ, zero, suc, ◌+◌, ◌-◌, ◌<◌, ◌≤◌, ◌⊎◌, inl, inr, None, List, [], ◌∷◌, length, take, map, sum_by, get_or, Some, true, nat_le, slice_get, refl, sym, ap, arith, ℤ, pos, ◌+ℤ◌, ◌-ℤ◌, ◌<ℤ◌, ◌≤ℤ◌}
+use Rattle.std.proofs.lemmas.List.{length-map, take-map}
 use Rattle.std.proofs.lemmas.Bool.Decides.{nat_tests}
 use Rattle.std.proofs.lemmas.List.Folds.{list_all_at}
 use Rattle.std.proofs.lemmas.List.Sums.{sum_by-cons, sum_by_more, sum_by-take-le}
@@ -9,10 +9,10 @@ use Rattle.cal_days.specs.Sums.{years_up}
 use Rattle.cal_days.proofs.Signed.{signed, by_bool}
 use Rattle.cal_model.specs.declared.listed_years.ListedMonth.{ListedMonth}
 use Rattle.cal_model.specs.declared.listed_years.ListedYears.{ListedYears}
-use Rattle.cal_model.specs.CalendarList.{CalendarList, Date, date, Entry, days_of, month_count, month_length, year_length, start_of_year, days_before, day_number, HasPlace, IsDate, IsOn}
+use Rattle.cal_model.specs.CalendarList.{CalendarList, Date, date, days_of, month_count, year_length, start_of_year, days_before, day_number, HasPlace, IsDate}
 use Rattle.cal_model.specs.YearList.{YearList, are_short, days_in, days_in_years}
 use Rattle.cal_model.specs.ListedYears.{entry_of, IsListOf, IsListed}
-use Rattle.cal_model.proofs.ListLemmas.{start_of_year-next, days_before-next, days_before-later, days_before-end}
+use Rattle.cal_model.proofs.ListLemmas.{start_of_year-next, days_before-next}
 
 -- the days of listed months are those of their entries
 sum_by-entry_of : (months : List ListedMonth) → sum_by days_of (map entry_of months) ≡ days_in months

@@ -2,12 +2,13 @@
 use Rattle.std.proofs.Common.{◌≡◌, ℕ, ◌≤◌, Bool, true, false, cond, ◌&&◌, nat_le, min, max, Option, Some, None, Ok, Err, refl, subst, arith, ℤ}
 use Rattle.std.proofs.lemmas.Bool.Decides.{nat_tests}
 use Rattle.cal_days.specs.Day.{IsFieldYear, IsValidDay, is_field_year, is_valid_day}
+use Rattle.cal_types.specs.Month.{MonthParts}
 use Rattle.cal_types.specs.Bag.{Bag}
 use Rattle.cal_types.specs.declared.options.Overflow.{Overflow}
 use Rattle.cal_types.specs.declared.options.Overflow.TheVariants.{Constrain, Reject}
 use Rattle.cal_types.specs.declared.errors.DateFromFieldsError.{DateFromFieldsError}
 use Rattle.cal_types.specs.declared.errors.DateFromFieldsError.TheVariants.{Overflow as OutOfRange, InvalidDay}
-use Rattle.cal_model.specs.CalendarList.{CalendarList, Date, date, month_length, day_number, spot, IsDate, IsLawful}
+use Rattle.cal_model.specs.CalendarList.{CalendarList, Date, date, month_length, day_number, spot, HasPlace, IsDate, IsLawful}
 use Rattle.cal_model.specs.Resolving.{Resolved, after, required, field_year, month_of_kind, resolved_place, resolved_day, valid_date, resolve}
 use Rattle.cal_days.proofs.RangeLemmas.{is_between-true}
 use Rattle.cal_model.proofs.ListLemmas.{spot-place}
@@ -54,6 +55,23 @@ pub record IsResolved (c : CalendarList) (t : Date) : Type 0 where
   pub field_year : IsFieldYear t.year
   pub valid_day : IsValidDay (day_number c t)
 
+-- from a place of a year on
+day_of_place : (c : CalendarList) → IsLawful c → (o : Overflow) (y : ℤ) (i d : ℕ) (t : Date) → IsFieldYear y → HasPlace c y i → after (resolved_day (month_length c y i) o d) (λ (day : ℕ). valid_date c (date y i day)) ≡ Ok t → IsResolved c t
+day_of_place c law o y i d t field place e =
+    let step = after-ok (resolved_day (month_length c y i) o d) (λ (day : ℕ). valid_date c (date y i day)) t e in
+    let valid = valid_date-ok c (date y i step.0) t step.2 in
+    subst (IsResolved c) valid.0 record {
+      date = record { place = place; day = resolved_day-ok (month_length c y i) o d step.0 (law.lengths y i place).0 step.1 };
+      field_year = field;
+      valid_day = valid.1;
+    }
+
+-- from a year on
+day_of_year : (c : CalendarList) → IsLawful c → (o : Overflow) (y : ℤ) (m : MonthParts) (d : ℕ) (t : Date) → IsFieldYear y → after (resolved_place (spot c y m o)) (λ (i : ℕ). after (resolved_day (month_length c y i) o d) (λ (day : ℕ). valid_date c (date y i day))) ≡ Ok t → IsResolved c t
+day_of_year c law o y m d t field e =
+    let step = after-ok (resolved_place (spot c y m o)) (λ (i : ℕ). after (resolved_day (month_length c y i) o d) (λ (day : ℕ). valid_date c (date y i day))) t e in
+    day_of_place c law o y step.0 d t field (spot-place c y m o step.0 (resolved_place-ok (spot c y m o) step.0 step.1)) step.2
+
 -- resolved fields are a date of a year that fields may name, in the valid range
 pub resolve-is_resolved : (c : CalendarList) → IsLawful c → (bag : Bag) (o : Overflow) (t : Date) → resolve c bag o ≡ Ok t → IsResolved c t
 unfolding resolve
@@ -63,18 +81,8 @@ resolve-is_resolved c law bag o t e =
     let of_year = after-ok (required bag.extended_year) _ t of_month.2 in
     let in_range = after-ok (field_year of_year.0) _ t of_year.2 in
     let of_kind = after-ok (month_of_kind c of_month.0) _ t in_range.2 in
-    let of_place = after-ok (resolved_place (spot c in_range.0 of_kind.0 o)) _ t of_kind.2 in
-    let of_date = after-ok (resolved_day (month_length c in_range.0 of_place.0) o of_day.0) _ t of_place.2 in
-    let y = in_range.0 in let i = of_place.0 in let day = of_date.0 in
-    let year = field_year-ok of_year.0 y in_range.1 in
-    let place = spot-place c y of_kind.0 o i (resolved_place-ok (spot c y of_kind.0 o) i of_place.1) in
-    let fits = resolved_day-ok (month_length c y i) o of_day.0 day (law.lengths y i place).0 of_date.1 in
-    let valid = valid_date-ok c (date y i day) t of_date.2 in
-    subst (IsResolved c) valid.0 record {
-      date = record { place = place; day = fits };
-      field_year = subst IsFieldYear year.0 year.1;
-      valid_day = valid.1;
-    }
+    let year = field_year-ok of_year.0 in_range.0 in_range.1 in
+    day_of_year c law o in_range.0 of_kind.0 of_day.0 t (subst IsFieldYear year.0 year.1) of_kind.2
 
 -- resolved fields are a date in the valid range
 pub resolve-date : (c : CalendarList) → IsLawful c → (bag : Bag) (o : Overflow) (t : Date) → resolve c bag o ≡ Ok t → IsDate c t × IsValidDay (day_number c t)

@@ -6,5 +6,7 @@
 #![tactic(auto)]
 
 pub mod listed_years;
+#[cfg(test)]
+mod tests;
 
 pub use listed_years::{ListedDate, ListedMonth, ListedYears};

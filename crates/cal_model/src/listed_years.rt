@@ -43,7 +43,11 @@ pub struct ListedYears<'a> {
 impl<'a> ListedYears<'a> {
     /// Years from `first_year` on, the first of which starts on day number `first_day`. At most 10000 years
     /// of at most 13 months, from year -8000000 to 8000000.
-    pub const fn new(first_year: i32, first_day: i64, years: &'a [&'a [ListedMonth]]) -> ListedYears<'a>
+    pub const fn new(
+        first_year: i32,
+        first_day: i64,
+        years: &'a [&'a [ListedMonth]],
+    ) -> ListedYears<'a>
         requires year { IsRuleYear first_year }
         requires day { IsNear first_day }
         requires few { length years.now ≤ 10000 }

@@ -1,24 +1,19 @@
 //! Counting through the listed years, year by year and month by month.
 
-ghost use Rattle.std.specs.Prelude.{◌≡◌, ◌+◌, ◌-◌, ◌<◌, ◌≤◌, length, take, MatchOption, pos, ◌+ℤ◌};
-ghost use Rattle.cal_model.specs.CalendarList.{date};
+ghost use Rattle.std.specs.Prelude.{◌≡◌, ◌+◌, ◌-◌, ◌<◌, ◌≤◌, length, take, IfSome, MatchOption, pos, ◌+ℤ◌};
+ghost use Rattle.cal_types.specs.declared.duration.DateDurationUnit.TheVariants.{Days};
 ghost use Rattle.cal_model.specs.YearList.{days_in, days_in_years};
-ghost use Rattle.cal_model.specs.ListedYears.{IsDateOn, IsDayNumberOf, IsListed};
+ghost use Rattle.cal_model.specs.ListedYears.{IsDateOn, IsDayNumberOf, IsDaysAfterFirst, IsDifferenceOf, IsListed, date_of};
 
 use super::{ListedDate, ListedMonth, ListedYears};
+use cal_types::DateDuration;
 
 impl<'a> ListedYears<'a> {
     /// The day number of a date. `None` exactly where its year isn't listed or has no such date.
-    pub fn day_number(&self, year: i32, month: u8, day: u8) -> Option<i64>
-        ensures { IsDayNumberOf self.now (date year month day) result }
+    pub fn day_number(&self, date: ListedDate) -> Option<i64>
+        ensures { IsDayNumberOf self.now (date_of date) result }
     {
-        let index = self.index_of(year)?;
-        let months = self.years[index];
-        let place = usize::from(month);
-        if place == 0 || place > months.len() || day == 0 || day > months[place - 1].days {
-            return None;
-        }
-        let days = self.days_before_year(index) + days_in(&months[..place - 1]) + u32::from(day - 1);
+        let days = self.days_after_first(date)?;
         Some(self.first_day + i64::from(days))
     }
 
@@ -36,11 +31,46 @@ impl<'a> ListedYears<'a> {
             let days = days_in(months);
             if left < days {
                 let (month, day) = place_and_day(months, left);
-                return Some(ListedDate { year: self.first_year + index as i32, month, day });
+                return Some(ListedDate {
+                    year: self.first_year + index as i32,
+                    month,
+                    day,
+                });
             }
             left -= days;
         }
         unreachable!()
+    }
+
+    /// The difference of two dates in days. `None` exactly where one of them isn't a date of a listed year.
+    pub fn difference_in_days(&self, from: ListedDate, to: ListedDate) -> Option<DateDuration>
+        ensures { IsDifferenceOf self.now (date_of from) (date_of to) Days result }
+    {
+        let start = self.days_after_first(from)?;
+        let end = self.days_after_first(to)?;
+        Some(DateDuration {
+            is_negative: end < start,
+            years: 0,
+            months: 0,
+            weeks: 0,
+            days: end.abs_diff(start),
+        })
+    }
+
+    /// How many days after the first day a date lies. `None` exactly where its year isn't listed or has no
+    /// such date.
+    fn days_after_first(&self, date: ListedDate) -> Option<u32>
+        ensures value { IsDaysAfterFirst self.now (date_of date) result }
+        ensures bound { IfSome result (λ n. n ≤ 33153570) }
+    {
+        let ListedDate { year, month, day } = date;
+        let index = self.index_of(year)?;
+        let months = self.years[index];
+        let place = usize::from(month);
+        if place == 0 || place > months.len() || day == 0 || day > months[place - 1].days {
+            return None;
+        }
+        Some(self.days_before_year(index) + days_in(&months[..place - 1]) + u32::from(day - 1))
     }
 
     /// Where a year stands in the list, from 0.
@@ -49,7 +79,11 @@ impl<'a> ListedYears<'a> {
     {
         let after = i64::from(year) - i64::from(self.first_year);
         let index = usize::try_from(after).ok()?;
-        if index < self.years.len() { Some(index) } else { None }
+        if index < self.years.len() {
+            Some(index)
+        } else {
+            None
+        }
     }
 
     /// The days of the listed years before the one at `index`.

@@ -1,12 +1,10 @@
-use Rattle.std.proofs.Common.{◌≡◌, ℕ, ◌+◌, ◌-◌, ◌<◌, ◌≤◌, length, take, get_or, Some, slice_get, sym, ap, arith, ℤ, pos, ◌+ℤ◌, to_z, of_z, w32, w64}
+use Rattle.std.proofs.Common.{◌≡◌, ◌+◌, ◌-◌, ◌≤◌, length, take, get_or, ap, arith, pos, ◌+ℤ◌, to_z, of_z, w32}
 use Rattle.std.proofs.lemmas.List.{take_all}
 use Rattle.std.proofs.lemmas.Option.{slice_get-get_or}
 use Rattle.cal_days.specs.Day.{IsRuleYear}
 use Rattle.cal_days.proofs.Signed.{signed, signed_casts}
-use Rattle.cal_model.specs.CalendarList.{CalendarList, Date, date, IsDate, IsOn, day_number}
-use Rattle.cal_model.specs.YearList.{YearList, days_in, days_in_years}
-use Rattle.cal_model.specs.ListedYears.{IsListOf, IsListed}
-use Rattle.cal_model.proofs.ListedLemmas.{month_count-short, is_listed, day_number-listed, day_number-in_years, days_in_years-next, listed-date}
+use Rattle.cal_model.specs.YearList.{days_in, days_in_years}
+use Rattle.cal_model.proofs.ListedLemmas.{month_count-short, is_listed, day_number-listed, day_number-in_years, listed-date}
 use Rattle.cal_model.proofs.listed_years.ListedYears.date_on.Goals as goal
 use Rattle.cal_model.proofs.listed_years.ListedYears.date_on.Goals.{then-day-self-via-then-day-self, then-day-self-via-else-day-self+then-day-self-2}
 
@@ -16,9 +14,9 @@ returns-then-day-self c k list t listed on =
     let within = day_number-in_years k l list t listed on.date in
     let whole = ap days_in_years (take_all (length l.years.now) l.years.now (omega arith)) in
     elim c.then-day-self.branch [
-      then-day-self-via-then-day-self w ↦ omega (arith, signed, within, on.day, w.if-day-self.true)
-    | then-day-self-via-else-day-self+then-day-self-2 w ↦
-        omega (arith, signed, within, on.day, whole, c.days_before_year-all.ensures.value, c.days_before_year-all.ensures.bound, w.from.ensures, w.if-day-self-2.true)
+      | then-day-self-via-then-day-self w ↦ omega (arith, signed, within, on.day, w.if-day-self.true)
+      | then-day-self-via-else-day-self+then-day-self-2 w ↦
+          omega (arith, signed, within, on.day, whole, c.days_before_year-all.ensures.value, c.days_before_year-all.ensures.bound, w.from.ensures, w.if-day-self-2.true)
     ]
 
 pub days_in-days-requires : goal.days_in-days-requires
@@ -38,8 +36,10 @@ returns-then-left-days c k list =
     let place = c.place_and_day-month.result.0 in
     let day = c.place_and_day-month.result.1 in
     let e = c.place_and_day-month.ensures in
-    let within : days_in (take (place - 1) months.now) + day ≤ days_in (take place months.now) = omega (arith, e.day, e.within, e.value) in
-    (is_listed k l list index months there y year, record {
-      date = listed-date k l list index months there y year place day e.place.0 e.place.1 e.day within;
-      day = omega (arith, signed, day_number-listed k l list index months there y year place day, e.value, c.loop-index.invariant, c.if-day-self.false, c.if-day-self-2.false, c.from.ensures, c.days_before_year-all.ensures.bound);
-    })
+    let within : days_in (take (place - 1) months.now) + day ≤ days_in (take place months.now) = omega (arith, e.day, e.within, e.value) in (
+      is_listed k l list index months there y year,
+      record {
+        date = listed-date k l list index months there y year place day e.place.0 e.place.1 e.day within;
+        day = omega (arith, signed, day_number-listed k l list index months there y year place day, e.value, c.loop-index.invariant, c.if-day-self.false, c.if-day-self-2.false, c.from.ensures, c.days_before_year-all.ensures.bound);
+      },
+    )
