@@ -21,10 +21,10 @@ unseen-none : (chunk : List ℕ) (at : ℕ) → unseen chunk at at ≡ []
 unseen-none chunk at = let none : at - at ≡ 0 = omega arith in ap (λ (m : ℕ). take m (drop at chunk)) none
 
 -- an LF was found
-pub gives_line : (r q : Reader) (old new : LineBuffer) (bytes : List ℕ) (lines : List (List ℕ)) (n : ℕ)
+pub gives_line : (r q : Reader) (old new : LineBuffer) (bytes : List ℕ) (lines : List (List ℕ)) (before : List ℕ) (n : ℕ)
     → q.chunk ≡ r.chunk → q.at ≡ r.at + n → q.end ≡ r.end → q.total ≡ r.total → q.beyond ≡ r.beyond → n ≤ length (unseen r.chunk r.at r.end)
-    → (m : IsAt r old bytes lines) → EndsLine new (take n (unseen r.chunk r.at r.end)) m.looked → GivesLine q new bytes lines
-gives_line r q old new bytes lines n chunk at end total beyond le m e =
+    → (m : IsAt r bytes lines before) → EndsLine new (take n (unseen r.chunk r.at r.end)) m.looked → GivesLine q new bytes lines
+gives_line r q old new bytes lines before n chunk at end total beyond le m e =
     let all = unseen r.chunk r.at r.end in
     let rest : unseen q.chunk q.at q.end ≡ drop n all =
     ap (λ c. unseen c q.at q.end) chunk ∙ (ap (λ k. unseen r.chunk k q.end) at ∙ (ap (λ k. unseen r.chunk (r.at + n) k) end ∙ unseen-add r.chunk r.at r.end n le)) in
@@ -33,7 +33,7 @@ gives_line r q old new bytes lines n chunk at end total beyond le m e =
     record {
       line = e.line;
       holds = e.holds;
-      goes_on = λ cleared empty. record {
+      at = record {
         looked = m.looked ++ take n all;
         seen = record {
           parts = ap (λ y. (m.looked ++ take n all) ++ y) rest ∙ seen;
@@ -41,7 +41,7 @@ gives_line r q old new bytes lines n chunk at end total beyond le m e =
           more = beyond ∙ m.seen.more;
         };
         given = given;
-        holds = subst (λ (y : List ℕ). Holds cleared y) (sym e.rest) empty;
+        behind = e.rest;
       };
       count = omega (arith, ap length given, length-append lines (e.line ∷ []), length-closed_lines (m.looked ++ take n all), ap length seen, length-append (m.looked ++ take n all) (drop n all), length-take limit bytes);
     }
@@ -53,8 +53,8 @@ pub record Ended (total : ℕ) (beyond : Bool) (new : LineBuffer) (bytes : List 
   pub given : closed_lines (take limit bytes) ≡ lines
   pub holds : Holds new (open_line (take limit bytes))
 
-pub ended : (r : Reader) (old new : LineBuffer) (bytes : List ℕ) (lines : List (List ℕ)) → (m : IsAt r old bytes lines) → GoesOn new (unseen r.chunk r.at r.end) m.looked → Ended r.total r.beyond new bytes lines
-ended r old new bytes lines m e = record {
+pub ended : (r : Reader) (new : LineBuffer) (bytes : List ℕ) (lines : List (List ℕ)) (before : List ℕ) → (m : IsAt r bytes lines before) → GoesOn new (unseen r.chunk r.at r.end) m.looked → Ended r.total r.beyond new bytes lines
+ended r new bytes lines before m e = record {
   size = m.seen.size;
   more = m.seen.more;
   given = ap closed_lines (sym m.seen.parts) ∙ (e.closed ∙ m.given);
@@ -80,7 +80,7 @@ gives_all q beyond new bytes lines used same within e =
           more = same ∙ e.more;
         };
         given = e.given;
-        holds = e.holds;
+        behind = ap open_line whole;
       };
       size = small;
       all = ap closed_lines (sym whole) ∙ e.given;
@@ -120,9 +120,9 @@ looked_on old chunk at end total count within b g used is some fits small h =
     }
 
 -- the reader behind a read
-pub filled : (r q : Reader) (line : LineBuffer) (count within : ℕ) (bytes : List ℕ) (lines : List (List ℕ)) → IsSpent r → q.at ≡ 0 → q.end ≡ within → q.total ≡ r.total + within → q.beyond ≡ nat_lt within count
-    → within ≡ min count (limit - r.total) → 0 < count → count ≤ length q.chunk → r.total ≤ limit → IsAt r line bytes lines → IsAt q line (bytes ++ take count q.chunk) lines
-filled r q line count within bytes lines spent at end total beyond is some fits small m =
+pub filled : (r q : Reader) (count within : ℕ) (bytes : List ℕ) (lines : List (List ℕ)) (before : List ℕ) → IsSpent r → q.at ≡ 0 → q.end ≡ within → q.total ≡ r.total + within → q.beyond ≡ nat_lt within count
+    → within ≡ min count (limit - r.total) → 0 < count → count ≤ length q.chunk → r.total ≤ limit → IsAt r bytes lines before → IsAt q (bytes ++ take count q.chunk) lines before
+filled r q count within bytes lines before spent at end total beyond is some fits small m =
     let on = looked_on r.chunk q.chunk r.at r.end r.total count within bytes m.looked spent.used is some fits small
     (subst (λ b. HasLooked (unseen r.chunk r.at r.end) r.total b bytes m.looked) spent.within m.seen) in
     record {
@@ -133,5 +133,5 @@ filled r q line count within bytes lines spent at end total beyond is some fits 
         more = beyond ∙ on.more;
       };
       given = m.given;
-      holds = m.holds;
+      behind = m.behind;
     }

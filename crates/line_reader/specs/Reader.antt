@@ -34,26 +34,26 @@ pub record HasLooked (unseen : List ℕ) (total : ℕ) (beyond : Bool) (bytes lo
   pub size : total ≡ length (take limit bytes)
   pub more : beyond ≡ nat_lt limit (length bytes)
 
--- these bytes came, these lines were given, and the line holds what was looked at behind them
-pub record IsAt (r : Reader) (line : LineBuffer) (bytes : List ℕ) (lines : List (List ℕ)) : Type 0 where
+-- these bytes came, these lines were given, and behind them this rest was looked at
+pub record IsAt (r : Reader) (bytes : List ℕ) (lines : List (List ℕ)) (rest : List ℕ) : Type 0 where
   pub looked : List ℕ
   pub seen : HasLooked (unseen r.chunk r.at r.end) r.total r.beyond bytes looked
   pub given : closed_lines looked ≡ lines
-  pub holds : Holds line (open_line looked)
+  pub behind : open_line looked ≡ rest
 
--- the next line; behind it the reader stands with an empty one
+-- the next line
 pub record GivesLine (r : Reader) (buffer : LineBuffer) (bytes : List ℕ) (lines : List (List ℕ)) : Type 0 where
   pub line : List ℕ
   pub holds : Holds buffer line
-  pub goes_on : (cleared : LineBuffer) → Holds cleared [] → IsAt r cleared bytes (lines ++ line ∷ [])
+  pub at : IsAt r bytes (lines ++ line ∷ []) []
   pub count : length lines + 1 ≤ limit
 
 -- all bytes that came were looked at, and their lines given
 pub record GivesAll (r : Reader) (buffer : LineBuffer) (bytes : List ℕ) (lines : List (List ℕ)) : Type 0 where
-  pub at : IsAt r buffer bytes lines
+  pub at : IsAt r bytes lines (open_line bytes)
+  pub holds : Holds buffer (open_line bytes)
   pub size : length bytes ≤ limit
   pub all : lines_in bytes false ≡ lines
-  pub holds : Holds buffer (open_line bytes)
 
 -- more bytes came than are read, and the lines of those within the limit were given
 pub record GivesTooLong (bytes : List ℕ) (lines : List (List ℕ)) : Type 0 where
