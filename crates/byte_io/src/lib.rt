@@ -9,6 +9,8 @@
 mod memory;
 mod plain;
 mod standard;
+#[cfg(test)]
+mod tests;
 
 ghost use Rattle.std.specs.Prelude.{ℕ, List, Option};
 ghost use Rattle.std.specs.Io.{ReadsAtMost, WritesAtMost};

@@ -13,11 +13,12 @@ pub struct StdSource<R> {
 }
 
 impl<R: Read> StdSource<R> {
-    ghost use Rattle.byte_io.specs.Standard.{std_source_faults};
+    ghost use Rattle.byte_io.specs.Standard.{std_source_faults, std_source_inner};
 
     /// A source over `inner` that has counted no fault.
     pub fn new(inner: R) -> Self
-        ensures { std_source_faults result ≡ 0 }
+        ensures inner { std_source_inner result ≡ inner }
+        ensures faults { std_source_faults result ≡ 0 }
     {
         StdSource { inner, faults: 0 }
     }
@@ -27,7 +28,7 @@ impl<R: Read> Source for StdSource<R> {
     ghost use Rattle.std.specs.Io.{ReadsAtMost};
     ghost use Rattle.std.specs.Io.KnownBytes.{ReadConsumes};
     ghost use Rattle.byte_io.specs.Faults.{HasCause, CountsFault};
-    ghost use Rattle.byte_io.specs.Standard.{std_source_faults};
+    ghost use Rattle.byte_io.specs.Standard.{std_source_faults, std_source_inner};
 
     ghost left = { λ _. None };
 
@@ -38,6 +39,9 @@ impl<R: Read> Source for StdSource<R> {
         ensures bytes { ReadConsumes None None result buf.new }
         ensures cause { HasCause (std_source_faults self.old) (std_source_faults self.new) result }
         ensures counts { CountsFault (std_source_faults self.old) (std_source_faults self.new) result }
+
+        // The bytes are the reader's.
+        ensures inner { ReadConsumes (R.remaining (std_source_inner self.old)) (R.remaining (std_source_inner self.new)) result buf.new }
     {
         match self.inner.read(buf) {
             Ok(count) => Ok(count),
@@ -58,11 +62,12 @@ pub struct StdSink<W> {
 }
 
 impl<W: Write> StdSink<W> {
-    ghost use Rattle.byte_io.specs.Standard.{std_sink_faults};
+    ghost use Rattle.byte_io.specs.Standard.{std_sink_faults, std_sink_inner};
 
     /// A sink over `inner` that has counted no fault.
     pub fn new(inner: W) -> Self
-        ensures { std_sink_faults result ≡ 0 }
+        ensures inner { std_sink_inner result ≡ inner }
+        ensures faults { std_sink_faults result ≡ 0 }
     {
         StdSink { inner, faults: 0 }
     }
@@ -73,7 +78,7 @@ impl<W: Write> Sink for StdSink<W> {
     ghost use Rattle.std.specs.Io.KnownBytes.{WriteAppends};
     ghost use Rattle.byte_io.specs.Bytes.{WritesSome};
     ghost use Rattle.byte_io.specs.Faults.{HasCause, CountsFault};
-    ghost use Rattle.byte_io.specs.Standard.{std_sink_faults};
+    ghost use Rattle.byte_io.specs.Standard.{std_sink_faults, std_sink_inner};
 
     ghost taken = { λ _. None };
 
@@ -85,6 +90,9 @@ impl<W: Write> Sink for StdSink<W> {
         ensures some { WritesSome result piece.now }
         ensures cause { HasCause (std_sink_faults self.old) (std_sink_faults self.new) result }
         ensures counts { CountsFault (std_sink_faults self.old) (std_sink_faults self.new) result }
+
+        // The bytes go to the writer.
+        ensures inner { WriteAppends (W.contents (std_sink_inner self.old)) (W.contents (std_sink_inner self.new)) result piece.now }
     {
         match self.inner.write(piece) {
             Ok(count) if count > 0 || piece.is_empty() => Ok(count),
