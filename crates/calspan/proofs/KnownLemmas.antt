@@ -53,13 +53,6 @@ prefix_behind w x y (rest, e) = (rest, ap (λ r. w ++ r) e ∙ sym (append_assoc
 pub wrote_behind : (a b c : Option (List ℕ)) (x y : List ℕ) → Appends a b x → WroteFront b c y → WroteFront a c (x ++ y)
 wrote_behind a b c x y p (front, q, more) = (x ++ front, appends_then a b c x front p q, prefix_behind x front y more)
 
--- the same, where nothing more was written
-pub wrote_only : (a b c : Option (List ℕ)) (x y : List ℕ) → Appends a b x → Keeps b c → WroteFront a c (x ++ y)
-wrote_only a b c x y p q = (x, appends_keeps a b c x p q, prefix_more x x y (prefix_all x))
-
-pub wrote_more : (a b : Option (List ℕ)) (x y : List ℕ) → WroteFront a b x → WroteFront a b (x ++ y)
-wrote_more a b x y (front, q, more) = (front, q, prefix_more front x y more)
-
 -- a piece of a text more
 pub sent_more : (a b c : Option (List ℕ)) (text : List ℕ) (at n : ℕ) → Appends a b (take at text) → Appends b c (take n (take (length text - at) (drop at text))) → Appends a c (take (at + n) text)
 sent_more a b c text at n p q =

@@ -1,8 +1,6 @@
 -- A run, line by line.
-use Rattle.std.proofs.Common.{◌≡◌, ℕ, ◌+◌, ◌≤◌, Bool, true, false, cond, List, [], ◌∷◌, ◌++◌, length, take, eqb, Option, Some, None, Result, Ok, Err, IfOk, OnErr, IfSome, refl, arith, ◌∙◌, sym, ap, subst}
+use Rattle.std.proofs.Common.{◌≡◌, ℕ, ◌+◌, ◌≤◌, Bool, true, false, cond, List, [], ◌∷◌, ◌++◌, length, take, Option, Some, None, Result, Ok, Err, IfOk, OnErr, IfSome, refl, arith, ◌∙◌, sym, ap, subst}
 use Rattle.std.proofs.lemmas.List.{append-nil, append_assoc, length_push, length-append}
-use Rattle.std.proofs.lemmas.Bool.{eqb-true, eqb-false, lt-ltb}
-use borrow.Author.Tests.{le-ltb}
 use Rattle.std.specs.Io.KnownBytes.{Appends, Consumes, IsAtEnd, Keeps}
 use Rattle.byte_io.specs.Faults.{Rose}
 use Rattle.byte_io.specs.declared.Failed.{Failed}
@@ -20,7 +18,7 @@ use Rattle.calspan.specs.Written.{WroteFront, Stands, StandsShort, AllWritten, C
 use Rattle.calspan.specs.Underway.{IsUnderway}
 use Rattle.calspan.specs.Run.{Outside, outside, AnsweredAll, StoppedReading, StoppedWriting, TookTooMuch, Serves, NoFault, IsAnswered, limit}
 use Rattle.calspan.proofs.AnswerLemmas.{AreAnswers-push, answers_front}
-use Rattle.calspan.proofs.KnownLemmas.{appends_none, appends_then, consumes_none, consumes_then, consumes_keeps, wrote_behind, prefix_then}
+use Rattle.calspan.proofs.KnownLemmas.{appends_then, consumes_then, consumes_keeps, wrote_behind, prefix_then}
 
 -- what was pending is written
 pub stands_written : (before mid now : Option (List ℕ)) (pending none : List ℕ) (lines : List (List ℕ)) (s : Standing) → Stands before mid pending lines s → Appends mid now pending → none ≡ [] → Stands before now none lines s
@@ -70,14 +68,6 @@ all_written before now none lines s status h e ends = record {
   answers = subst (λ (t : List ℕ). AreAnswers lines 1 begin t s) (ap (λ t. h.written ++ t) e ∙ append-nil h.written) h.answers;
   ends = ends;
 }
-
-pub with_open_line-empty : (closed : List (List ℕ)) (last : List ℕ) → true ≡ eqb (length last) 0 → closed ≡ with_open_line closed last
-with_open_line-empty closed last e =
-    sym (ap (λ t. cond t (closed ++ last ∷ []) closed) (le-ltb 0 (length last) (omega (arith, eqb-true (length last) 0 (sym e)))))
-
-pub with_open_line-some : (closed : List (List ℕ)) (last : List ℕ) → false ≡ eqb (length last) 0 → closed ++ last ∷ [] ≡ with_open_line closed last
-with_open_line-some closed last e =
-    sym (ap (λ t. cond t (closed ++ last ∷ []) closed) (lt-ltb 0 (length last) (omega (arith, eqb-false (length last) 0 (sym e)))))
 
 -- the next line was answered
 pub line_on : (old : Outside) (l t t2 : Option (List ℕ)) (r w w2 : ℕ) (reader q : Reader) (line buffer cleared : LineBuffer) (pending new : List ℕ) (s next : Standing) → (h : IsUnderway old (outside l t r w) reader line pending s)
@@ -209,21 +199,6 @@ consumes_end a b c x p q = subst (λ (y : List ℕ). Consumes a c y) (append-nil
 -- the lines of the whole input
 pub lines_in-whole : (bytes : List ℕ) (lines : List (List ℕ)) → lines_in bytes false ≡ lines → lines_in bytes true ≡ with_open_line lines (open_line bytes)
 lines_in-whole bytes lines all = ap (λ y. with_open_line y (open_line bytes)) all
-
--- before the first read
-pub underway_first : (old : Outside) (r : Reader) (line : LineBuffer) (pending : List ℕ) (s : Standing) → IsAt r [] [] [] → Holds line [] → lines_given r ≡ 0 → pending ≡ [] → s ≡ begin → IsUnderway old old r line pending s
-underway_first old r line pending s at holds none empty first = record {
-  bytes = [];
-  lines = [];
-  rest = [];
-  took = consumes_none old.left;
-  at = at;
-  holds = holds;
-  counted = none;
-  stands = record { written = []; wrote = appends_none old.taken; answers = (empty, first) };
-  read_later = omega arith;
-  write_later = omega arith;
-}
 
 all_taken : (l : Option (List ℕ)) (input b : List ℕ) → Consumes (Some input) l b → IsAtEnd l → b ≡ input
 all_taken None input b took end = absurd took

@@ -8,6 +8,8 @@
 
 mod buffer;
 mod reader;
+#[cfg(test)]
+mod tests;
 
 pub use buffer::LineBuffer;
 pub use reader::{Filled, LIMIT, Next, Reader};
