@@ -1,0 +1,5 @@
+pub mod Faults
+pub mod Bytes
+pub mod Memory
+pub mod Plain
+pub mod Standard

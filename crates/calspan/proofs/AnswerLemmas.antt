@@ -1,0 +1,91 @@
+-- The answers to lines: there are some, there is one text only, and they follow one another.
+use Rattle.std.proofs.Common.{◌≡◌, ℕ, ◌+◌, Bool, true, false, cond, List, [], ◌∷◌, ◌++◌, length, nat_lt, refl, arith, ◌∙◌, sym, ap, subst, codes}
+use Rattle.std.proofs.lemmas.List.{append-nil, append_assoc}
+use Rattle.line_reader.specs.Lines.{closed_lines, open_line, lines_in}
+use Rattle.line_reader.proofs.PartLemmas.{closed_lines-front}
+use Rattle.calspan.specs.Texts.{about_line}
+use Rattle.calspan.specs.Lines.{Line, Nothing, Long, Unbuilt, line_of}
+use Rattle.calspan.specs.Answers.{Standing, begin, refusing, IsAnswerTo, AreAnswers, status_of}
+use Rattle.calspan.specs.Laws.{EveryInputHasAnswers, AnswersAreUnique, AnswersToFrontAreFront}
+
+-- there is an answer to each line
+pub answer_exists : (line : Line) (n : ℕ) (s : Standing) → (text : List ℕ) × (next : Standing) × IsAnswerTo line n s text next
+answer_exists Nothing n s = ([], s, (refl, refl))
+answer_exists Long n s = (about_line (codes "err line ") n (codes "long"), refusing s, (refl, refl))
+answer_exists Unbuilt n s = (about_line (codes "err line ") n (codes "unbuilt"), refusing s, (refl, refl))
+
+-- there is one answer to a line
+pub answer_unique : (line : Line) (n : ℕ) (s : Standing) (a b : List ℕ) (p q : Standing) → IsAnswerTo line n s a p → IsAnswerTo line n s b q → (a ≡ b) × (p ≡ q)
+answer_unique Nothing n s a b p q (x, e) (y, f) = (x ∙ sym y, e ∙ sym f)
+answer_unique Long n s a b p q (x, e) (y, f) = (x ∙ sym y, e ∙ sym f)
+answer_unique Unbuilt n s a b p q (x, e) (y, f) = (x ∙ sym y, e ∙ sym f)
+
+-- there are answers to lines
+pub answers_exist : (lines : List (List ℕ)) (n : ℕ) (s : Standing) → (text : List ℕ) × (end : Standing) × AreAnswers lines n s text end
+answers_exist [] n s = ([], s, (refl, refl))
+answers_exist (line ∷ more) n s =
+    let (added, next, answer) = answer_exists (line_of line) n s in
+    let (rest, end, answers) = answers_exist more (n + 1) next in
+    (added ++ rest, end, (added, rest, next, answer, refl, answers))
+
+-- there is one text for lines, and one standing behind them
+pub answers_unique : (lines : List (List ℕ)) (n : ℕ) (s : Standing) (a b : List ℕ) (p q : Standing) → AreAnswers lines n s a p → AreAnswers lines n s b q → (a ≡ b) × (p ≡ q)
+answers_unique [] n s a b p q (x, e) (y, f) = (x ∙ sym y, e ∙ sym f)
+answers_unique (line ∷ more) n s a b p q (added, rest, next, answer, x, answers) (added', rest', next', answer', y, answers') =
+    let (same, stands) = answer_unique (line_of line) n s added added' next next' answer answer' in
+    let others : AreAnswers more (n + 1) next rest' q = subst (λ (t : Standing). AreAnswers more (n + 1) t rest' q) (sym stands) answers' in
+    let (same_rest, ends) = answers_unique more (n + 1) next rest rest' p q answers others in
+    (x ∙ (ap (λ t. t ++ rest) same ∙ (ap (λ t. added' ++ t) same_rest ∙ sym y)), ends)
+
+-- the answers to some lines, and to those that follow
+pub AreAnswers-append : (lines more : List (List ℕ)) (n : ℕ) (s m e : Standing) (a b : List ℕ) → AreAnswers lines n s a m → AreAnswers more (n + length lines) m b e → AreAnswers (lines ++ more) n s (a ++ b) e
+AreAnswers-append [] more n s m e a b (x, stands) answers =
+    let none : n + 0 ≡ n = omega arith in
+    let from_s : AreAnswers more (n + 0) s b e = subst (λ (t : Standing). AreAnswers more (n + 0) t b e) stands answers in
+    let at_n : AreAnswers more n s b e = subst (λ (k : ℕ). AreAnswers more k s b e) none from_s in
+    subst (λ (t : List ℕ). AreAnswers more n s t e) (ap (λ t. t ++ b) (sym x)) at_n
+AreAnswers-append (line ∷ lines) more n s m e a b (added, rest, next, answer, x, answers) others =
+    let count : n + length (line ∷ lines) ≡ n + 1 + length lines = omega arith in
+    let behind = AreAnswers-append lines more (n + 1) next m e rest b answers (subst (λ (k : ℕ). AreAnswers more k m b e) count others) in
+    (added, rest ++ b, next, answer, ap (λ t. t ++ b) x ∙ append_assoc added rest b, behind)
+
+-- one line more
+pub AreAnswers-push : (lines : List (List ℕ)) (line : List ℕ) (number : ℕ) (s m e : Standing) (a b : List ℕ) → number ≡ length lines + 1 → AreAnswers lines 1 s a m → IsAnswerTo (line_of line) number m b e → AreAnswers (lines ++ line ∷ []) 1 s (a ++ b) e
+AreAnswers-push lines line number s m e a b is answers answer =
+    let count : number ≡ 1 + length lines = omega arith in
+    AreAnswers-append lines (line ∷ []) 1 s m e a b answers
+    (b, [], e, subst (λ (k : ℕ). IsAnswerTo (line_of line) k m b e) count answer, sym (append-nil b), (refl, refl))
+
+-- the answers to the first lines are a front of the answers to all
+pub answers_front : (lines more : List (List ℕ)) (s m : Standing) (a : List ℕ) → AreAnswers lines 1 s a m → (rest : List ℕ) × (end : Standing) × AreAnswers (lines ++ more) 1 s (a ++ rest) end
+answers_front lines more s m a answers =
+    let (rest, end, others) = answers_exist more (1 + length lines) m in
+    (rest, end, AreAnswers-append lines more 1 s m end a rest answers others)
+
+pub every_input_has : EveryInputHasAnswers
+every_input_has bytes whole =
+    let (text, end, answers) = answers_exist (lines_in bytes whole) 1 begin in
+    (text, status_of end, record { end = end; answers = answers; ends = refl })
+
+pub are_unique : AnswersAreUnique
+are_unique bytes whole a b s t p q =
+    let (same, ends) = answers_unique (lines_in bytes whole) 1 begin a b p.end q.end p.answers q.answers in
+    (same, p.ends ∙ (ap status_of ends ∙ sym q.ends))
+
+-- the lines of what has come of an input are the first of those of what comes of it later
+pub lines_in-front : (bytes more : List ℕ) (whole : Bool) → (others : List (List ℕ)) × (lines_in (bytes ++ more) whole ≡ lines_in bytes false ++ others)
+lines_in-front bytes more false = closed_lines-front bytes more
+lines_in-front bytes more true =
+    let (others, e) = closed_lines-front bytes more in
+    opened (nat_lt 0 (length (open_line (bytes ++ more)))) (closed_lines (bytes ++ more)) (closed_lines bytes) others (open_line (bytes ++ more)) e
+  where
+    opened : (c : Bool) (all first others : List (List ℕ)) (last : List ℕ) → all ≡ first ++ others → (rest : List (List ℕ)) × (cond c (all ++ last ∷ []) all ≡ first ++ rest)
+    opened true all first others last e = (others ++ last ∷ [], ap (λ t. t ++ last ∷ []) e ∙ append_assoc first others (last ∷ []))
+    opened false all first others last e = (others, e)
+
+pub front_are_front : AnswersToFrontAreFront
+front_are_front bytes more whole a b s t p q =
+    let (others, e) = lines_in-front bytes more whole in
+    let (rest, end, answers) = answers_front (lines_in bytes false) others begin p.end a p.answers in
+    let all : AreAnswers (lines_in bytes false ++ others) 1 begin b q.end = subst (λ (l : List (List ℕ)). AreAnswers l 1 begin b q.end) e q.answers in
+    (rest, (answers_unique (lines_in bytes false ++ others) 1 begin b (a ++ rest) q.end end all answers).0)

@@ -1,0 +1,4 @@
+pub mod AnswerLemmas
+mod SplitLemmas
+mod KnownLemmas
+mod RunLemmas

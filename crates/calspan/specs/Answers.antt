@@ -1,0 +1,41 @@
+-- What is written for an input, and how the run ends.
+use Rattle.std.specs.Prelude.{◌≡◌, ℕ, ◌+◌, Bool, true, false, List, [], ◌∷◌, ◌++◌, codes, if◌then◌else◌}
+use Rattle.line_reader.specs.Lines.{lines_in}
+use Rattle.calspan.specs.Texts.{about_line}
+use Rattle.calspan.specs.Lines.{Line, Nothing, Long, Unbuilt, line_of}
+use Rattle.calspan.specs.declared.status.Status.{Status}
+use Rattle.calspan.specs.declared.status.Status.TheVariants.{Done, Refused}
+
+-- what stands behind some lines: whether a request was answered err
+pub record Standing : Type 0 where
+  pub refused : Bool
+
+-- before the first line
+abbrev pub begin : Standing
+begin = record { refused = false }
+
+-- behind a line that was answered err
+abbrev pub refusing : Standing → Standing
+refusing s = record { refused = true }
+
+-- the text that answers the line of number n, and what stands behind it
+abbrev pub IsAnswerTo : Line → ℕ → Standing → List ℕ → Standing → Type 0
+IsAnswerTo Nothing n s text next = (text ≡ []) × (next ≡ s)
+IsAnswerTo Long n s text next = (text ≡ about_line (codes "err line ") n (codes "long")) × (next ≡ refusing s)
+IsAnswerTo Unbuilt n s text next = (text ≡ about_line (codes "err line ") n (codes "unbuilt")) × (next ≡ refusing s)
+
+-- the text that answers some lines, the first of which has number n, and what stands behind them
+abbrev pub AreAnswers : List (List ℕ) → ℕ → Standing → List ℕ → Standing → Type 0
+AreAnswers [] n s text end = (text ≡ []) × (end ≡ s)
+AreAnswers (line ∷ more) n s text end =
+    (added rest : List ℕ) × (next : Standing) × IsAnswerTo (line_of line) n s added next × (text ≡ added ++ rest) × AreAnswers more (n + 1) next rest end
+
+-- the status where the input ends
+abbrev pub status_of : Standing → Status
+status_of s = if s.refused then Refused else Done
+
+-- the text for an input, or for what has come of it, and how a run ends there
+pub record IsAnswers (bytes : List ℕ) (whole : Bool) (text : List ℕ) (status : Status) : Type 0 where
+  pub end : Standing
+  pub answers : AreAnswers (lines_in bytes whole) 1 begin text end
+  pub ends : status ≡ status_of end

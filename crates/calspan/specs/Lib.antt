@@ -1,0 +1,13 @@
+pub mod Words
+pub mod WordsLeft
+pub mod Command
+pub mod Status
+pub mod Texts
+pub mod Lines
+pub mod LineSaid
+pub mod Answers
+pub mod Standing
+pub mod Written
+pub mod Underway
+pub mod Run
+pub mod Laws

@@ -1,0 +1,45 @@
+//! Reads request lines from standard input, and writes an answer to each.
+#![tactic(auto)]
+
+mod answer;
+mod command;
+mod laws;
+mod line;
+mod pending;
+mod run;
+mod status;
+#[cfg(test)]
+mod tests;
+mod text;
+mod words;
+
+use byte_io::{StdSink, StdSource};
+use run::run;
+use status::{Status, code};
+use std::process::ExitCode;
+use std::{env, io};
+
+// The status where the words couldn't be had: one isn't UTF-8, or there is no memory for them.
+fn words_failed(error: &io::Error) -> Status {
+    match error.kind() {
+        io::ErrorKind::OutOfMemory => Status::NoMemory,
+        _ => Status::Words,
+    }
+}
+
+fn run_on_standard(rt: &HostRuntime) -> Status {
+    let words = match env::args(rt) {
+        Ok(args) => args.skip(1).collect::<Vec<String>>(rt.alloc()),
+        Err(error) => return words_failed(&error),
+    };
+    let Ok(words) = words else {
+        return Status::NoMemory;
+    };
+    let mut source = StdSource::new(rt.stdin());
+    let mut sink = StdSink::new(rt.stdout());
+    run(rt.alloc(), &words, &mut source, &mut sink)
+}
+
+fn main(rt: HostRuntime) -> ExitCode {
+    ExitCode::from(code(run_on_standard(&rt)))
+}

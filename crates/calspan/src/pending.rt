@@ -1,0 +1,89 @@
+//! Answers that wait to be written, so that there is about one write for each read.
+ghost use Rattle.std.specs.Prelude.{◌≡◌, ◌+◌, ◌≤◌, ◌++◌, [], ◌∷◌, ℕ, List, Option, length, OnOk};
+ghost use Rattle.arrayvec.specs.ArrayVec.{array_vec_len};
+ghost use Rattle.byte_io.specs.Faults.{HasCause};
+ghost use Rattle.calspan.specs.Written.{Wrote, Stands, Answered};
+ghost use Rattle.calspan.specs.Standing.{standing_of};
+ghost use Rattle.calspan.specs.Answers.{Standing};
+ghost use Rattle.line_reader.specs.Buffer.{Holds};
+
+use crate::answer::{Progress, answer};
+use crate::text::Text;
+use arrayvec::ArrayVec;
+use byte_io::{Failed, Sink};
+use line_reader::LineBuffer;
+
+/// The answers that weren't written yet.
+pub type Pending = ArrayVec<u8, 8192>;
+
+// Writes all of a text, in as many pieces as the sink takes.
+fn write_all<K: Sink>(text: &[u8], sink: &mut K) -> Result<(), Failed>
+    ensures wrote { Wrote result (K.taken sink.old) (K.taken sink.new) text.now }
+    ensures cause { HasCause (K.faults sink.old) (K.faults sink.new) result }
+{
+    let mut at = 0;
+    while at < text.len() {
+        let Ok(count) = sink.write(&text[at..]) else {
+            return Err(Failed);
+        };
+        at += count;
+    }
+    Ok(())
+}
+
+/// Writes the pending answers. Where that fails, a front of them was written.
+pub fn flush<K: Sink>(pending: &mut Pending, sink: &mut K) -> Result<(), Failed>
+    ensures answered { (before : Option (List ℕ)) (lines : List (List ℕ)) (s : Standing) → Stands before (K.taken sink.old) pending.old.items lines s
+        → Answered result before (K.taken sink.new) pending.new.items lines s }
+    ensures none { OnOk result (pending.new.items ≡ []) }
+    ensures cause { HasCause (K.faults sink.old) (K.faults sink.new) result }
+{
+    let Ok(()) = write_all(pending, sink) else {
+        return Err(Failed);
+    };
+    pending.clear();
+    Ok(())
+}
+
+fn push_all(pending: &mut Pending, bytes: &[u8])
+    requires { array_vec_len pending.old + length bytes.now ≤ 8192 }
+    ensures { pending.new.items ≡ pending.old.items ++ bytes.now }
+{
+    let _fits = pending.try_extend_from_slice(bytes);
+}
+
+// Writes what is pending where there might be no room for an answer.
+fn make_room<K: Sink>(pending: &mut Pending, sink: &mut K) -> Result<(), Failed>
+    ensures answered { (before : Option (List ℕ)) (lines : List (List ℕ)) (s : Standing) → Stands before (K.taken sink.old) pending.old.items lines s
+        → Answered result before (K.taken sink.new) pending.new.items lines s }
+    ensures room { OnOk result (array_vec_len pending.new + 512 ≤ 8192) }
+    ensures cause { HasCause (K.faults sink.old) (K.faults sink.new) result }
+{
+    if pending.remaining_capacity() >= 512 {
+        return Ok(());
+    }
+    flush(pending, sink)
+}
+
+/// Answers the line of this number. The answer is pending then, and what was pending is written
+/// first where there might be no room for it. Where that fails, a front of the answers was written.
+pub fn respond<K: Sink>(
+    progress: &mut Progress,
+    number: u64,
+    line: &LineBuffer,
+    pending: &mut Pending,
+    sink: &mut K,
+) -> Result<(), Failed>
+    ensures answered { (before : Option (List ℕ)) (lines : List (List ℕ)) (whole : List ℕ) → number ≡ length lines + 1 → Holds line.now whole
+        → Stands before (K.taken sink.old) pending.old.items lines (standing_of progress.old)
+        → Answered result before (K.taken sink.new) pending.new.items (lines ++ whole ∷ []) (standing_of progress.new) }
+    ensures cause { HasCause (K.faults sink.old) (K.faults sink.new) result }
+{
+    let Ok(()) = make_room(pending, sink) else {
+        return Err(Failed);
+    };
+    let mut text = Text::new();
+    answer(&mut text, progress, number, line);
+    push_all(pending, &text);
+    Ok(())
+}

@@ -1,0 +1,221 @@
+use crate::run::run;
+use crate::status::{Status, code};
+use byte_io::{MemorySink, MemorySource, PlainSink, PlainSource, Source};
+use line_reader::LIMIT;
+use std::alloc::Global;
+use std::test::Fail;
+
+fn words(alloc: Global, texts: &[&str]) -> Result<Vec<String>, Fail> {
+    let mut words = Vec::new(alloc);
+    for text in texts {
+        words.push(String::from_str(alloc, text)?)?;
+    }
+    Ok(words)
+}
+
+struct Case {
+    input: &'static [u8],
+    status: Status,
+    text: &'static [u8],
+}
+
+const TEXTS: [Case; 9] = [
+    Case {
+        input: b"",
+        status: Status::Done,
+        text: b"",
+    },
+    Case {
+        input: b"\r",
+        status: Status::Done,
+        text: b"",
+    },
+    Case {
+        input: b"\n\r\n# births\n#\n",
+        status: Status::Done,
+        text: b"",
+    },
+    Case {
+        input: b"span iso",
+        status: Status::Refused,
+        text: b"err line 1 unbuilt\n",
+    },
+    Case {
+        input: b"span iso\n",
+        status: Status::Refused,
+        text: b"err line 1 unbuilt\n",
+    },
+    Case {
+        input: b"\r\r\n",
+        status: Status::Refused,
+        text: b"err line 1 unbuilt\n",
+    },
+    Case {
+        input: b"row\r\n",
+        status: Status::Refused,
+        text: b"err line 1 unbuilt\n",
+    },
+    Case {
+        input: b"# births\r\n\r\nspan iso\r\n\nspan",
+        status: Status::Refused,
+        text: b"err line 3 unbuilt\nerr line 5 unbuilt\n",
+    },
+    Case {
+        input: b" # not a comment\n\nx\n#x",
+        status: Status::Refused,
+        text: b"err line 1 unbuilt\nerr line 3 unbuilt\n",
+    },
+];
+
+#[test]
+fn answers_in_any_pieces(rt: HostRuntime) -> Result<(), Fail> {
+    let words = words(rt.alloc(), &["span"])?;
+    for case in &TEXTS {
+        for cut in [1, 7, 4096] {
+            let mut room = [0u8; 256];
+            let mut source = MemorySource::new(case.input, cut, &[]);
+            let mut sink = MemorySink::new(&mut room, cut, &[]);
+            let status = run(rt.alloc(), &words, &mut source, &mut sink);
+            assert_eq!(rt; status, case.status);
+            assert_eq!(rt; sink.taken(), case.text);
+        }
+    }
+    Ok(())
+}
+
+#[test]
+fn other_words_read_and_write_nothing(rt: HostRuntime) -> Result<(), Fail> {
+    let others: [&[&str]; 5] = [&["spam"], &[], &["gen", "1"], &["span", "span"], &["Span"]];
+    for texts in others {
+        let words = words(rt.alloc(), texts)?;
+        let mut room = [0u8; 64];
+        let mut source = MemorySource::new(b"span iso\n", 4096, &[]);
+        let mut sink = MemorySink::new(&mut room, 4096, &[]);
+        let status = run(rt.alloc(), &words, &mut source, &mut sink);
+        assert_eq!(rt; status, Status::Words);
+        assert_eq!(rt; sink.taken(), b"".as_slice());
+        let mut buf = [0u8; 16];
+        assert_eq!(rt; source.read(&mut buf), Ok(9));
+    }
+    Ok(())
+}
+
+#[test]
+fn long_lines(rt: HostRuntime) -> Result<(), Fail> {
+    let words = words(rt.alloc(), &["span"])?;
+    for (letters, first, end, text) in [
+        (512usize, b'x', "", b"err line 1 unbuilt\n".as_slice()),
+        (513, b'x', "", b"err line 1 long\n".as_slice()),
+        (512, b'x', "\n", b"err line 1 unbuilt\n".as_slice()),
+        (513, b'x', "\n", b"err line 1 long\n".as_slice()),
+        (511, b'x', "\r\n", b"err line 1 unbuilt\n".as_slice()),
+        (512, b'x', "\r\n", b"err line 1 long\n".as_slice()),
+        (9000, b'x', "\n", b"err line 1 long\n".as_slice()),
+        (600, b'#', "\n", b"".as_slice()),
+    ] {
+        let mut input = Vec::new(rt.alloc());
+        input.push(first)?;
+        for _ in 1..letters {
+            input.push(b'x')?;
+        }
+        input.extend_from_slice(end.as_bytes())?;
+        for cut in [1, 4096] {
+            let mut room = [0u8; 64];
+            let mut source = MemorySource::new(&input, cut, &[]);
+            let mut sink = MemorySink::new(&mut room, 4096, &[]);
+            let _status = run(rt.alloc(), &words, &mut source, &mut sink);
+            assert_eq!(rt; sink.taken(), text);
+        }
+    }
+    Ok(())
+}
+
+#[test]
+fn read_fault_keeps_the_answers_to_whole_lines(rt: HostRuntime) -> Result<(), Fail> {
+    let words = words(rt.alloc(), &["span"])?;
+    for (cut, call, text) in [
+        (9usize, 1u64, b"".as_slice()),
+        (9, 2, b"err line 1 unbuilt\n".as_slice()),
+        (12, 2, b"err line 1 unbuilt\n".as_slice()),
+        (
+            18,
+            2,
+            b"err line 1 unbuilt\nerr line 2 unbuilt\n".as_slice(),
+        ),
+    ] {
+        let failing = [call];
+        let mut room = [0u8; 256];
+        let mut source = MemorySource::new(b"span iso\nspan iso\n", cut, &failing);
+        let mut sink = MemorySink::new(&mut room, 4096, &[]);
+        let status = run(rt.alloc(), &words, &mut source, &mut sink);
+        assert_eq!(rt; status, Status::ReadFault);
+        assert_eq!(rt; sink.taken(), text);
+    }
+    Ok(())
+}
+
+#[test]
+fn write_fault_keeps_a_front(rt: HostRuntime) -> Result<(), Fail> {
+    let words = words(rt.alloc(), &["span"])?;
+    for (cut, call, text) in [
+        (4096usize, 1u64, b"".as_slice()),
+        (12, 2, b"err line 1 u".as_slice()),
+        (12, 4, b"err line 1 unbuilt\nerr line 2 unbuil".as_slice()),
+    ] {
+        let failing = [call];
+        let mut room = [0u8; 256];
+        let mut source = MemorySource::new(b"span iso\nspan iso\n", 4096, &[]);
+        let mut sink = MemorySink::new(&mut room, cut, &failing);
+        let status = run(rt.alloc(), &words, &mut source, &mut sink);
+        assert_eq!(rt; status, Status::WriteFault);
+        assert_eq!(rt; sink.taken(), text);
+    }
+    Ok(())
+}
+
+// A thousand answers are more than is kept pending: 9 of 19 bytes, 90 of 20, 900 of 21, 1 of 22.
+#[test]
+fn many_answers(rt: HostRuntime) -> Result<(), Fail> {
+    let words = words(rt.alloc(), &["span"])?;
+    let mut input = Vec::new(rt.alloc());
+    for _ in 0..1000 {
+        input.extend_from_slice(b"x\n")?;
+    }
+    let mut source = PlainSource::new(&input);
+    let mut sink = PlainSink::new();
+    let status = run(rt.alloc(), &words, &mut source, &mut sink);
+    assert_eq!(rt; status, Status::Refused);
+    assert_eq!(rt; sink.count(), 20893);
+    Ok(())
+}
+
+#[test]
+fn stops_past_the_limit(rt: HostRuntime) -> Result<(), Fail> {
+    let words = words(rt.alloc(), &["span"])?;
+    for (more, wanted) in [(0usize, Status::Done), (1, Status::TooLong)] {
+        let input = vec![in rt.alloc(); b'\n'; LIMIT + more]?;
+        let mut source = PlainSource::new(&input);
+        let mut sink = PlainSink::new();
+        let status = run(rt.alloc(), &words, &mut source, &mut sink);
+        assert_eq!(rt; status, wanted);
+        assert_eq!(rt; sink.count(), 0);
+    }
+    Ok(())
+}
+
+#[test]
+fn codes(rt: HostRuntime) {
+    let statuses = [
+        Status::Done,
+        Status::Refused,
+        Status::Words,
+        Status::ReadFault,
+        Status::WriteFault,
+        Status::NoMemory,
+        Status::TableRefused,
+        Status::TooLong,
+    ];
+    for (i, status) in statuses.iter().enumerate() {
+        assert_eq!(rt; usize::from(code(*status)), i);
+    }
+}

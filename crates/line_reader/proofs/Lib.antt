@@ -1,0 +1,5 @@
+pub mod PartLemmas
+pub mod FrontLemmas
+mod BufferLemmas
+mod LookLemmas
+mod ReaderLemmas
