@@ -1,5 +1,6 @@
 -- A calendar by a list of some of its years, and what is counted over it.
 use Rattle.std.specs.Prelude.{◌≡◌, ℕ, map, length, slice_get, Option, Some, MatchOption, ℤ, pos, ◌+ℤ◌, ◌≤ℤ◌, ◌<ℤ◌}
+use Rattle.cal_types.specs.MonthParts.{month_parts}
 use Rattle.cal_model.specs.declared.listed_years.ListedMonth.{ListedMonth}
 use Rattle.cal_model.specs.declared.listed_years.ListedDate.{ListedDate}
 use Rattle.cal_model.specs.declared.listed_years.ListedYears.{ListedYears}
@@ -11,7 +12,7 @@ use Rattle.cal_model.specs.Difference.{IsDifference}
 
 -- a listed month as an entry of a calendar
 abbrev pub entry_of : ListedMonth → Entry
-entry_of m = record { month = m.month; days = m.days }
+entry_of m = record { month = month_parts m.month; days = m.days }
 
 -- the calendar has the listed years, and the first of them starts on its day
 pub record IsListOf (c : CalendarList) (l : ListedYears) : Type 0 where
