@@ -4,20 +4,34 @@ use Rattle.std.proofs.lemmas.List.{append-nil, append_assoc}
 use Rattle.line_reader.specs.Lines.{closed_lines, open_line, lines_in}
 use Rattle.line_reader.proofs.PartLemmas.{closed_lines-front}
 use Rattle.calspan.specs.Texts.{about_line}
-use Rattle.calspan.specs.Lines.{Line, Nothing, Long, Unbuilt, line_of}
-use Rattle.calspan.specs.Answers.{Standing, begin, refusing, IsAnswerTo, AreAnswers, status_of}
+use Rattle.cal_model.specs.Resolving.{overflow_of}
+use Rattle.cal_model.specs.Difference.{largest_unit_of}
+use Rattle.icu_calendar.specs.AnySystem.{any_system}
+use Rattle.icu_calendar.specs.AnyLaws.{any_lawful}
+use Rattle.icu_calendar.proofs.SpanLemmas.{span-exists, span-unique}
+use Rattle.calspan.specs.Lines.{Line, Nothing, Long, Asks, Unbuilt, line_of}
+use Rattle.calspan.specs.Replies.{reply_text, is_refusal}
+use Rattle.calspan.specs.Answers.{Standing, begin, refusing, replied, IsAnswerTo, AreAnswers, status_of}
 use Rattle.calspan.specs.Laws.{EveryInputHasAnswers, AnswersAreUnique, AnswersToFrontAreFront}
 
 -- there is an answer to each line
 pub answer_exists : (line : Line) (n : ℕ) (s : Standing) → (text : List ℕ) × (next : Standing) × IsAnswerTo line n s text next
 answer_exists Nothing n s = ([], s, (refl, refl))
 answer_exists Long n s = (about_line (codes "err line ") n (codes "long"), refusing s, (refl, refl))
+answer_exists (Asks r) n s =
+    let c = any_system r.calendar in let shown = any_system r.shown in
+    let found = span-exists c.list shown.list (any_lawful r.calendar) (any_lawful r.shown) r.from r.to (overflow_of r.overflow) (largest_unit_of r.unit) in
+    (reply_text c shown found.0, replied s (is_refusal found.0), (is_refusal found.0, record { answer = found.0; span = found.1; says = refl; refuses = refl }, refl))
 answer_exists Unbuilt n s = (about_line (codes "err line ") n (codes "unbuilt"), refusing s, (refl, refl))
 
 -- there is one answer to a line
 pub answer_unique : (line : Line) (n : ℕ) (s : Standing) (a b : List ℕ) (p q : Standing) → IsAnswerTo line n s a p → IsAnswerTo line n s b q → (a ≡ b) × (p ≡ q)
 answer_unique Nothing n s a b p q (x, e) (y, f) = (x ∙ sym y, e ∙ sym f)
 answer_unique Long n s a b p q (x, e) (y, f) = (x ∙ sym y, e ∙ sym f)
+answer_unique (Asks r) n s a b p q (f, x, e) (g, y, h) =
+    let c = any_system r.calendar in let shown = any_system r.shown in
+    let same = span-unique c.list shown.list r.from r.to (overflow_of r.overflow) (largest_unit_of r.unit) x.answer y.answer x.span y.span in
+    (x.says ∙ (ap (reply_text c shown) same ∙ sym y.says), e ∙ (ap (replied s) (x.refuses ∙ (ap is_refusal same ∙ sym y.refuses)) ∙ sym h))
 answer_unique Unbuilt n s a b p q (x, e) (y, f) = (x ∙ sym y, e ∙ sym f)
 
 -- there are answers to lines

@@ -2,7 +2,8 @@
 use Rattle.std.specs.Prelude.{◌≡◌, ℕ, ◌+◌, Bool, true, false, List, [], ◌∷◌, ◌++◌, codes, if◌then◌else◌}
 use Rattle.line_reader.specs.Lines.{lines_in}
 use Rattle.calspan.specs.Texts.{about_line}
-use Rattle.calspan.specs.Lines.{Line, Nothing, Long, Unbuilt, line_of}
+use Rattle.calspan.specs.Lines.{Line, Nothing, Long, Asks, Unbuilt, line_of}
+use Rattle.calspan.specs.Replies.{IsReply}
 use Rattle.calspan.specs.declared.status.Status.{Status}
 use Rattle.calspan.specs.declared.status.Status.TheVariants.{Done, Refused}
 
@@ -18,10 +19,15 @@ begin = record { refused = false }
 abbrev pub refusing : Standing → Standing
 refusing s = record { refused = true }
 
+-- behind a request that was answered, by a refusal or not
+abbrev pub replied : Standing → Bool → Standing
+replied s refused = if refused then refusing s else s
+
 -- the text that answers the line of number n, and what stands behind it
 abbrev pub IsAnswerTo : Line → ℕ → Standing → List ℕ → Standing → Type 0
 IsAnswerTo Nothing n s text next = (text ≡ []) × (next ≡ s)
 IsAnswerTo Long n s text next = (text ≡ about_line (codes "err line ") n (codes "long")) × (next ≡ refusing s)
+IsAnswerTo (Asks r) n s text next = (refused : Bool) × IsReply r text refused × (next ≡ replied s refused)
 IsAnswerTo Unbuilt n s text next = (text ≡ about_line (codes "err line ") n (codes "unbuilt")) × (next ≡ refusing s)
 
 -- the text that answers some lines, the first of which has number n, and what stands behind them

@@ -4,7 +4,11 @@ pub mod Command
 pub mod Status
 pub mod Texts
 pub mod Lines
+pub mod RequestSaid
 pub mod LineSaid
+pub mod Reading
+pub mod Requests
+pub mod Replies
 pub mod Answers
 pub mod Standing
 pub mod Written

@@ -1,0 +1,26 @@
+-- What the program reads of a request.
+use Rattle.std.specs.Prelude.{Option}
+use Rattle.cal_types.specs.Bag.{bag_of}
+use Rattle.cal_base.specs.Conditions.{IsPlain, IsRejecting, IsInDays}
+use Rattle.calspan.specs.Requests as requests
+use Rattle.calspan.specs.declared.request.Header.{Header}
+use Rattle.calspan.specs.declared.request.Request.{Request}
+
+-- the header that the program's value stands for
+abbrev pub header_said : Header → requests.Header
+header_said h = record { calendar = h.calendar; shown = h.shown; unit = h.difference.largest_unit; overflow = h.options.overflow; missing_fields = h.options.missing_fields_strategy }
+
+-- the request that the program's value stands for
+abbrev pub request_said : Request → requests.Request
+request_said r = requests.request_of (header_said r.header) (bag_of r.from) (bag_of r.to)
+
+-- both options are Reject or left out, and the largest unit is Days or left out
+pub record IsHeld (h : Header) : Type 0 where
+  pub options : IsRejecting h.options
+  pub unit : IsInDays h.difference
+
+-- a request that can be answered
+pub record IsAnswerable (r : Request) : Type 0 where
+  pub header : IsHeld r.header
+  pub from : IsPlain (bag_of r.from)
+  pub to : IsPlain (bag_of r.to)
