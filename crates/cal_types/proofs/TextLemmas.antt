@@ -19,12 +19,14 @@ pub IsUtf8-from_text : (bs : List ℕ) → IsText bs → IsUtf8 bs
 IsUtf8-from_text bs h = IsUtf8-from_ascii bs (IsAscii-from_text bs h)
 
 -- a text that is copied over the first of n zeros is held in those n bytes
-pub HoldsText-copied : (n : ℕ) (t : List ℕ) → length t ≤ n → IsText t → HoldsText n (t ++ drop (length t) (replicate n 0)) (length t)
+pub HoldsText-copied : (n : ℕ) (t : List ℕ) → length t ≤ n → IsText t →
+    HoldsText n (t ++ drop (length t) (replicate n 0)) (length t)
 HoldsText-copied n t fits text =
     rw (drop-replicate {X = ℕ} (length t) n 0)
     (record {
       fits = fits;
-      size = omega (arith, fits, length-append t (replicate (n - length t) 0), length-replicate {A = ℕ} (n - length t) 0);
+      size =
+          omega (arith, fits, length-append t (replicate (n - length t) 0), length-replicate {A = ℕ} (n - length t) 0);
       zeros = rw (take-append_seam t (replicate (n - length t) 0)) refl;
       text = rw (take-append_seam t (replicate (n - length t) 0)) text;
     })

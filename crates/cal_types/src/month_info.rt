@@ -33,14 +33,25 @@ pub struct MonthInfo {
 }
 
 impl Model for MonthInfo {
-    ghost use Rattle.std.specs.Prelude.{◌≡◌};
     ghost use Rattle.cal_types.specs.MonthInfo.{MonthInfoParts};
 
     ghost Value = { MonthInfoParts };
 
-    ghost view = { λ s. record { ordinal = s.ordinal; standard_code = s.standard_code.0; formatting_code = s.formatting_code.0; month = s.month; leap_status = s.leap_status } };
+    ghost view = { λ s. record {
+      ordinal = s.ordinal;
+      standard_code = s.standard_code.0;
+      formatting_code = s.formatting_code.0;
+      month = s.month;
+      leap_status = s.leap_status;
+    } };
 
-    ghost inverse = { λ v. record { ordinal = v.ordinal; standard_code = record { 0 = v.standard_code }; formatting_code = record { 0 = v.formatting_code }; month = v.month; leap_status = v.leap_status } };
+    ghost inverse = { λ v. record {
+      ordinal = v.ordinal;
+      standard_code = record { 0 = v.standard_code };
+      formatting_code = record { 0 = v.formatting_code };
+      month = v.month;
+      leap_status = v.leap_status;
+    } };
 }
 
 impl MonthInfo {

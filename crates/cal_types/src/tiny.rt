@@ -39,7 +39,10 @@ impl<const N: usize> Model for TinyAsciiStr<N> {
 
     ghost use Rattle.std.proofs.Common.{arith, length-take-le, sym};
 
-    ghost inverse_ok = { λ s h i. record { bytes = sym h.zeros i; len = length-take-le s.len s.bytes (omega (arith, h.fits, h.size)) i } };
+    ghost inverse_ok = { λ s h i. record {
+      bytes = sym h.zeros i;
+      len = length-take-le s.len s.bytes (omega (arith, h.fits, h.size)) i;
+    } };
 }
 
 impl<const N: usize> TinyAsciiStr<N> {
