@@ -1,5 +1,5 @@
 //! What a request line asks.
-ghost use Rattle.std.specs.Prelude.{◌≡◌, ◌×◌, ℕ, List, true, false, codes, drop, length, nat_eq, IfSome, MatchOption};
+ghost use Rattle.std.specs.Prelude.{◌≡◌, ℕ, List, true, false, codes, drop, length, nat_eq, IfSome, MatchOption};
 ghost use Rattle.std.specs.List.{starts_with};
 ghost use Rattle.std.specs.Option.{option_map};
 ghost use Rattle.cal_types.specs.Month.{month_read};
