@@ -6,6 +6,7 @@ mod command;
 mod laws;
 mod line;
 mod pending;
+mod reply;
 mod request;
 mod run;
 mod status;
