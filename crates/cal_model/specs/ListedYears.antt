@@ -5,7 +5,6 @@ use Rattle.cal_model.specs.declared.listed_years.ListedMonth.{ListedMonth}
 use Rattle.cal_model.specs.declared.listed_years.ListedDate.{ListedDate}
 use Rattle.cal_model.specs.declared.listed_years.ListedYears.{ListedYears}
 use Rattle.cal_model.specs.YearList.{YearList}
-use Rattle.cal_types.specs.MonthParts.{month_parts}
 use Rattle.cal_types.specs.declared.duration.DateDuration.{DateDuration}
 use Rattle.cal_types.specs.declared.duration.DateDurationUnit.{DateDurationUnit}
 use Rattle.cal_model.specs.CalendarList.{CalendarList, Date, date, Entry, IsDate, IsLawful, IsOn, start_of_year}
