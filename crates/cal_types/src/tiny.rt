@@ -83,6 +83,7 @@ impl<const N: usize> TinyAsciiStr<N> {
     pub fn as_bytes(&self) -> &[u8]
         ensures value { result.now ≡ self.now }
         ensures text { IsText result.now }
+        ensures fits { length result.now ≤ N }
     {
         &self.bytes[..self.len]
     }

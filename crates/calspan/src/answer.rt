@@ -53,7 +53,7 @@ pub fn answer(text: &mut Text, progress: &mut Progress, number: u64, line: &Line
             progress.refused = true;
         }
         Line::Asks(request) => {
-            if false && reply(text, &request) {
+            if reply(text, &request) {
                 progress.refused = true;
             }
         }

@@ -1,5 +1,5 @@
 //! What a request line asks.
-ghost use Rattle.std.specs.Prelude.{◌≡◌, ℕ, List, true, false, codes, drop, length, nat_eq, IfSome, MatchOption};
+ghost use Rattle.std.specs.Prelude.{◌≡◌, ℕ, List, true, false, codes, drop, length, nat_eq, Some, IfSome, OnSome, MatchOption};
 ghost use Rattle.std.specs.List.{starts_with};
 ghost use Rattle.std.specs.Option.{option_map};
 ghost use Rattle.cal_types.specs.Month.{month_read};
@@ -137,7 +137,8 @@ fn next_calendar(words: &mut Words) -> Option<AnyCalendar>
 }
 
 fn next_unit(words: &mut Words) -> Option<Option<DateDurationUnit>>
-    ensures { IsReading (next_word (option_word (codes "days") Days) (words_left words.old)) result (words_left words.new) }
+    ensures reads { IsReading (next_word (option_word (codes "days") Days) (words_left words.old)) result (words_left words.new) }
+    ensures days { IfSome result (λ unit. OnSome unit (unit ≡ Some Days)) }
 {
     match words.next() {
         Some(word) if word == b"days".as_slice() => Some(Some(DateDurationUnit::Days)),
@@ -147,7 +148,8 @@ fn next_unit(words: &mut Words) -> Option<Option<DateDurationUnit>>
 }
 
 fn next_overflow(words: &mut Words) -> Option<Option<Overflow>>
-    ensures { IsReading (next_word (option_word (codes "reject") Overflow.Reject) (words_left words.old)) result (words_left words.new) }
+    ensures reads { IsReading (next_word (option_word (codes "reject") Overflow.Reject) (words_left words.old)) result (words_left words.new) }
+    ensures rejects { IfSome result (λ overflow. OnSome overflow (overflow ≡ Some Overflow.Reject)) }
 {
     match words.next() {
         Some(word) if word == b"reject".as_slice() => Some(Some(Overflow::Reject)),
@@ -157,7 +159,8 @@ fn next_overflow(words: &mut Words) -> Option<Option<Overflow>>
 }
 
 fn next_missing_fields(words: &mut Words) -> Option<Option<MissingFieldsStrategy>>
-    ensures { IsReading (next_word (option_word (codes "reject") MissingFieldsStrategy.Reject) (words_left words.old)) result (words_left words.new) }
+    ensures reads { IsReading (next_word (option_word (codes "reject") MissingFieldsStrategy.Reject) (words_left words.old)) result (words_left words.new) }
+    ensures rejects { IfSome result (λ missing. OnSome missing (missing ≡ Some MissingFieldsStrategy.Reject)) }
 {
     match words.next() {
         Some(word) if word == b"reject".as_slice() => Some(Some(MissingFieldsStrategy::Reject)),
@@ -222,8 +225,8 @@ pub fn read_request<'a>(line: &'a [u8]) -> Option<Request<'a>>
     let Some(to) = read_bag(&mut words) else {
         return None;
     };
-    if words.next().is_some() {
-        return None;
+    match words.next() {
+        None => Some(Request { header, from, to }),
+        Some(_) => None,
     }
-    Some(Request { header, from, to })
 }
