@@ -43,7 +43,8 @@ fn read_short(line: &[u8]) -> Line
 // A longer line, by its first 512 bytes.
 fn read_long(front: &[u8]) -> Line
     requires { length front.now ≡ 512 }
-    ensures { (line : List ℕ) → front.now ≡ take 512 line → 512 < length line → line_said result ≡ line_of line }
+    ensures { (line : List ℕ) → front.now ≡ take 512 line
+        → 512 < length line → line_said result ≡ line_of line }
 {
     if front[0] == b'#' {
         return Line::Nothing;
