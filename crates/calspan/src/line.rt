@@ -52,7 +52,8 @@ fn read_short<'a>(line: &'a [u8]) -> Line<'a>
 fn read_long<'a>(front: &'a [u8]) -> Line<'a>
     requires { length front.now ≡ 512 }
     ensures answerable { CanBeAnswered result }
-    ensures says { (line : List ℕ) → front.now ≡ take 512 line → 512 < length line → line_said result ≡ line_of line }
+    ensures says { (line : List ℕ) → front.now ≡ take 512 line
+        → 512 < length line → line_said result ≡ line_of line }
 {
     if front[0] == b'#' {
         return Line::Nothing;
