@@ -11,6 +11,8 @@ mod request;
 mod run;
 mod status;
 #[cfg(test)]
+mod request_tests;
+#[cfg(test)]
 mod tests;
 mod text;
 mod words;

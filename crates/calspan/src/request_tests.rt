@@ -1,0 +1,131 @@
+//! Request lines and their answers, which were computed by an independent implementation.
+
+use crate::run::run;
+use crate::status::Status;
+use byte_io::{MemorySink, MemorySource};
+use std::alloc::Global;
+use std::test::Fail;
+
+/// The leap day of 2020 and the last day of February 2021.
+const LEAP_DAY: &[u8] = b"span iso iso days reject none from year=2020 month=M02 day=29 to year=2021 month=M02 day=28\n";
+
+const LEAP_DAY_ANSWER: &[u8] = b"ok 2020/default.2020/M02/29@737484 2020/default.2020/M02/29@737484 2021/default.2021/M02/28@737849 2021/default.2021/M02/28@737849 P365D\n";
+
+fn span_word(alloc: Global) -> Result<Vec<String>, Fail> {
+    let mut words = Vec::new(alloc);
+    words.push(String::from_str(alloc, "span")?)?;
+    Ok(words)
+}
+
+struct Case {
+    line: &'static [u8],
+    answer: &'static [u8],
+}
+
+const CASES: [Case; 14] = [
+    Case {
+        line: b"span iso iso none none reject from year=2020 month=M02 day=29 to year=2021 month=M02 day=28",
+        answer: LEAP_DAY_ANSWER,
+    },
+    Case {
+        line: b"span iso iso none none none from year=002020 month=M02 day=029 to year=2021 month=M02 day=28\r\n",
+        answer: LEAP_DAY_ANSWER,
+    },
+    Case {
+        line: b"span iso iso days reject none from year=-999999 month=M01 day=1 to year=999999 month=M12 day=31",
+        answer: b"ok -999999/default.-999999/M01/01@-365242499 -999999/default.-999999/M01/01@-365242499 999999/default.999999/M12/31@365242134 999999/default.999999/M12/31@365242134 P730484633D\n",
+    },
+    Case {
+        line: b"span iso iso days reject reject from year=1982 month=M09 day=8 to year=1979 month=M09 day=8",
+        answer: b"ok 1982/default.1982/M09/08@723796 1982/default.1982/M09/08@723796 1979/default.1979/M09/08@722700 1979/default.1979/M09/08@722700 -P1096D\n",
+    },
+    Case {
+        line: b"span iso iso days none none from year=-1 month=M01 day=6 to year=-1 month=M01 day=6",
+        answer: b"ok -1/default.-1/M01/06@-725 -1/default.-1/M01/06@-725 -1/default.-1/M01/06@-725 -1/default.-1/M01/06@-725 P0D\n",
+    },
+    Case {
+        line: b"span iso iso days none none from year=1 month=M01 day=1 to year=1 month=M13 day=1",
+        answer: b"err to MonthNotInCalendar\n",
+    },
+    Case {
+        line: b"span iso iso days none none from year=1 month=M05L day=1 to year=1 month=M13 day=1",
+        answer: b"err from MonthNotInCalendar\n",
+    },
+    Case {
+        line: b"span iso iso days none none from year=1040001 month=M13 day=0 to year=1 month=M01 day=1",
+        answer: b"err from Overflow\n",
+    },
+    Case {
+        line: b"span iso iso days none none from year=2021 month=M02 day=29 to year=1 month=M01 day=1",
+        answer: b"err from InvalidDay 28\n",
+    },
+    Case {
+        line: b"span iso iso days none none from year=1 month=M01 day=1 to year=1 month=M04 day=0",
+        answer: b"err to InvalidDay 30\n",
+    },
+    Case {
+        line: b"span iso iso days none none from year=1000000 month=M01 day=1 to year=1 month=M01 day=1",
+        answer: b"err from Overflow\n",
+    },
+    Case {
+        line: b"span iso iso days none none from year=1 month=M01 day=256 to year=1 month=M01 day=1",
+        answer: b"err line 1 unbuilt\n",
+    },
+    Case {
+        line: b"span iso iso days none none from year=1 month=M01 day=1 to year=1 month=M01 day=1 ",
+        answer: b"err line 1 unbuilt\n",
+    },
+    Case {
+        line: b"span iso iso days none none from year=1 day=1 month=M01 to year=1 month=M01 day=1",
+        answer: b"err line 1 unbuilt\n",
+    },
+];
+
+#[test]
+fn requests_in_any_pieces(rt: HostRuntime) -> Result<(), Fail> {
+    let words = span_word(rt.alloc())?;
+    for case in &CASES {
+        for cut in [1, 13, 4096] {
+            let mut room = [0u8; 512];
+            let mut source = MemorySource::new(case.line, cut, &[]);
+            let mut sink = MemorySink::new(&mut room, cut, &[]);
+            let status = run(rt.alloc(), &words, &mut source, &mut sink);
+            assert_eq!(rt; sink.taken(), case.answer);
+            let refused = case.answer[0] == b'e';
+            let wanted = if refused { Status::Refused } else { Status::Done };
+            assert_eq!(rt; status, wanted);
+        }
+    }
+    Ok(())
+}
+
+#[test]
+fn faults_keep_the_answers_to_whole_lines(rt: HostRuntime) -> Result<(), Fail> {
+    let words = span_word(rt.alloc())?;
+    let mut input = Vec::new(rt.alloc());
+    input.extend_from_slice(LEAP_DAY)?;
+    input.extend_from_slice(LEAP_DAY)?;
+
+    let mut room = [0u8; 512];
+    let mut source = MemorySource::new(&input, LEAP_DAY.len(), &[2]);
+    let mut sink = MemorySink::new(&mut room, 4096, &[]);
+    let status = run(rt.alloc(), &words, &mut source, &mut sink);
+    assert_eq!(rt; status, Status::ReadFault);
+    assert_eq!(rt; sink.taken(), LEAP_DAY_ANSWER);
+
+    let mut room = [0u8; 512];
+    let mut source = MemorySource::new(&input, 1, &[]);
+    let mut sink = MemorySink::new(&mut room, 4096, &[]);
+    let status = run(rt.alloc(), &words, &mut source, &mut sink);
+    assert_eq!(rt; status, Status::Done);
+    assert_eq!(rt; sink.taken().len(), 2 * LEAP_DAY_ANSWER.len());
+    assert_eq!(rt; &sink.taken()[LEAP_DAY_ANSWER.len()..], LEAP_DAY_ANSWER);
+
+    let mut room = [0u8; 512];
+    let mut source = MemorySource::new(&input, 4096, &[]);
+    let mut sink = MemorySink::new(&mut room, 4096, &[1]);
+    let status = run(rt.alloc(), &words, &mut source, &mut sink);
+    assert_eq!(rt; status, Status::WriteFault);
+    assert_eq!(rt; sink.taken(), b"".as_slice());
+    Ok(())
+}
