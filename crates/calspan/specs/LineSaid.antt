@@ -1,6 +1,5 @@
 -- What the program reads a line as.
 use Rattle.calspan.specs.Lines as lines
-use Rattle.calspan.specs.Requests as requests
 use Rattle.calspan.specs.declared.line.Line.{Line}
 use Rattle.calspan.specs.declared.line.Line.TheVariants.{Nothing, Long, Asks, Unbuilt}
 use Rattle.calspan.specs.RequestSaid.{request_said, IsAnswerable}

@@ -1,5 +1,4 @@
 -- What the program reads of a request.
-use Rattle.std.specs.Prelude.{Option}
 use Rattle.cal_types.specs.Bag.{bag_of}
 use Rattle.cal_base.specs.Conditions.{IsPlain, IsRejecting, IsInDays}
 use Rattle.calspan.specs.Requests as requests

@@ -8,10 +8,10 @@ mod line;
 mod pending;
 mod reply;
 mod request;
-mod run;
-mod status;
 #[cfg(test)]
 mod request_tests;
+mod run;
+mod status;
 #[cfg(test)]
 mod tests;
 mod text;

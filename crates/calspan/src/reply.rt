@@ -183,7 +183,14 @@ pub fn reply(text: &mut Text, request: &Request) -> bool
     ensures { IsReply (request_said request.now) text.new.items result }
 {
     let header = request.header;
-    match span(request.from, request.to, header.options, header.difference, header.calendar, header.shown) {
+    match span(
+        request.from,
+        request.to,
+        header.options,
+        header.difference,
+        header.calendar,
+        header.shown,
+    ) {
         Ok(span) => {
             push_span(text, &span);
             false

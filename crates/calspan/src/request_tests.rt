@@ -7,9 +7,11 @@ use std::alloc::Global;
 use std::test::Fail;
 
 /// The leap day of 2020 and the last day of February 2021.
-const LEAP_DAY: &[u8] = b"span iso iso days reject none from year=2020 month=M02 day=29 to year=2021 month=M02 day=28\n";
+const LEAP_DAY: &[u8] =
+    b"span iso iso days reject none from year=2020 month=M02 day=29 to year=2021 month=M02 day=28\n";
 
-const LEAP_DAY_ANSWER: &[u8] = b"ok 2020/default.2020/M02/29@737484 2020/default.2020/M02/29@737484 2021/default.2021/M02/28@737849 2021/default.2021/M02/28@737849 P365D\n";
+const LEAP_DAY_ANSWER: &[u8] =
+    b"ok 2020/default.2020/M02/29@737484 2020/default.2020/M02/29@737484 2021/default.2021/M02/28@737849 2021/default.2021/M02/28@737849 P365D\n";
 
 fn span_word(alloc: Global) -> Result<Vec<String>, Fail> {
     let mut words = Vec::new(alloc);
@@ -92,7 +94,11 @@ fn requests_in_any_pieces(rt: HostRuntime) -> Result<(), Fail> {
             let status = run(rt.alloc(), &words, &mut source, &mut sink);
             assert_eq!(rt; sink.taken(), case.answer);
             let refused = case.answer[0] == b'e';
-            let wanted = if refused { Status::Refused } else { Status::Done };
+            let wanted = if refused {
+                Status::Refused
+            } else {
+                Status::Done
+            };
             assert_eq!(rt; status, wanted);
         }
     }

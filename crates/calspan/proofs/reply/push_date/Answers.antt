@@ -1,4 +1,4 @@
-use Rattle.std.proofs.Common.{◌≡◌, ℕ, ◌<◌, ◌≤◌, List, [], ◌∷◌, ◌++◌, FitsSigned, to_z, of_z, w32, w64, rules, refl, ap, ◌∙◌, append_assoc, arith}
+use Rattle.std.proofs.Common.{◌≡◌, ℕ, List, [], ◌∷◌, ◌++◌, FitsSigned, to_z, of_z, w32, w64, rules, refl, ap, ◌∙◌, append_assoc, arith}
 use Rattle.std.specs.Fmt.{signed_decimal}
 use Rattle.cal_days.proofs.Signed.{signed}
 use Rattle.cal_types.specs.Year.{extended_year_of}
@@ -18,7 +18,7 @@ push_two_digits-requires-clause-small c =
 
 -- the parts of a date, one after another
 pushed : (old a y m d n s t u v w x z q all : List ℕ) → s ≡ old ++ a → t ≡ s ++ 47 ∷ [] → u ≡ t ++ y → v ≡ u ++ 47 ∷ [] → w ≡ v ++ m → x ≡ w ++ 47 ∷ [] → z ≡ x ++ d → q ≡ z ++ 64 ∷ [] → all ≡ q ++ n
-  → all ≡ old ++ (a ++ 47 ∷ y ++ 47 ∷ m ++ 47 ∷ d ++ 64 ∷ n)
+    → all ≡ old ++ (a ++ 47 ∷ y ++ 47 ∷ m ++ 47 ∷ d ++ 64 ∷ n)
 pushed old a y m d n s t u v w x z q all e1 e2 e3 e4 e5 e6 e7 e8 e9 = rw (e9, e8, e7, e6, e5, e4, e3, e2, e1) (simp append_assoc)
 
 same_parts : (a y m d n b z o e p : List ℕ) → a ≡ b → y ≡ z → m ≡ o → d ≡ e → n ≡ p → a ++ 47 ∷ y ++ 47 ∷ m ++ 47 ∷ d ++ 64 ∷ n ≡ b ++ 47 ∷ z ++ 47 ∷ o ++ 47 ∷ e ++ 64 ∷ p

@@ -1,5 +1,4 @@
 use Rattle.std.proofs.Common.{◌≡◌, ℕ, List, [], ◌∷◌, ◌++◌, refl, ap, ◌∙◌, append_assoc}
-use Rattle.cal_model.specs.CalendarList.{Date}
 use Rattle.icu_calendar.specs.AnySystem.{any_system, any_date}
 use Rattle.icu_calendar.specs.declared.any_calendars.AnyCalendar.{AnyCalendar}
 use Rattle.calspan.specs.Replies.{date_text}

@@ -17,5 +17,5 @@ returns-clause-items c =
     let some : parts_text d ≡ [] → ⊥ = λ none. no (sym c.if-is_zero.false ∙ c.is_zero.ensures.1 none) in
     pushed c.args.text.now.items (if d.is_negative then 45 ∷ [] else []) (parts_text d) c.push_sign.new.text.items c.push.new.self.items c.push_parts.new.text.items c.push_sign.ensures.items c.push.ensures.items c.push_parts.ensures.items
     ∙ ap (λ t. c.args.text.now.items ++ t) (sym (nonzero d.is_negative (parts_text d) some)) where
-  no : ◌≡◌ {A = Bool} false true → ⊥
-  no e = cc
+      no : ◌≡◌ {A = Bool} false true → ⊥
+      no e = cc

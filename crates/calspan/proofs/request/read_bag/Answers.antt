@@ -1,4 +1,4 @@
-use Rattle.std.proofs.Common.{◌≡◌, ℤ, ℕ, List, Some, Option, FitsSigned, w32, to_z, of_z, refl, ap, sym, ◌∙◌, rules, arith}
+use Rattle.std.proofs.Common.{◌≡◌, ℤ, Some, FitsSigned, w32, to_z, of_z, refl, ap, sym, rules, arith}
 use Rattle.cal_days.proofs.Signed.{signed}
 use Rattle.cal_types.specs.Bag.{Bag}
 use Rattle.cal_types.specs.MonthParts.{month_parts}
@@ -25,5 +25,5 @@ returns-clause-reads c =
     let fits : FitsSigned w32 c.in-Some.year = search rules in
     let same : to_z w32 (of_z w32 c.in-Some.year) ≡ c.in-Some.year = omega (arith, signed) in
     rw (c.in-Some.ensures, c.in-Some-next_month.ensures, c.in-Some-next_day.ensures) (ap read (sym same)) where
-  read : ℤ → Read Bag
-  read year = Some (plain_bag year (month_parts c.in-Some-next_month.month) c.in-Some-next_day.day, words_left c.next_day.new.words)
+      read : ℤ → Read Bag
+      read year = Some (plain_bag year (month_parts c.in-Some-next_month.month) c.in-Some-next_day.day, words_left c.next_day.new.words)

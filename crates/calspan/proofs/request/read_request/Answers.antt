@@ -1,4 +1,4 @@
-use Rattle.std.proofs.Common.{◌≡◌, refl}
+use Rattle.std.proofs.Common.{refl}
 use Rattle.calspan.specs.Requests.{request_read}
 use Rattle.calspan.proofs.request.read_request.Goals as goal
 
