@@ -6,9 +6,8 @@ use Rattle.cal_days.specs.Day.{is_field_year, is_valid_day}
 use Rattle.cal_types.specs.Month.{MonthParts}
 use Rattle.cal_types.specs.Bag.{Bag}
 use Rattle.cal_types.specs.declared.options.Overflow.TheVariants.{Reject}
-use Rattle.cal_types.specs.declared.errors.DateFromFieldsError.{DateFromFieldsError}
 use Rattle.cal_types.specs.declared.errors.DateFromFieldsError.TheVariants.{Overflow as OutOfRange, MonthNotInCalendar, InvalidDay}
-use Rattle.cal_model.specs.CalendarList.{Date, date, month_length, day_number, spot, IsDate, is_date}
+use Rattle.cal_model.specs.CalendarList.{date, month_length, day_number, spot, IsDate, is_date}
 use Rattle.cal_model.specs.Resolving.{Resolved, resolve, resolved_day, Names}
 use Rattle.cal_model.proofs.ListLemmas.{spot-own}
 use Rattle.cal_model.proofs.DateTests.{true-is_date, true-and}
@@ -23,9 +22,9 @@ resolved_day-out last d out =
     let ok : Resolved ℕ = Ok d in
     let err : Resolved ℕ = Err (InvalidDay last) in
     ap (λ t. cond t ok err) test where
-  outside : (d ≡ 0) ⊎ ((d ≡ 0 → ⊥) × (last < d)) → (nat_le 1 d && nat_le d last) ≡ false
-  outside (inl none) = grind (arith, nat_tests)
-  outside (inr past) = grind (arith, nat_tests)
+      outside : (d ≡ 0) ⊎ ((d ≡ 0 → ⊥) × (last < d)) → (nat_le 1 d && nat_le d last) ≡ false
+      outside (inl none) = grind (arith, nat_tests)
+      outside (inr past) = grind (arith, nat_tests)
 
 -- a day that it has
 pub resolved_day-within : (last d : ℕ) → 1 ≤ d → d ≤ last → resolved_day last Reject d ≡ Ok d

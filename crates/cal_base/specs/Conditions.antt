@@ -1,5 +1,5 @@
 -- What the calls are asked, so far.
-use Rattle.std.specs.Prelude.{◌≡◌, Option, Some, None, Result, Ok, Err, IsSome, OnSome}
+use Rattle.std.specs.Prelude.{◌≡◌, Some, None, Result, Ok, Err, IsSome, OnSome}
 use Rattle.cal_types.specs.Bag.{Bag}
 use Rattle.cal_types.specs.declared.options.DateFromFieldsOptions.{DateFromFieldsOptions}
 use Rattle.cal_types.specs.declared.options.DateDifferenceOptions.{DateDifferenceOptions}

@@ -1,5 +1,5 @@
 -- The months of a year of the Gregorian list.
-use Rattle.std.proofs.Common.{nat_abs, ◌≤ℤ◌, ◌<ℤ◌, ◌-ℤ◌, ◌≡◌, ◌≢◌, ◌==◌, ◌||◌, ℕ, zero, suc, ◌+◌, ◌-◌, ◌*◌, ◌/◌, ◌<◌, ◌≤◌, Bool, true, false, cond, if◌then◌else◌, IsTrue, ◌↔◌, Some, sum_by, take, refl, sym, ap, subst, ◌∙◌, arith, ℤ, pos, ◌+ℤ◌}
+use Rattle.std.proofs.Common.{nat_abs, ◌≤ℤ◌, ◌<ℤ◌, ◌-ℤ◌, ◌≡◌, ◌≢◌, ◌==◌, ◌||◌, ℕ, zero, suc, ◌+◌, ◌-◌, ◌*◌, ◌/◌, ◌<◌, ◌≤◌, Bool, true, false, if◌then◌else◌, IsTrue, ◌↔◌, Some, sum_by, take, refl, sym, ap, subst, ◌∙◌, arith, ℤ, pos, ◌+ℤ◌}
 use Rattle.std.specs.Prelude.{slice_index_or, nat_le, nat_lt}
 use Rattle.std.proofs.lemmas.Bool.Decides.{nat_tests}
 use Rattle.cal_days.specs.Gregorian.{gregorian_leap, gregorian_start, gregorian_year_length, leap_days_through}
@@ -8,7 +8,7 @@ use Rattle.cal_days.proofs.Signed.{signed, signed_casts}
 use Rattle.cal_days.proofs.GregorianLemmas.{gregorian_start-next}
 use Rattle.cal_types.specs.Month.{MonthParts, month_rank}
 use Rattle.cal_types.specs.declared.options.Overflow.TheVariants.{Constrain}
-use Rattle.cal_model.specs.CalendarList.{days_of, no_entry, days_before, month_length, month_count, month_at, year_length, start_of_year, HasPlace, IsOn, date, place_of, spot, IsLawful}
+use Rattle.cal_model.specs.CalendarList.{days_of, no_entry, days_before, month_length, month_count, month_at, year_length, start_of_year, HasPlace, IsOn, date, place_of, IsLawful}
 use Rattle.cal_model.proofs.ListLemmas.{start_of_year-unique, spot-own, on-rest}
 use Rattle.cal_base.specs.GregorianList.{gregorian_months, gregorian_list, is_plain_month}
 
@@ -150,8 +150,8 @@ pub plain_is : (m : MonthParts) → is_plain_month 12 m ≡ true → (1 ≤ m.nu
 plain_is m h =
     let plain : m.is_leap ≡ false = grind (arith, nat_tests) in
     (grind (arith, nat_tests), grind (arith, nat_tests), ap (λ (b : Bool). plain_or b) plain) where
-  plain_or : Bool → MonthParts
-  plain_or b = record { number = m.number; is_leap = b }
+      plain_or : Bool → MonthParts
+      plain_or b = record { number = m.number; is_leap = b }
 
 true-plain : (n : ℕ) → 1 ≤ n → n ≤ 12 → is_plain_month 12 (record { number = n; is_leap = false }) ≡ true
 true-plain n low high = grind (arith, nat_tests)

@@ -1,5 +1,5 @@
 -- What belonging to the ISO calendar says.
-use Rattle.std.proofs.Common.{◌≡◌, ℕ, ℤ, pos, ◌+◌, ◌≤◌, ◌+ℤ◌, Bool, true, false, if◌then◌else◌, min, Option, Some, None, OnSome, ◌↔◌, ◌<ℤ◌, ◌-ℤ◌, unsigned_abs, refl, sym, ap, subst, arith}
+use Rattle.std.proofs.Common.{◌≡◌, ℕ, ℤ, ◌≤◌, Bool, false, if◌then◌else◌, min, Option, Some, None, OnSome, ◌↔◌, ◌<ℤ◌, ◌-ℤ◌, unsigned_abs, refl, sym, ap, subst, arith}
 use Rattle.std.proofs.lemmas.Bool.Decides.{nat_tests}
 use Rattle.std.specs.Prelude.{IsTrue}
 use Rattle.cal_days.specs.Day.{IsValidDay, IsFieldYear, is_valid_day}
@@ -13,7 +13,7 @@ use Rattle.cal_types.specs.declared.duration.DateDurationUnit.{DateDurationUnit}
 use Rattle.cal_types.specs.declared.duration.DateDurationUnit.TheVariants.{Days}
 use Rattle.cal_model.specs.Difference.{IsDifference, largest_unit_of}
 use Rattle.cal_model.proofs.DifferenceLaws.{days-difference}
-use Rattle.cal_model.specs.CalendarList.{Date, IsDate, IsValidDate, is_date, day_number, year_length}
+use Rattle.cal_model.specs.CalendarList.{Date, IsDate, IsValidDate, is_date, day_number}
 use Rattle.cal_model.proofs.DateTests.{is_date-true, and-left, and-right}
 use Rattle.cal_model.proofs.ListLemmas.{date-in_year}
 use Rattle.cal_base.specs.GregorianList.{gregorian_list}
@@ -52,7 +52,7 @@ largest_unit-days (Some unit) h = ap largest_unit_of h
 
 -- the difference in days, from the two day numbers
 pub iso-difference : (t u : Date) (o : Option DateDurationUnit) (d : DateDuration) (n m : ℤ) → IsDate gregorian_list t → OnSome o (o ≡ Some Days) → n ≡ day_number gregorian_list t → m ≡ day_number gregorian_list u
-  → IsTrue d.is_negative ↔ (m <ℤ n) → d.years ≡ 0 → d.months ≡ 0 → d.weeks ≡ 0 → d.days ≡ unsigned_abs (m -ℤ n) → IsDifference gregorian_list t u (largest_unit_of o) d
+    → IsTrue d.is_negative ↔ (m <ℤ n) → d.years ≡ 0 → d.months ≡ 0 → d.weeks ≡ 0 → d.days ≡ unsigned_abs (m -ℤ n) → IsDifference gregorian_list t u (largest_unit_of o) d
 iso-difference t u o d n m h unit first second sign years months weeks days =
     subst (λ (x : DateDurationUnit). IsDifference gregorian_list t u x d) (sym (largest_unit-days o unit))
     (days-difference gregorian_list gregorian_list-lawful t u h d (rw (first, second) at sign) years months weeks (rw (first, second) at days))

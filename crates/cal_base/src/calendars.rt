@@ -13,7 +13,10 @@ ghost use Rattle.cal_base.specs.Conditions.{IsPlain, IsRejecting, IsInDays, date
 
 use crate::scaffold::UnstableSealed;
 use cal_days::RataDie;
-use cal_types::{DateDifferenceOptions, DateDuration, DateFields, DateFromFieldsError, DateFromFieldsOptions, DayOfMonth, IntoYearInfo, MonthInfo};
+use cal_types::{
+    DateDifferenceOptions, DateDuration, DateFields, DateFromFieldsError, DateFromFieldsOptions,
+    DayOfMonth, IntoYearInfo, MonthInfo,
+};
 use std::fmt::Debug;
 
 /// A calendar: its years, its months and its eras, over dates that it keeps in a form of its own.
@@ -37,7 +40,11 @@ pub trait Calendar: UnstableSealed + Drop {
     ghost belongs: { Self → Self.DateInner → Bool };
 
     /// The date that the fields name, or the first fault, in the order of ECMAScript Temporal's CalendarResolveFields.
-    fn from_fields(&self, fields: DateFields<'_>, options: DateFromFieldsOptions) -> Result<Self::DateInner, DateFromFieldsError>
+    fn from_fields(
+        &self,
+        fields: DateFields<'_>,
+        options: DateFromFieldsOptions,
+    ) -> Result<Self::DateInner, DateFromFieldsError>
         requires fields { IsPlain (bag_of fields) }
         requires options { IsRejecting options }
         ensures resolved { date_answer (date_of self.now) result ≡ resolve (system self.now).list (bag_of fields.entry) (overflow_of options.overflow) }
@@ -71,7 +78,12 @@ pub trait Calendar: UnstableSealed + Drop {
 
     /// The difference from the first date to the second: the greatest that does not surpass the second
     /// (ECMAScript Temporal's NonISODateUntil).
-    fn until(&self, date1: &Self::DateInner, date2: &Self::DateInner, options: DateDifferenceOptions) -> DateDuration
+    fn until(
+        &self,
+        date1: &Self::DateInner,
+        date2: &Self::DateInner,
+        options: DateDifferenceOptions,
+    ) -> DateDuration
         requires first { IsTrue (belongs self.now date1.now) }
         requires second { IsTrue (belongs self.now date2.now) }
         requires unit { IsInDays options }

@@ -170,7 +170,11 @@ impl Calendar for Iso {
 
     ghost belongs = { λ _ d. iso_belongs d };
 
-    fn from_fields(&self, fields: DateFields<'_>, _options: DateFromFieldsOptions) -> Result<IsoDateInner, DateFromFieldsError> {
+    fn from_fields(
+        &self,
+        fields: DateFields<'_>,
+        _options: DateFromFieldsOptions,
+    ) -> Result<IsoDateInner, DateFromFieldsError> {
         match (fields.extended_year, fields.month, fields.day) {
             (Some(year), Some(month), Some(day)) => date_of_fields(year, month, day),
             _ => Err(DateFromFieldsError::NotEnoughFields),
@@ -204,7 +208,12 @@ impl Calendar for Iso {
         DayOfMonth(date.day)
     }
 
-    fn until(&self, date1: &IsoDateInner, date2: &IsoDateInner, _options: DateDifferenceOptions) -> DateDuration {
+    fn until(
+        &self,
+        date1: &IsoDateInner,
+        date2: &IsoDateInner,
+        _options: DateDifferenceOptions,
+    ) -> DateDuration {
         days_between(self.to_rata_die(date1), self.to_rata_die(date2))
     }
 
@@ -224,3 +233,6 @@ impl AsCalendar for Iso {
         self
     }
 }
+
+#[cfg(test)]
+mod tests;

@@ -1,4 +1,4 @@
-use Rattle.std.proofs.Common.{◌≡◌, arith}
+use Rattle.std.proofs.Common.{arith}
 use Rattle.std.proofs.lemmas.Bool.Decides.{nat_tests}
 use Rattle.cal_base.specs.GregorianLaws.{days_before-gregorian, prior_days-closed}
 use Rattle.cal_base.proofs.gregorian_months.days_before_month.Goals as goal

@@ -1,4 +1,4 @@
-use Rattle.std.proofs.Common.{◌≡◌, ◌∙◌, sym, ap, arith}
+use Rattle.std.proofs.Common.{ap, arith}
 use Rattle.std.proofs.lemmas.Bool.Decides.{nat_tests}
 use Rattle.cal_base.specs.GregorianLaws.{month_length-gregorian, month_days, month_days-february, month_days-others}
 use Rattle.cal_base.proofs.gregorian_months.days_in_month.Goals as goal

@@ -1,4 +1,4 @@
-use Rattle.std.proofs.Common.{◌≡◌, ℕ, ◌+◌, ◌*◌, ◌/◌, refl, ap, arith}
+use Rattle.std.proofs.Common.{ℕ, ◌+◌, ◌*◌, ◌/◌, ap, arith}
 use Rattle.cal_base.specs.GregorianLaws.{days_before-gregorian, month_length-gregorian, month_found}
 use Rattle.cal_base.proofs.gregorian_months.month_of_day.Goals as goal
 

@@ -1,6 +1,6 @@
-use Rattle.std.proofs.Common.{◌≡◌, ℤ, ◌≤◌, ◌<◌, ◌+◌, to_z, of_z, w32, arith}
+use Rattle.std.proofs.Common.{◌≡◌, ◌≤◌, ◌<◌, ◌+◌, to_z, of_z, w32, arith}
 use Rattle.cal_days.proofs.Signed.{signed}
-use Rattle.cal_model.specs.CalendarList.{HasPlace, days_before, month_length}
+use Rattle.cal_model.specs.CalendarList.{HasPlace}
 use Rattle.cal_base.specs.GregorianList.{gregorian_list}
 use Rattle.cal_base.specs.GregorianLaws.{year_length-leap, month_count-gregorian, month_length-most, day_found}
 use Rattle.cal_base.proofs.iso_calendar.date_in_year.Goals as goal

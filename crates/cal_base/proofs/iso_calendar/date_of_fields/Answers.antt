@@ -50,8 +50,8 @@ returns-clause-resolved c b names =
     let low : 1 ≤ c.args.day = omega arith in
     let valid = valid_is c.args.year _ _ (month_parts c.args.month).number c.args.day c.day_number.result _ true same c.number-number.ensures.value c.day_number.ensures c.is_valid_day.ensures c.if-not-is_valid_day.false in
     same_ok same c.number-number.ensures.value ∙ sym (iso-ok b c.args.year (month_parts c.args.month) c.args.day names c.days_in_month-max.result field kind last low c.if-day-max.false valid) where
-  same_ok : {y z : ℤ} {i j d : ℕ} → z ≡ y → i ≡ j → ◌≡◌ {A = Result Date DateFromFieldsError} (Ok (date z i d)) (Ok (date y j d))
-  same_ok years months = cc
+      same_ok : {y z : ℤ} {i j d : ℕ} → z ≡ y → i ≡ j → ◌≡◌ {A = Result Date DateFromFieldsError} (Ok (date z i d)) (Ok (date y j d))
+      same_ok years months = cc
 
 pub returns-clause-belongs : goal.returns-clause-belongs
 returns-clause-belongs c =

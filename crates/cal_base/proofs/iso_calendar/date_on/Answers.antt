@@ -1,6 +1,6 @@
-use Rattle.std.proofs.Common.{◌≡◌, ℤ, ◌+ℤ◌, ◌<◌, pos, nat_abs, to_z, of_z, w32, w64, ap, sym, subst, arith}
+use Rattle.std.proofs.Common.{◌≡◌, ℤ, to_z, of_z, w32, w64, subst, arith}
 use Rattle.cal_days.proofs.Signed.{signed}
-use Rattle.cal_model.specs.CalendarList.{IsOn, year_length}
+use Rattle.cal_model.specs.CalendarList.{IsOn}
 use Rattle.cal_base.specs.GregorianList.{gregorian_list}
 use Rattle.cal_base.specs.IsoSystem.{iso_date}
 use Rattle.cal_base.specs.GregorianLaws.{day_in_year}

@@ -1,9 +1,7 @@
-use Rattle.std.proofs.Common.{◌≡◌, ℤ, to_z, of_z, w32, ap, ◌∙◌, sym, arith}
+use Rattle.std.proofs.Common.{◌≡◌, to_z, of_z, w32, ap, arith}
 use Rattle.cal_days.specs.Gregorian.{gregorian_start}
 use Rattle.cal_days.proofs.Signed.{signed}
 use Rattle.cal_days.proofs.GregorianLemmas.{gregorian_start-bounds}
-use Rattle.cal_model.specs.CalendarList.{start_of_year}
-use Rattle.cal_base.specs.GregorianList.{gregorian_list}
 use Rattle.cal_base.specs.GregorianLaws.{leap_is, month_count-gregorian, month_length-most, start_of_year-gregorian}
 use Rattle.cal_base.proofs.iso_calendar.day_number.Goals as goal
 

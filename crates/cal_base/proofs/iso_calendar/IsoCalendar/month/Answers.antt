@@ -1,8 +1,7 @@
-use Rattle.std.proofs.Common.{◌≡◌, ◌≤◌, ◌∙◌, sym, ap, arith}
+use Rattle.std.proofs.Common.{◌≤◌, ◌∙◌, sym, ap, arith}
 use Rattle.cal_types.specs.MonthInfo.{month_info}
 use Rattle.cal_types.specs.Month.{MonthParts}
 use Rattle.cal_types.specs.declared.month_info.LeapStatus.TheVariants.{Normal}
-use Rattle.cal_base.specs.IsoSystem.{iso_date}
 use Rattle.cal_base.specs.GregorianLaws.{month_at-gregorian, month_count-gregorian}
 use Rattle.cal_base.specs.IsoLaws.{iso_belongs-date, plain_month-small}
 use Rattle.cal_base.proofs.iso_calendar.IsoCalendar.month.Goals as goal

@@ -1,4 +1,4 @@
-use Rattle.std.proofs.Common.{◌≡◌, ℤ, to_z, of_z, w32, arith}
+use Rattle.std.proofs.Common.{arith}
 use Rattle.cal_days.proofs.Signed.{signed}
 use Rattle.cal_base.specs.IsoLaws.{iso_belongs-date, iso_belongs-valid, gregorian-ranged}
 use Rattle.cal_base.specs.IsoSystem.{iso_date}
