@@ -1,11 +1,11 @@
 -- Two bags have an answer, and only one.
-use Rattle.std.proofs.Common.{◌≡◌, Option, Some, None, Result, Ok, Err, refl, sym, ap, subst, ◌∙◌, ℤ}
+use Rattle.std.proofs.Common.{◌≡◌, Result, Ok, Err, refl, sym, ap, subst, ◌∙◌}
 use Rattle.cal_types.specs.Bag.{Bag}
 use Rattle.cal_types.specs.declared.options.Overflow.{Overflow}
 use Rattle.cal_types.specs.declared.duration.DateDuration.{DateDuration}
 use Rattle.cal_types.specs.declared.duration.DateDurationUnit.{DateDurationUnit}
 use Rattle.cal_types.specs.declared.errors.DateFromFieldsError.{DateFromFieldsError}
-use Rattle.cal_model.specs.CalendarList.{CalendarList, Date, IsDate, IsLawful, IsOn, day_number}
+use Rattle.cal_model.specs.CalendarList.{CalendarList, Date, IsLawful, IsOn, day_number}
 use Rattle.cal_model.specs.Resolving.{Resolved, resolve}
 use Rattle.cal_model.specs.Difference.{IsDifference}
 use Rattle.cal_model.proofs.ListLemmas.{on-finds, on-unique}

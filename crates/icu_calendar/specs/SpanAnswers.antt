@@ -1,6 +1,5 @@
 -- What a difference of two bags, and the dates in it, say.
 use Rattle.std.specs.Prelude.{Result, Ok, Err}
-use Rattle.cal_model.specs.CalendarList.{Date}
 use Rattle.icu_calendar.specs.declared.span_parts.Span.{Span}
 use Rattle.icu_calendar.specs.declared.span_parts.SpanError.{SpanError}
 use Rattle.icu_calendar.specs.AnySystem.{any_date}

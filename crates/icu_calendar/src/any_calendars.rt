@@ -40,9 +40,15 @@ impl Calendar for AnyCalendar {
 
     ghost belongs = { any_belongs };
 
-    fn from_fields(&self, fields: DateFields<'_>, options: DateFromFieldsOptions) -> Result<AnyDateInner, DateFromFieldsError> {
+    fn from_fields(
+        &self,
+        fields: DateFields<'_>,
+        options: DateFromFieldsOptions,
+    ) -> Result<AnyDateInner, DateFromFieldsError> {
         match self {
-            AnyCalendar::Iso(calendar) => Ok(AnyDateInner::Iso(calendar.from_fields(fields, options)?)),
+            AnyCalendar::Iso(calendar) => Ok(AnyDateInner::Iso(calendar.from_fields(
+                fields, options,
+            )?)),
         }
     }
 
@@ -78,7 +84,12 @@ impl Calendar for AnyCalendar {
         }
     }
 
-    fn until(&self, date1: &AnyDateInner, date2: &AnyDateInner, options: DateDifferenceOptions) -> DateDuration {
+    fn until(
+        &self,
+        date1: &AnyDateInner,
+        date2: &AnyDateInner,
+        options: DateDifferenceOptions,
+    ) -> DateDuration {
         match (self, date1, date2) {
             (AnyCalendar::Iso(calendar), AnyDateInner::Iso(date1), AnyDateInner::Iso(date2)) => {
                 calendar.until(date1, date2, options)

@@ -12,19 +12,28 @@ ghost use Rattle.cal_base.specs.Conditions.{IsPlain, IsRejecting, IsInDays, date
 
 use cal_base::{AsCalendar, Calendar};
 use cal_days::RataDie;
-use cal_types::{DateDifferenceOptions, DateDuration, DateFields, DateFromFieldsError, DateFromFieldsOptions, DayOfMonth, IntoYearInfo, MonthInfo, YearInfo};
+use cal_types::{
+    DateDifferenceOptions, DateDuration, DateFields, DateFromFieldsError, DateFromFieldsOptions,
+    DayOfMonth, IntoYearInfo, MonthInfo, YearInfo,
+};
 use std::alloc::AllocError;
 
 /// A date, and the calendar that it belongs to. Its day number is in the valid range.
-pub struct Date<A: AsCalendar<Calendar = K>, K: Calendar<DateInner = D> = <A as AsCalendar>::Calendar, D = <K as Calendar>::DateInner> {
+pub struct Date<
+    A: AsCalendar<Calendar = K>,
+    K: Calendar<DateInner = D> = <A as AsCalendar>::Calendar,
+    D = <K as Calendar>::DateInner,
+> {
     inner: D,
     calendar: A,
     ghost belongs: { IsTrue (K.belongs (A.cal_of calendar) inner) },
 }
 
-impl<A: AsCalendar<Calendar = K> + Copy, K: Calendar<DateInner = D>, D: Copy> Copy for Date<A, K, D> {}
+impl<A: AsCalendar<Calendar = K> + Copy, K: Calendar<DateInner = D>, D: Copy> Copy
+    for Date<A, K, D> {}
 
-impl<A: AsCalendar<Calendar = K> + Copy, K: Calendar<DateInner = D>, D: Copy> Clone for Date<A, K, D> {
+impl<A: AsCalendar<Calendar = K> + Copy, K: Calendar<DateInner = D>, D: Copy> Clone
+    for Date<A, K, D> {
     fn clone(&self) -> Result<Self, AllocError> {
         Ok(Date {
             inner: self.inner,
@@ -38,7 +47,11 @@ where
     A::Calendar: Calendar,
 {
     /// The date that the fields name in a calendar, or the first fault.
-    pub fn try_from_fields(fields: DateFields<'_>, options: DateFromFieldsOptions, calendar: A) -> Result<Self, DateFromFieldsError>
+    pub fn try_from_fields(
+        fields: DateFields<'_>,
+        options: DateFromFieldsOptions,
+        calendar: A,
+    ) -> Result<Self, DateFromFieldsError>
         requires fields { IsPlain (bag_of fields) }
         requires options { IsRejecting options }
         ensures resolved { date_answer (λ d. A.Calendar.date_of (A.cal_of calendar) d.inner) result ≡ resolve (A.Calendar.system (A.cal_of calendar)).list (bag_of fields.entry) (overflow_of options.overflow) }
@@ -59,7 +72,10 @@ where
     pub fn year(&self) -> YearInfo
         ensures { result ≡ (A.Calendar.system (A.cal_of self.now.calendar)).year_info (A.Calendar.date_of (A.cal_of self.now.calendar) self.now.inner) }
     {
-        self.calendar.as_calendar().year_info(&self.inner).into_year_info()
+        self.calendar
+            .as_calendar()
+            .year_info(&self.inner)
+            .into_year_info()
     }
 
     /// The month: its place in the year, and its month codes.
@@ -94,6 +110,8 @@ where
         requires unit { IsInDays options }
         ensures { IsDifference (A.Calendar.system (A.cal_of self.now.calendar)).list (A.Calendar.date_of (A.cal_of self.now.calendar) self.now.inner) (A.Calendar.date_of (A.cal_of self.now.calendar) other.now.inner) (largest_unit_of options.largest_unit) result }
     {
-        self.calendar.as_calendar().until(&self.inner, &other.inner, options)
+        self.calendar
+            .as_calendar()
+            .until(&self.inner, &other.inner, options)
     }
 }

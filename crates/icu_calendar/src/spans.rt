@@ -17,7 +17,14 @@ use cal_types::{DateDifferenceOptions, DateFields, DateFromFieldsOptions};
 /// from the first date to the second.
 ///
 /// Where a bag names no date, the error has its side and its first fault; the first bag comes first.
-pub fn span(from: DateFields<'_>, to: DateFields<'_>, options: DateFromFieldsOptions, difference: DateDifferenceOptions, calendar: AnyCalendar, shown: AnyCalendar) -> Result<Span, SpanError>
+pub fn span(
+    from: DateFields<'_>,
+    to: DateFields<'_>,
+    options: DateFromFieldsOptions,
+    difference: DateDifferenceOptions,
+    calendar: AnyCalendar,
+    shown: AnyCalendar,
+) -> Result<Span, SpanError>
     requires from { IsPlain (bag_of from) }
     requires to { IsPlain (bag_of to) }
     requires options { IsRejecting options }
@@ -26,11 +33,17 @@ pub fn span(from: DateFields<'_>, to: DateFields<'_>, options: DateFromFieldsOpt
 {
     let first = match Date::try_from_fields(from, options, calendar) {
         Ok(date) => date,
-        Err(cause) => return Err(SpanError { side: BagSide::From, cause }),
+        Err(cause) => return Err(SpanError {
+            side: BagSide::From,
+            cause,
+        }),
     };
     let second = match Date::try_from_fields(to, options, calendar) {
         Ok(date) => date,
-        Err(cause) => return Err(SpanError { side: BagSide::To, cause }),
+        Err(cause) => return Err(SpanError {
+            side: BagSide::To,
+            cause,
+        }),
     };
     Ok(Span {
         from: first,

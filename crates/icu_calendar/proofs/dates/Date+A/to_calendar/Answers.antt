@@ -1,4 +1,4 @@
-use Rattle.std.proofs.Common.{rules, subst, sym, ℤ}
+use Rattle.std.proofs.Common.{subst, sym, ℤ}
 use Rattle.cal_days.specs.Day.{IsValidDay}
 use Rattle.icu_calendar.proofs.dates.Date+A.to_calendar.Goals as goal
 
