@@ -1,7 +1,7 @@
 //! Three Gregorian years, counted through by hand-made lists.
 
 use crate::listed_years::{ListedDate, ListedMonth, ListedYears};
-use cal_types::Month;
+use cal_types::{DateDuration, Month};
 
 fn listed(number: u8, days: u8) -> ListedMonth {
     ListedMonth {
@@ -27,6 +27,10 @@ fn months(february: u8) -> [ListedMonth; 12] {
     ]
 }
 
+fn date((year, month, day): (i32, u8, u8)) -> ListedDate {
+    ListedDate { year, month, day }
+}
+
 #[test]
 fn counts_gregorian_days(rt: HostRuntime) {
     let (common, leap) = (months(28), months(29));
@@ -49,6 +53,34 @@ fn counts_gregorian_days(rt: HostRuntime) {
             list.date_on(number),
             Some(ListedDate { year, month, day }),
             "at {number}"
+        );
+    }
+}
+
+#[test]
+fn counts_days_between_dates(rt: HostRuntime) {
+    let (common, leap) = (months(28), months(29));
+    let years: [&[ListedMonth]; 3] = [&common, &leap, &common];
+    let list = ListedYears::new(2023, 738521, &years);
+    let cases = [
+        ((2023, 3, 1), (2025, 2, 28), false, 730),
+        ((2024, 2, 28), (2024, 3, 1), false, 2),
+        ((2025, 12, 31), (2023, 1, 1), true, 1095),
+        ((2024, 2, 29), (2024, 2, 29), false, 0),
+    ];
+    for (from, to, is_negative, days) in cases {
+        let (from, to) = (date(from), date(to));
+        let want = DateDuration {
+            is_negative,
+            years: 0,
+            months: 0,
+            weeks: 0,
+            days,
+        };
+        assert_eq!(rt;
+            list.difference_in_days(from, to),
+            Some(want),
+            "from {from:?} to {to:?}"
         );
     }
 }

@@ -1,4 +1,4 @@
-use Rattle.std.proofs.Common.{ℕ, ◌-◌, ◌≤◌, List, [], ◌∷◌, ◌++◌, length, drop, replicate, refl, arith, zero, suc, length-append}
+use Rattle.std.proofs.Common.{◌≡◌, ℕ, ◌-◌, ◌≤◌, List, [], ◌∷◌, ◌++◌, length, drop, replicate, refl, arith, zero, suc, length-append}
 use Rattle.std.specs.Str.{IsAscii, IsUtf8}
 use Rattle.std.proofs.lemmas.Str.{IsUtf8-from_ascii}
 use Rattle.std.proofs.lemmas.List.{drop-replicate, length-replicate}
@@ -19,12 +19,15 @@ pub IsUtf8-from_text : (bs : List ℕ) → IsText bs → IsUtf8 bs
 IsUtf8-from_text bs h = IsUtf8-from_ascii bs (IsAscii-from_text bs h)
 
 -- a text that is copied over the first of n zeros is held in those n bytes
-pub HoldsText-copied : (n : ℕ) (t : List ℕ) → length t ≤ n → IsText t → HoldsText n (t ++ drop (length t) (replicate n 0)) (length t)
+pub HoldsText-copied : (n : ℕ) (t : List ℕ) → length t ≤ n → IsText t →
+    HoldsText n (t ++ drop (length t) (replicate n 0)) (length t)
 HoldsText-copied n t fits text =
+    let size : length (t ++ replicate (n - length t) 0) ≡ n =
+    omega (arith, fits, length-append t (replicate (n - length t) 0), length-replicate {A = ℕ} (n - length t) 0) in
     rw (drop-replicate {X = ℕ} (length t) n 0)
     (record {
-      fits = fits;
-      size = omega (arith, fits, length-append t (replicate (n - length t) 0), length-replicate {A = ℕ} (n - length t) 0);
+      fits = omega (arith, fits, size);
+      size = size;
       zeros = rw (take-append_seam t (replicate (n - length t) 0)) refl;
       text = rw (take-append_seam t (replicate (n - length t) 0)) text;
     })

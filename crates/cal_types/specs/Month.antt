@@ -29,10 +29,16 @@ leap_read [] = Some false
 leap_read (letter ∷ []) = if nat_eq letter 76 then Some true else None
 leap_read _ = None
 
+-- the month that two digits number
+abbrev pub month_of_digits : ℕ → ℕ → Bool → MonthParts
+month_of_digits tens units leap = record { number = 10 * (tens - 48) + (units - 48); is_leap = leap }
+
 -- the month that a month code names: `M`, two digits, and nothing more or `L`
 abbrev pub month_read : List ℕ → Option MonthParts
 month_read (letter ∷ tens ∷ units ∷ rest) =
-    if nat_eq letter 77 && is_ascii_digit tens && is_ascii_digit units then option_map (λ leap. record { number = 10 * (tens - 48) + (units - 48); is_leap = leap }) (leap_read rest) else None
+    if nat_eq letter 77 && is_ascii_digit tens && is_ascii_digit units
+    then option_map (month_of_digits tens units) (leap_read rest)
+    else None
 month_read _ = None
 
 -- the code of the plain month for a text whose fourth byte is `L`: its first three bytes

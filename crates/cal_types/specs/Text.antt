@@ -15,7 +15,7 @@ filled n bs = bs ++ replicate (n - length bs) 0
 
 -- an array of n bytes that holds a text of `len` bytes: the text stands first, and zeros follow
 pub record HoldsText (n : ℕ) (bytes : List ℕ) (len : ℕ) : Type 0 where
-  pub fits : len ≤ n
+  pub fits : len ≤ length bytes
   pub size : length bytes ≡ n
   pub zeros : bytes ≡ filled n (take len bytes)
   pub text : IsText (take len bytes)

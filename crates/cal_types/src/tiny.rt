@@ -3,11 +3,10 @@
 ghost use Rattle.std.specs.Prelude.{◌≡◌, ◌<◌, ◌≤◌, ◌↔◌, length, IsOk, IfOk, IsErrOf, nat_eq, refl, Some};
 ghost use Rattle.std.specs.Ordering.{nat_cmp};
 ghost use Rattle.std.specs.Cmp.{partial_equiv_from_equiv};
-ghost use Rattle.std.specs.Cmp.Lexicographic.{pointwise, slice_cmp, nat_list_eq_equiv, nat_list_cmp_total, texts_po, texts_ties};
-ghost use Rattle.std.specs.Cmp.Rules.{hashing};
+ghost use Rattle.std.specs.Cmp.Lexicographic.{bytes_decides, pointwise, slice_cmp, nat_list_eq_equiv, nat_list_cmp_total, texts_po, texts_ties};
 ghost use Rattle.std.specs.Hash as fed;
 ghost use Rattle.std.specs.List.{list_all};
-ghost use Rattle.std.proofs.Common.{rules};
+ghost use Rattle.std.proofs.Common.{ap};
 ghost use Rattle.cal_types.specs.Text.{IsText, filled, is_text_byte};
 
 use crate::errors::TinyStrError;
@@ -37,9 +36,9 @@ impl<const N: usize> Model for TinyAsciiStr<N> {
 
     ghost inverse = { λ t. record { bytes = filled N t; len = length t } };
 
-    ghost use Rattle.std.proofs.Common.{arith, length-take-le, sym};
+    ghost use Rattle.std.proofs.Common.{length-take-le, sym};
 
-    ghost inverse_ok = { λ s h i. record { bytes = sym h.zeros i; len = length-take-le s.len s.bytes (omega (arith, h.fits, h.size)) i } };
+    ghost inverse_ok = { λ s held i. record { bytes = sym held.zeros i; len = length-take-le s.len s.bytes held.fits i } };
 }
 
 impl<const N: usize> TinyAsciiStr<N> {
@@ -84,6 +83,7 @@ impl<const N: usize> TinyAsciiStr<N> {
     pub fn as_bytes(&self) -> &[u8]
         ensures value { result.now ≡ self.now }
         ensures text { IsText result.now }
+        ensures fits { length result.now ≤ N }
     {
         &self.bytes[..self.len]
     }
@@ -160,7 +160,7 @@ impl<const N: usize> Ord for TinyAsciiStr<N> {
 impl<const N: usize> Hash for TinyAsciiStr<N> {
     ghost hash_input = { λ s. fed.str s };
 
-    ghost respects_eq = { Prim.search (hashing, rules) };
+    ghost respects_eq = { λ s t same. ap fed.str ((bytes_decides s t).0 same) };
 
     fn hash<H: Hasher>(&self, state: &mut H) {
         self.as_str().hash(state);

@@ -65,11 +65,13 @@ abbrev pub side_text : BagSide → List ℕ
 side_text From = codes "from"
 side_text To = codes "to"
 
+-- both dates, each before the same day in the second calendar
+abbrev pub dates_text : CalendarSystem → CalendarSystem → SpanDates → List ℕ
+dates_text c shown s = date_text c s.from ++ 32 ∷ date_text shown s.from_shown ++ 32 ∷ date_text c s.to ++ 32 ∷ date_text shown s.to_shown
+
 -- both dates with the same days in the second calendar, and the difference; or the first fault
 abbrev pub reply_text : CalendarSystem → CalendarSystem → Result SpanDates SpanError → List ℕ
-reply_text c shown (Ok s) =
-    codes "ok " ++ date_text c s.from ++ 32 ∷ date_text shown s.from_shown ++ 32 ∷ date_text c s.to ++ 32 ∷ date_text shown s.to_shown
-    ++ 32 ∷ duration_text s.duration ++ 10 ∷ []
+reply_text c shown (Ok s) = codes "ok " ++ dates_text c shown s ++ 32 ∷ duration_text s.duration ++ 10 ∷ []
 reply_text c shown (Err e) = codes "err " ++ side_text e.side ++ 32 ∷ cause_text e.cause ++ 10 ∷ []
 
 abbrev pub is_refusal : Result SpanDates SpanError → Bool

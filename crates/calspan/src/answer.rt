@@ -5,6 +5,7 @@ ghost use Rattle.calspan.specs.Lines.{line_of};
 ghost use Rattle.calspan.specs.Answers.{IsAnswerTo, begin};
 
 use crate::line::{Line, read_line};
+use crate::reply::reply;
 use crate::status::Status;
 use crate::text::{Text, push_about};
 use line_reader::LineBuffer;
@@ -50,6 +51,11 @@ pub fn answer(text: &mut Text, progress: &mut Progress, number: u64, line: &Line
         Line::Long => {
             push_about(text, b"err line ", number, b"long");
             progress.refused = true;
+        }
+        Line::Asks(request) => {
+            if reply(text, &request) {
+                progress.refused = true;
+            }
         }
         Line::Unbuilt => {
             push_about(text, b"err line ", number, b"unbuilt");

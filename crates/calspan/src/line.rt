@@ -4,20 +4,23 @@ ghost use Rattle.std.specs.Str.Lines.{strip_carriage_return};
 ghost use Rattle.line_reader.specs.Buffer.{Holds};
 ghost use Rattle.calspan.specs.Lines.{line_of};
 
+use crate::request::{Request, read_request};
 use line_reader::LineBuffer;
 
 /// What a line says.
-#[derive(Clone, Copy, Debug, PartialEq, Eq)]
-pub enum Line {
+#[derive(Clone, Copy, Debug)]
+pub enum Line<'a> {
     /// It is empty or a comment, and gives nothing.
     Nothing,
     /// It is a request line of more than 512 bytes.
     Long,
-    /// It is a request line, and no request can be answered yet.
+    /// It is a request.
+    Asks(Request<'a>),
+    /// It is a request line that can't be answered yet.
     Unbuilt,
 }
 
-ghost use Rattle.calspan.specs.LineSaid.{line_said};
+ghost use Rattle.calspan.specs.LineSaid.{line_said, CanBeAnswered};
 
 // Without the one carriage return at its end.
 fn without_return(line: &[u8]) -> &[u8]
@@ -30,20 +33,27 @@ fn without_return(line: &[u8]) -> &[u8]
 }
 
 // A line of at most 512 bytes.
-fn read_short(line: &[u8]) -> Line
+fn read_short<'a>(line: &'a [u8]) -> Line<'a>
     requires { length line.now ≤ 512 }
-    ensures { line_said result ≡ line_of line.now }
+    ensures says { line_said result ≡ line_of line.now }
+    ensures answerable { CanBeAnswered result }
 {
-    if without_return(line).is_empty() || line[0] == b'#' {
+    let text = without_return(line);
+    if text.is_empty() || line[0] == b'#' {
         return Line::Nothing;
     }
-    Line::Unbuilt
+    match read_request(text) {
+        Some(request) => Line::Asks(request),
+        None => Line::Unbuilt,
+    }
 }
 
 // A longer line, by its first 512 bytes.
-fn read_long(front: &[u8]) -> Line
+fn read_long<'a>(front: &'a [u8]) -> Line<'a>
     requires { length front.now ≡ 512 }
-    ensures { (line : List ℕ) → front.now ≡ take 512 line → 512 < length line → line_said result ≡ line_of line }
+    ensures answerable { CanBeAnswered result }
+    ensures says { (line : List ℕ) → front.now ≡ take 512 line
+        → 512 < length line → line_said result ≡ line_of line }
 {
     if front[0] == b'#' {
         return Line::Nothing;
@@ -54,8 +64,9 @@ fn read_long(front: &[u8]) -> Line
 /// What a line says. A carriage return at its end is dropped, and a line that is then empty, or that
 /// begins with `#`, gives nothing. Of the others one of more than 512 bytes, with the carriage
 /// return, is too long, and each other one is a request line.
-pub fn read_line(line: &LineBuffer) -> Line
-    ensures { (whole : List ℕ) → Holds line.now whole → line_said result ≡ line_of whole }
+pub fn read_line<'a>(line: &'a LineBuffer) -> Line<'a>
+    ensures answerable { CanBeAnswered result }
+    ensures says { (whole : List ℕ) → Holds line.now whole → line_said result ≡ line_of whole }
 {
     if line.over {
         read_long(&line.front)

@@ -6,6 +6,7 @@ mod command;
 mod laws;
 mod line;
 mod pending;
+mod reply;
 mod request;
 mod run;
 mod status;
@@ -14,16 +15,23 @@ mod tests;
 mod text;
 mod words;
 
+ghost use Rattle.std.specs.Prelude.{◌≡◌, ◌≢◌};
+ghost use Rattle.std.specs.IoError.{error_kind};
+
 use byte_io::{StdSink, StdSource};
 use run::run;
 use status::{Status, code};
+use std::io::ErrorKind;
 use std::process::ExitCode;
 use std::{env, io};
 
 // The status where the words couldn't be had: one isn't UTF-8, or there is no memory for them.
-fn words_failed(error: &io::Error) -> Status {
+fn words_failed(error: &io::Error) -> Status
+    ensures memory { error_kind error.now ≡ ErrorKind.OutOfMemory → result ≡ Status.NoMemory }
+    ensures others { error_kind error.now ≢ ErrorKind.OutOfMemory → result ≡ Status.Words }
+{
     match error.kind() {
-        io::ErrorKind::OutOfMemory => Status::NoMemory,
+        ErrorKind::OutOfMemory => Status::NoMemory,
         _ => Status::Words,
     }
 }

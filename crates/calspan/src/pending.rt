@@ -33,7 +33,8 @@ fn write_all<K: Sink>(text: &[u8], sink: &mut K) -> Result<(), Failed>
 
 /// Writes the pending answers. Where that fails, a front of them was written.
 pub fn flush<K: Sink>(pending: &mut Pending, sink: &mut K) -> Result<(), Failed>
-    ensures answered { (before : Option (List ℕ)) (lines : List (List ℕ)) (s : Standing) → Stands before (K.taken sink.old) pending.old.items lines s
+    ensures answered { (before : Option (List ℕ)) (lines : List (List ℕ)) (s : Standing)
+        → Stands before (K.taken sink.old) pending.old.items lines s
         → Answered result before (K.taken sink.new) pending.new.items lines s }
     ensures none { OnOk result (pending.new.items ≡ []) }
     ensures cause { HasCause (K.faults sink.old) (K.faults sink.new) result }
@@ -54,7 +55,8 @@ fn push_all(pending: &mut Pending, bytes: &[u8])
 
 // Writes what is pending where there might be no room for an answer.
 fn make_room<K: Sink>(pending: &mut Pending, sink: &mut K) -> Result<(), Failed>
-    ensures answered { (before : Option (List ℕ)) (lines : List (List ℕ)) (s : Standing) → Stands before (K.taken sink.old) pending.old.items lines s
+    ensures answered { (before : Option (List ℕ)) (lines : List (List ℕ)) (s : Standing)
+        → Stands before (K.taken sink.old) pending.old.items lines s
         → Answered result before (K.taken sink.new) pending.new.items lines s }
     ensures room { OnOk result (array_vec_len pending.new + 512 ≤ 8192) }
     ensures cause { HasCause (K.faults sink.old) (K.faults sink.new) result }
@@ -74,7 +76,8 @@ pub fn respond<K: Sink>(
     pending: &mut Pending,
     sink: &mut K,
 ) -> Result<(), Failed>
-    ensures answered { (before : Option (List ℕ)) (lines : List (List ℕ)) (whole : List ℕ) → number ≡ length lines + 1 → Holds line.now whole
+    ensures answered { (before : Option (List ℕ)) (lines : List (List ℕ)) (whole : List ℕ)
+        → number ≡ length lines + 1 → Holds line.now whole
         → Stands before (K.taken sink.old) pending.old.items lines (standing_of progress.old)
         → Answered result before (K.taken sink.new) pending.new.items (lines ++ whole ∷ []) (standing_of progress.new) }
     ensures cause { HasCause (K.faults sink.old) (K.faults sink.new) result }

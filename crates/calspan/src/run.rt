@@ -23,7 +23,8 @@ fn conclude<K: Sink>(
     pending: &mut Pending,
     sink: &mut K,
 ) -> Result<Status, Failed>
-    ensures concludes { (before : Option (List ℕ)) (lines : List (List ℕ)) → Stands before (K.taken sink.old) pending.old.items lines (standing_of progress)
+    ensures concludes { (before : Option (List ℕ)) (lines : List (List ℕ))
+        → Stands before (K.taken sink.old) pending.old.items lines (standing_of progress)
         → Concludes result before (K.taken sink.new) lines }
     ensures cause { HasCause (K.faults sink.old) (K.faults sink.new) result }
 {
@@ -42,7 +43,8 @@ fn finish<K: Sink>(
     sink: &mut K,
 ) -> Result<Status, Failed>
     requires { lines ≤ 16777216 }
-    ensures concludes { (before : Option (List ℕ)) (closed : List (List ℕ)) (last : List ℕ) → lines ≡ length closed → Holds line.now last
+    ensures concludes { (before : Option (List ℕ)) (closed : List (List ℕ)) (last : List ℕ)
+        → lines ≡ length closed → Holds line.now last
         → Stands before (K.taken sink.old) pending.old.items closed (standing_of start)
         → Concludes result before (K.taken sink.new) (with_open_line closed last) }
     ensures cause { HasCause (K.faults sink.old) (K.faults sink.new) result }
@@ -77,7 +79,9 @@ fn serve_from<S: Source, K: Sink>(
     source: &mut S,
     sink: &mut K,
 ) -> Status
-    ensures { (old : Outside) → IsUnderway old (outside (S.left source.old) (K.taken sink.old) (S.faults source.old) (K.faults sink.old)) reader.old line.old pending.old.items (standing_of start)
+    ensures { (old : Outside)
+        → IsUnderway old (outside (S.left source.old) (K.taken sink.old) (S.faults source.old) (K.faults sink.old))
+        reader.old line.old pending.old.items (standing_of start)
         → Serves result old (outside (S.left source.new) (K.taken sink.new) (S.faults source.new) (K.faults sink.new)) }
 {
     let mut progress = start;

@@ -1,5 +1,7 @@
 use crate::run::run;
 use crate::status::{Status, code};
+use crate::text::{Text, push_signed, push_two_digits};
+use crate::words::{Words, byte, int};
 use byte_io::{MemorySink, MemorySource, PlainSink, PlainSource, Source};
 use line_reader::LIMIT;
 use std::alloc::Global;
@@ -218,4 +220,33 @@ fn codes(rt: HostRuntime) {
     for (i, status) in statuses.iter().enumerate() {
         assert_eq!(rt; usize::from(code(*status)), i);
     }
+}
+
+#[test]
+fn numbers_as_texts(rt: HostRuntime) {
+    let mut text = Text::new();
+    push_signed(&mut text, -9223372036854775808);
+    text.push(b' ');
+    push_signed(&mut text, 20);
+    text.push(b' ');
+    push_two_digits(&mut text, 5);
+    push_two_digits(&mut text, 31);
+    assert_eq!(rt; text.as_slice(), b"-9223372036854775808 20 0531".as_slice());
+}
+
+#[test]
+fn words_and_their_numbers(rt: HostRuntime) {
+    let mut words = Words::new(b"-007  255 ");
+    assert_eq!(rt; words.next().and_then(int), Some(-7));
+    assert_eq!(rt; words.next(), Some(b"".as_slice()));
+    assert_eq!(rt; words.next().and_then(byte), Some(255));
+    assert_eq!(rt; words.next(), Some(b"".as_slice()));
+    assert_eq!(rt; words.next(), None);
+    assert_eq!(rt; int(b"999999999"), Some(999999999));
+    assert_eq!(rt; int(b"-"), None);
+    assert_eq!(rt; int(b"1234567890"), None);
+    assert_eq!(rt; int(b"+1"), None);
+    assert_eq!(rt; byte(b"256"), None);
+    assert_eq!(rt; byte(b"0255"), None);
+    assert_eq!(rt; byte(b"007"), Some(7));
 }

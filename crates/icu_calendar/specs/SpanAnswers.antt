@@ -1,7 +1,8 @@
 -- What a difference of two bags, and the dates in it, say.
-use Rattle.std.specs.Prelude.{Result, Ok, Err}
+use Rattle.std.specs.Prelude.{◌≡◌, Result, Ok, Err}
 use Rattle.icu_calendar.specs.declared.span_parts.Span.{Span}
 use Rattle.icu_calendar.specs.declared.span_parts.SpanError.{SpanError}
+use Rattle.icu_calendar.specs.declared.any_calendars.AnyCalendar.{AnyCalendar}
 use Rattle.icu_calendar.specs.AnySystem.{any_date}
 use Rattle.icu_calendar.specs.Spans.{SpanDates}
 
@@ -12,3 +13,10 @@ span_dates s = record { from = any_date s.from.inner; from_shown = any_date s.fr
 abbrev pub span_answer : Result Span SpanError → Result SpanDates SpanError
 span_answer (Ok s) = Ok (span_dates s)
 span_answer (Err e) = Err e
+
+-- the dates are those of the two calendars
+pub record HasCalendars (c shown : AnyCalendar) (s : Span) : Type 0 where
+  pub from : s.from.calendar ≡ c
+  pub from_shown : s.from_shown.calendar ≡ shown
+  pub to : s.to.calendar ≡ c
+  pub to_shown : s.to_shown.calendar ≡ shown

@@ -1,12 +1,13 @@
 //! The difference of two bags of fields.
 
+ghost use Rattle.std.specs.Prelude.{IfOk};
 ghost use Rattle.cal_types.specs.Bag.{bag_of};
 ghost use Rattle.cal_model.specs.Resolving.{overflow_of};
 ghost use Rattle.cal_model.specs.Difference.{largest_unit_of};
 ghost use Rattle.cal_base.specs.Conditions.{IsPlain, IsRejecting, IsInDays};
 ghost use Rattle.icu_calendar.specs.AnySystem.{any_system};
 ghost use Rattle.icu_calendar.specs.Spans.{IsSpan};
-ghost use Rattle.icu_calendar.specs.SpanAnswers.{span_answer};
+ghost use Rattle.icu_calendar.specs.SpanAnswers.{span_answer, HasCalendars};
 
 use crate::any_calendars::AnyCalendar;
 use crate::dates::Date;
@@ -29,7 +30,8 @@ pub fn span(
     requires to { IsPlain (bag_of to) }
     requires options { IsRejecting options }
     requires unit { IsInDays difference }
-    ensures { IsSpan (any_system calendar).list (any_system shown).list (bag_of from.entry) (bag_of to.entry) (overflow_of options.overflow) (largest_unit_of difference.largest_unit) (span_answer result) }
+    ensures calendars { IfOk result (HasCalendars calendar shown) }
+    ensures spans { IsSpan (any_system calendar).list (any_system shown).list (bag_of from.entry) (bag_of to.entry) (overflow_of options.overflow) (largest_unit_of difference.largest_unit) (span_answer result) }
 {
     let first = match Date::try_from_fields(from, options, calendar) {
         Ok(date) => date,

@@ -108,7 +108,8 @@ impl Reader {
     /// of a line, and a call after [`Reader::fill`] goes on with it. After `TooLong` the bytes up to
     /// the limit have no further LF.
     pub fn next_line(&mut self, line: &mut LineBuffer) -> Next
-        ensures gives { (bytes : List ℕ) (lines : List (List ℕ)) (rest : List ℕ) → IsAt self.old bytes lines rest → Holds line.old rest
+        ensures gives { (bytes : List ℕ) (lines : List (List ℕ)) (rest : List ℕ)
+            → IsAt self.old bytes lines rest → Holds line.old rest
             → Gives result self.new line.new bytes lines }
         ensures spent { result ≡ Next.Spent → IsSpent self.new }
 
@@ -137,10 +138,15 @@ impl Reader {
     pub fn fill<S: Source>(&mut self, source: &mut S) -> Filled
         requires { IsSpent self.old }
         ensures some { result ≡ Filled.Some → (more : List ℕ) × Consumes (S.left source.old) (S.left source.new) more
-            × ((bytes : List ℕ) (lines : List (List ℕ)) (rest : List ℕ) → IsAt self.old bytes lines rest → IsAt self.new (bytes ++ more) lines rest) }
-        ensures end { result ≡ Filled.End → Consumes (S.left source.old) (S.left source.new) [] × IsAtEnd (S.left source.new) }
-        ensures fault { result ≡ Filled.Fault → Keeps (S.left source.old) (S.left source.new) × Rose (S.faults source.old) (S.faults source.new) }
-        ensures stays { (result ≡ Filled.Some → ⊥) → (bytes : List ℕ) (lines : List (List ℕ)) (rest : List ℕ) → IsAt self.old bytes lines rest → IsAt self.new bytes lines rest }
+            × ((bytes : List ℕ) (lines : List (List ℕ)) (rest : List ℕ)
+            → IsAt self.old bytes lines rest → IsAt self.new (bytes ++ more) lines rest) }
+        ensures end { result ≡ Filled.End
+            → Consumes (S.left source.old) (S.left source.new) [] × IsAtEnd (S.left source.new) }
+        ensures fault { result ≡ Filled.Fault
+            → Keeps (S.left source.old) (S.left source.new) × Rose (S.faults source.old) (S.faults source.new) }
+        ensures stays { (result ≡ Filled.Some → ⊥)
+            → (bytes : List ℕ) (lines : List (List ℕ)) (rest : List ℕ)
+            → IsAt self.old bytes lines rest → IsAt self.new bytes lines rest }
         ensures later { S.faults source.old ≤ S.faults source.new }
         ensures same_lines { lines_given self.new ≡ lines_given self.old }
         ensures fewer { result ≡ Filled.Some → turns_left self.new < turns_left self.old }
