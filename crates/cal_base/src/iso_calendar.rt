@@ -233,3 +233,6 @@ impl AsCalendar for Iso {
         self
     }
 }
+
+#[cfg(test)]
+mod tests;

@@ -5,6 +5,8 @@ mod any_calendars;
 mod dates;
 mod span_parts;
 mod spans;
+#[cfg(test)]
+mod tests;
 
 pub use any_calendars::{AnyCalendar, AnyDateInner};
 pub use dates::Date;

@@ -1,0 +1,2 @@
+pub mod GregorianSystem
+pub mod GregorianSystemLaws
