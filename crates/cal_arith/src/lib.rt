@@ -1,0 +1,14 @@
+//! Arithmetic of dates over any calendar: adding a duration, and the difference of two dates.
+//!
+//! A calendar offers its years by [`years::Years`]; its list of years decides every answer here. The rules
+//! are those of ECMAScript Temporal's NonISODateAdd and NonISODateUntil.
+#![tactic(auto)]
+
+pub mod dates;
+pub mod months;
+pub mod places;
+pub mod steps;
+pub mod years;
+
+pub use steps::Steps;
+pub use years::{DateFieldsResolver, PackWithMD, YearShapes, Years};
