@@ -4,6 +4,7 @@
 //! are those of ECMAScript Temporal's NonISODateAdd and NonISODateUntil.
 #![tactic(auto)]
 
+pub mod adding;
 pub mod dates;
 pub mod months;
 pub mod places;

@@ -3,7 +3,7 @@
 ghost use Rattle.std.specs.Prelude.{◌≡◌, ℕ, ℤ, ◌+ℤ◌, ◌-ℤ◌, pos, neg_ℤ, ◌≤◌};
 ghost use Rattle.cal_model.specs.CalendarList.{HasPlace, IsMonthsAfter};
 ghost use Rattle.cal_model.specs.Difference.{toward};
-ghost use Rattle.cal_days.specs.Day.{IsFieldYear, IsRuleYear};
+ghost use Rattle.cal_days.specs.Day.{IsBetween};
 ghost use Rattle.cal_arith.specs.Given.{IsGiven};
 
 use crate::years::Years;
@@ -11,14 +11,16 @@ use crate::years::Years;
 /// A year, and the place of a month in it.
 #[derive(Clone, Copy, Debug)]
 pub struct YearMonth<Y> {
+    /// The year.
     pub year: Y,
+    /// The place of the month in its year, from 1.
     pub month: u8,
 }
 
 /// The month so many months later.
-pub fn months_later<C: Years>(year: C::YearInfo, month: u8, months: u32, cal: &C) -> YearMonth<C::YearInfo>
+pub(crate) fn months_later<C: Years>(year: C::YearInfo, month: u8, months: u32, cal: &C) -> YearMonth<C::YearInfo>
     requires year { IsGiven (C.extended cal.now) (C.year_of cal.now) year }
-    requires range { IsFieldYear (C.extended cal.now year) }
+    requires range { IsBetween (neg_ℤ (pos 2080000)) (pos 2080000) (C.extended cal.now year) }
     requires place { HasPlace (C.list cal.now) (C.extended cal.now year) month }
     requires months { months ≤ 27050000 }
     ensures year { IsGiven (C.extended cal.now) (C.year_of cal.now) result.year }
@@ -39,9 +41,9 @@ pub fn months_later<C: Years>(year: C::YearInfo, month: u8, months: u32, cal: &C
 }
 
 /// The month so many months earlier.
-pub fn months_earlier<C: Years>(year: C::YearInfo, month: u8, months: u32, cal: &C) -> YearMonth<C::YearInfo>
+pub(crate) fn months_earlier<C: Years>(year: C::YearInfo, month: u8, months: u32, cal: &C) -> YearMonth<C::YearInfo>
     requires year { IsGiven (C.extended cal.now) (C.year_of cal.now) year }
-    requires range { IsFieldYear (C.extended cal.now year) }
+    requires range { IsBetween (neg_ℤ (pos 2080000)) (pos 2080000) (C.extended cal.now year) }
     requires place { HasPlace (C.list cal.now) (C.extended cal.now year) month }
     requires months { months ≤ 27050000 }
     ensures year { IsGiven (C.extended cal.now) (C.year_of cal.now) result.year }
@@ -62,9 +64,9 @@ pub fn months_earlier<C: Years>(year: C::YearInfo, month: u8, months: u32, cal: 
 }
 
 /// The month so many months later, or earlier.
-pub fn months_away<C: Years>(year: C::YearInfo, month: u8, months: u32, back: bool, cal: &C) -> YearMonth<C::YearInfo>
+pub(crate) fn months_away<C: Years>(year: C::YearInfo, month: u8, months: u32, back: bool, cal: &C) -> YearMonth<C::YearInfo>
     requires year { IsGiven (C.extended cal.now) (C.year_of cal.now) year }
-    requires range { IsFieldYear (C.extended cal.now year) }
+    requires range { IsBetween (neg_ℤ (pos 2080000)) (pos 2080000) (C.extended cal.now year) }
     requires place { HasPlace (C.list cal.now) (C.extended cal.now year) month }
     requires months { months ≤ 27050000 }
     ensures year { IsGiven (C.extended cal.now) (C.year_of cal.now) result.year }
