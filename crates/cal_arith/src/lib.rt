@@ -6,10 +6,14 @@
 
 pub mod adding;
 pub mod dates;
+pub mod difference;
 pub mod months;
+pub mod months_between;
+pub mod past;
 pub mod places;
 pub mod steps;
 pub mod years;
+pub mod years_between;
 
 pub use steps::Steps;
 pub use years::{DateFieldsResolver, PackWithMD, YearShapes, Years};
