@@ -19,3 +19,12 @@ pub record Belongs {Y : Type 0} (list : CalendarList) (extended : Y → ℤ) (ye
   pub year : IsGiven extended year_of d.year
   pub date : IsDate list (date_of extended d)
   pub valid : IsValidDay (day_number list (date_of extended d))
+
+-- the parts of a packed date
+abbrev pub parts_of : {Y P : Type 0} → (P → Y) → (P → ℕ) → (P → ℕ) → P → Ymd Y
+parts_of year_in month_in day_in packed = record { year = year_in packed; month = month_in packed; day = day_in packed }
+
+-- a call's answer, whose dates are seen by a view
+abbrev pub answer_by : {A E : Type 0} → (A → Date) → Result A E → Result Date E
+answer_by view (Ok d) = Ok (view d)
+answer_by view (Err e) = Err e

@@ -5,6 +5,7 @@
 #![tactic(auto)]
 
 pub mod adding;
+pub mod arithmetic_date;
 pub mod dates;
 pub mod difference;
 pub mod months;
@@ -15,5 +16,6 @@ pub mod steps;
 pub mod years;
 pub mod years_between;
 
+pub use arithmetic_date::ArithmeticDate;
 pub use steps::Steps;
 pub use years::{DateFieldsResolver, PackWithMD, YearShapes, Years};
