@@ -5,6 +5,10 @@ use Rattle.cal_model.specs.CalendarList.{CalendarList, Date, date, day_number, I
 use Rattle.cal_arith.specs.declared.dates.Ymd.{Ymd}
 use Rattle.cal_arith.specs.Given.{IsGiven}
 
+-- a year, the place of a month and a day
+abbrev pub ymd : {Y : Type 0} → Y → ℕ → ℕ → Ymd Y
+ymd y i d = record { year = y; month = i; day = d }
+
 -- a date in extended years
 abbrev pub date_of : {Y : Type 0} → (Y → ℤ) → Ymd Y → Date
 date_of extended d = date (extended d.year) d.month d.day
@@ -22,7 +26,7 @@ pub record Belongs {Y : Type 0} (list : CalendarList) (extended : Y → ℤ) (ye
 
 -- the parts of a packed date
 abbrev pub parts_of : {Y P : Type 0} → (P → Y) → (P → ℕ) → (P → ℕ) → P → Ymd Y
-parts_of year_in month_in day_in packed = record { year = year_in packed; month = month_in packed; day = day_in packed }
+parts_of year_in month_in day_in packed = ymd (year_in packed) (month_in packed) (day_in packed)
 
 -- a call's answer, whose dates are seen by a view
 abbrev pub answer_by : {A E : Type 0} → (A → Date) → Result A E → Result Date E

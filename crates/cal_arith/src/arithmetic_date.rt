@@ -16,11 +16,11 @@ ghost use Rattle.cal_arith.specs.Ticks.{most_ticks};
 
 use crate::adding::added;
 use crate::dates::{Ymd, from_rata_die, to_rata_die};
-use crate::difference::difference;
+use crate::difference::{difference, largest_unit};
 use crate::steps::Steps;
 use crate::years::{DateFieldsResolver, PackWithMD, YearShapes};
 use cal_days::RataDie;
-use cal_types::{DateAddError, DateAddOptions, DateDifferenceOptions, DateDuration, DateDurationUnit, Overflow};
+use cal_types::{DateAddError, DateAddOptions, DateDifferenceOptions, DateDuration, Overflow};
 use std::alloc::AllocError;
 use std::cmp::Ordering;
 use std::fmt;
@@ -122,7 +122,7 @@ impl<C: DateFieldsResolver> ArithmeticDate<C> {
 
     /// The difference to another date, as ECMAScript Temporal's NonISODateUntil: years, then months, then
     /// weeks and days, each as many as do not surpass the other date. The default of the option
-    /// `largest_unit` is [`DateDurationUnit::Days`].
+    /// `largest_unit` is days.
     pub fn until(&self, other: &Self, cal: &C, options: DateDifferenceOptions) -> DateDuration
         requires from { Belongs (C.list cal.now) (C.extended cal.now) (C.year_of cal.now) (parts_of C.YearInfo.year_in C.YearInfo.month_in C.YearInfo.day_in self.now.packed) }
         requires to { Belongs (C.list cal.now) (C.extended cal.now) (C.year_of cal.now) (parts_of C.YearInfo.year_in C.YearInfo.month_in C.YearInfo.day_in other.now.packed) }
@@ -187,16 +187,6 @@ fn add_overflow(options: DateAddOptions) -> Overflow
     match options.overflow {
         Some(overflow) => overflow,
         None => Overflow::Constrain,
-    }
-}
-
-/// Which largest unit the options of a difference ask for.
-fn largest_unit(options: DateDifferenceOptions) -> DateDurationUnit
-    ensures { result ≡ largest_unit_of options.largest_unit }
-{
-    match options.largest_unit {
-        Some(unit) => unit,
-        None => DateDurationUnit::Days,
     }
 }
 

@@ -1,8 +1,9 @@
 //! The difference of two dates, as ECMAScript Temporal's NonISODateUntil.
 
 ghost use Rattle.std.specs.Prelude.{◌≡◌, ◌+◌, ◌-◌, ◌*◌, ◌<◌, ◌≤◌, ◌<ℤ◌, ◌-ℤ◌, unsigned_abs, IsTrue, false, ◌↔◌};
-ghost use Rattle.cal_model.specs.Difference.{IsDifference, admits_weeks};
-ghost use Rattle.cal_arith.specs.Dates.{date_of, Belongs};
+ghost use Rattle.cal_model.specs.CalendarList.{date};
+ghost use Rattle.cal_model.specs.Difference.{IsDifference, admits_weeks, largest_unit_of};
+ghost use Rattle.cal_arith.specs.Dates.{date_of, ymd, Belongs};
 ghost use Rattle.cal_arith.specs.Ticks.{most_ticks};
 
 use crate::dates::{Ymd, to_rata_die};
@@ -11,7 +12,7 @@ use crate::steps::Steps;
 use crate::years::YearShapes;
 use crate::years_between::{admitted_years, month_after_years};
 use cal_days::RataDie;
-use cal_types::{DateDuration, DateDurationUnit};
+use cal_types::{DateDifferenceOptions, DateDuration, DateDurationUnit};
 use std::sync::ledger::Ledger;
 
 /// Whether the second day lies before the first.
@@ -63,5 +64,36 @@ pub(crate) fn difference<C: YearShapes, L: Ledger>(from: Ymd<C::YearInfo>, to: Y
         months: reached.months,
         weeks,
         days: left - 7 * weeks,
+    }
+}
+
+/// The duration of [`crate::ArithmeticDate::until`] between two dates, each a year, the place of a month and a
+/// day, within the look-ups of [`crate::ArithmeticDate::until_counted`].
+pub fn difference_counted<C: YearShapes, L: Ledger>(from: (C::YearInfo, u8, u8), to: (C::YearInfo, u8, u8), calendar: &C, options: DateDifferenceOptions, steps: &mut Steps<L>) -> DateDuration
+    requires from { Belongs (C.list calendar.now) (C.extended calendar.now) (C.year_of calendar.now) (ymd from.0 from.1 from.2) }
+    requires to { Belongs (C.list calendar.now) (C.extended calendar.now) (C.year_of calendar.now) (ymd to.0 to.1 to.2) }
+    ensures difference { IsDifference (C.list calendar.now) (date (C.extended calendar.now from.0) from.1 from.2) (date (C.extended calendar.now to.0) to.1 to.2) (largest_unit_of options.largest_unit) result }
+    ensures ticks { steps.new ≤ steps.old + most_ticks (largest_unit_of options.largest_unit) (unsigned_abs (C.extended calendar.now to.0 -ℤ C.extended calendar.now from.0)) }
+{
+    let first = Ymd {
+        year: from.0,
+        month: from.1,
+        day: from.2,
+    };
+    let second = Ymd {
+        year: to.0,
+        month: to.1,
+        day: to.2,
+    };
+    difference(first, second, largest_unit(options), calendar, steps)
+}
+
+/// Which largest unit the options of a difference ask for.
+pub(crate) fn largest_unit(options: DateDifferenceOptions) -> DateDurationUnit
+    ensures { result ≡ largest_unit_of options.largest_unit }
+{
+    match options.largest_unit {
+        Some(unit) => unit,
+        None => DateDurationUnit::Days,
     }
 }

@@ -8,6 +8,7 @@ pub mod adding;
 pub mod arithmetic_date;
 pub mod dates;
 pub mod difference;
+pub mod laws;
 pub mod months;
 pub mod months_between;
 pub mod past;
