@@ -5,3 +5,4 @@ pub mod Difference
 pub mod WithinYear
 pub mod YearList
 pub mod ListedYears
+pub mod Adding

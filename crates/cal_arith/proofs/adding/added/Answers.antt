@@ -1,0 +1,89 @@
+use Rattle.std.proofs.Common.{◌≡◌, ℤ, pos, neg_ℤ, ◌+ℤ◌, ℕ, Option, Bool, true, Some, None, to_z, of_z, w32, ap, subst, sym, refl, ◌∙◌, arith}
+use Rattle.cal_days.specs.Day.{IsBetween, IsFieldYear, IsRuleYear, is_field_year}
+use Rattle.cal_model.specs.CalendarList.{CalendarList, Date, date, spot, month_at, month_length, IsMonthsAfter}
+use Rattle.cal_model.specs.Adding.{is_addable}
+use Rattle.cal_model.specs.Difference.{toward}
+use Rattle.cal_days.proofs.Signed.{signed}
+use Rattle.cal_days.proofs.RangeLemmas.{is_between-true}
+use Rattle.cal_model.proofs.ListLemmas.{spot-place}
+use Rattle.cal_arith.specs.Given.{IsGiven}
+use Rattle.cal_arith.proofs.GivenLemmas.{given_by}
+use Rattle.cal_arith.proofs.adding.added.Given.{Over}
+use Rattle.cal_arith.proofs.adding.added.Goals.{After-year_info_from_extended-reached}
+use Rattle.cal_arith.proofs.adding.added.Goals as goal
+
+module _ (g : Over) (c : After-year_info_from_extended-reached g) where
+  -- the year that the years lead to
+  abbrev target : ℤ
+  target = g.C.YearShapes.extended c.args.cal.now c.args.from.year +ℤ toward c.args.duration.is_negative c.args.duration.years
+
+  same_year : to_z w32 (of_z w32 c.extended_from_year_info-year.result) ≡ g.C.YearShapes.extended c.args.cal.now c.args.from.year
+  same_year = omega (arith, signed)
+
+  same_shift : to_z w32 (of_z w32 c.args.shift) ≡ c.args.shift
+  same_shift = omega (arith, signed)
+
+  field_is : is_field_year (target +ℤ c.args.shift) ≡ true
+  field_is =
+      let here : is_field_year (target +ℤ to_z w32 (of_z w32 c.args.shift)) ≡ true = subst (λ (y : ℤ). is_field_year (y +ℤ toward c.args.duration.is_negative c.args.duration.years +ℤ to_z w32 (of_z w32 c.args.shift)) ≡ true) same_year c.in-Some.ensures.some.1 in
+      subst (λ (z : ℤ). is_field_year (target +ℤ z) ≡ true) same_shift here
+
+  in_field : IsFieldYear (target +ℤ c.args.shift)
+  in_field = is_between-true _ _ _ field_is
+
+  in_range : IsRuleYear target
+  in_range = omega (arith, signed, in_field, c.requires.shift)
+
+  reached : IsGiven (g.C.YearShapes.extended c.args.cal.now) (g.C.YearShapes.year_of c.args.cal.now) c.year_info_from_extended-reached.result × (g.C.YearShapes.extended c.args.cal.now c.year_info_from_extended-reached.result ≡ target)
+  reached =
+      let number : c.in-Some.number ≡ target = c.in-Some.ensures.some.0 ∙ ap (λ (y : ℤ). y +ℤ toward c.args.duration.is_negative c.args.duration.years) same_year in
+      given_by (g.C.YearShapes.extended c.args.cal.now) (g.C.YearShapes.year_of c.args.cal.now) (g.met.C.YearShapes.numbered c.args.cal.now) _ _ target c.year_info_from_extended-reached.ensures
+      (omega (arith, signed, number, in_range)) in_range
+
+  spot_there : (r : Option ℕ) → spot (g.C.YearShapes.list c.args.cal.now) (g.C.YearShapes.extended c.args.cal.now c.year_info_from_extended-reached.result) (month_at (g.C.YearShapes.list c.args.cal.now) (g.C.YearShapes.extended c.args.cal.now c.args.from.year) c.args.from.month) c.args.overflow ≡ r → spot (g.C.YearShapes.list c.args.cal.now) target (month_at (g.C.YearShapes.list c.args.cal.now) (g.C.YearShapes.extended c.args.cal.now c.args.from.year) c.args.from.month) c.args.overflow ≡ r
+  spot_there r here = subst (λ (x : ℤ). spot (g.C.YearShapes.list c.args.cal.now) x (month_at (g.C.YearShapes.list c.args.cal.now) (g.C.YearShapes.extended c.args.cal.now c.args.from.year) c.args.from.month) c.args.overflow ≡ r) reached.1 here
+
+pub year_info_from_extended-reached-requires : goal.year_info_from_extended-reached-requires
+year_info_from_extended-reached-requires g c =
+    let same : to_z w32 (of_z w32 c.extended_from_year_info-year.result) ≡ g.C.YearShapes.extended c.args.cal.now c.args.from.year = omega (arith, signed) in
+    let same_shift : to_z w32 (of_z w32 c.args.shift) ≡ c.args.shift = omega (arith, signed) in
+    let field = is_between-true (neg_ℤ (pos 1040000)) (pos 1040000) (to_z w32 (of_z w32 c.extended_from_year_info-year.result) +ℤ toward c.args.duration.is_negative c.args.duration.years +ℤ to_z w32 (of_z w32 c.args.shift)) c.in-Some.ensures.some.1 in
+    let number = c.in-Some.ensures.some.0 in
+    omega (arith, signed, number, field, same_shift, c.requires.shift)
+
+pub place_in-requires-clause-reached : goal.place_in-requires-clause-reached
+place_in-requires-clause-reached g c = (reached g (goal.at.place_in-requires-clause-reached g c).After-year_info_from_extended-reached).0
+
+pub months_away-there-requires-clause-year : goal.months_away-there-requires-clause-year
+months_away-there-requires-clause-year g c = (reached g (goal.at.months_away-there-requires-clause-year g c).After-year_info_from_extended-reached).0
+
+pub months_away-there-requires-clause-range : goal.months_away-there-requires-clause-range
+months_away-there-requires-clause-range g c =
+    let s = (goal.at.months_away-there-requires-clause-range g c).After-year_info_from_extended-reached in
+    let range : IsBetween (neg_ℤ (pos 2080000)) (pos 2080000) (target g s) = omega (arith, signed, in_field g s, c.requires.shift) in
+    subst (IsBetween (neg_ℤ (pos 2080000)) (pos 2080000)) (sym (reached g s).1) range
+
+pub months_away-there-requires-clause-place : goal.months_away-there-requires-clause-place
+months_away-there-requires-clause-place g c =
+    let list = g.C.YearShapes.list c.args.cal.now in let y = g.C.YearShapes.extended c.args.cal.now c.year_info_from_extended-reached.result in
+    spot-place list y (month_at list (g.C.YearShapes.extended c.args.cal.now c.args.from.year) c.args.from.month) c.args.overflow c.in-Some-place_in.place (sym c.place_in.ensures ∙ c.in-Some-place_in.is)
+
+pub returns-in-None-place_in-clause-sum : goal.returns-in-None-place_in-clause-sum
+returns-in-None-place_in-clause-sum g c =
+    let s = (goal.at.returns-in-None-place_in-clause-sum g c).After-year_info_from_extended-reached in
+    let there = spot_there g s None (sym c.place_in.ensures ∙ c.in-None-place_in.is) in
+    let addable : is_addable c.args.duration ≡ true = sym c.can_be_added.ensures ∙ c.if-not-can_be_added.false in
+    let field = field_is g s in
+    rw (addable, field, there) refl
+
+pub returns-in-Some-place_in-clause-sum : goal.returns-in-Some-place_in-clause-sum
+returns-in-Some-place_in-clause-sum g c =
+    let s = (goal.at.returns-in-Some-place_in-clause-sum g c).After-year_info_from_extended-reached in
+    let list = g.C.YearShapes.list c.args.cal.now in
+    let place = c.in-Some-place_in.place in
+    let there = spot_there g s (Some place) (sym c.place_in.ensures ∙ c.in-Some-place_in.is) in
+    let z = g.C.YearShapes.extended c.args.cal.now c.months_away-there.result.year in let j = c.months_away-there.result.month in
+    let moved = subst (λ (x : ℤ). IsMonthsAfter list x place (toward c.args.duration.is_negative c.args.duration.months) z j) (reached g s).1 c.months_away-there.ensures.moved in
+    let addable : is_addable c.args.duration ≡ true = sym c.can_be_added.ensures ∙ c.if-not-can_be_added.false in
+    let field = field_is g s in
+    rw (addable, field, there) (z, j, moved, c.sum_from_month.ensures.sum)

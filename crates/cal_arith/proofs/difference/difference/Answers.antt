@@ -1,0 +1,94 @@
+use Rattle.std.proofs.Common.{◌≡◌, ◌⊎◌, ℕ, ℤ, pos, ◌+◌, ◌-◌, ◌*◌, ◌<◌, ◌≤◌, ◌↔◌, ◌+ℤ◌, ◌-ℤ◌, ◌<ℤ◌, unsigned_abs, min, Some, Bool, true, false, IsTrue, ap, subst, sym, refl, ◌∙◌, arith}
+use Rattle.cal_types.specs.declared.options.Overflow.TheVariants.{Constrain}
+use Rattle.cal_days.specs.Day.{IsFieldYear, IsValidDay}
+use Rattle.cal_model.specs.CalendarList.{Date, date, day_number, month_at, month_length, IsValidDate}
+use Rattle.cal_model.specs.WithinYear.{Leads}
+use Rattle.cal_model.specs.Difference.{toward, IsBeyondDay, admits_weeks}
+use Rattle.cal_days.proofs.Signed.{signed}
+use Rattle.cal_model.proofs.DifferenceLemmas.{base, IsBaseNear, base-within, base-near, days-left, left-small, leads-of}
+use Rattle.cal_model.proofs.DifferenceLaws.{IsLeft}
+use Rattle.cal_arith.specs.Dates.{date_of}
+use Rattle.cal_arith.proofs.DifferenceSteps.{difference-parts, weeks-fit, ticks-most}
+use Rattle.cal_arith.proofs.difference.difference.Given.{Over}
+use Rattle.cal_arith.proofs.difference.difference.Goals.{Start, After-is_back-back, After-to_rata_die_inner-base, After-admitted_weeks-weeks}
+use Rattle.cal_arith.proofs.difference.difference.Goals as goal
+
+from_range : (g : Over) (c : Start g) → IsFieldYear (g.C.YearShapes.extended c.args.cal.now c.args.from.year)
+from_range g c = (g.met.C.YearShapes.ranged c.args.cal.now (date_of (g.C.YearShapes.extended c.args.cal.now) c.args.from) (record { date = c.requires.from.date; valid = c.requires.from.valid })).0
+
+to_range : (g : Over) (c : Start g) → IsFieldYear (g.C.YearShapes.extended c.args.cal.now c.args.to.year)
+to_range g c = (g.met.C.YearShapes.ranged c.args.cal.now (date_of (g.C.YearShapes.extended c.args.cal.now) c.args.to) (record { date = c.requires.to.date; valid = c.requires.to.valid })).0
+
+-- the sign is that of the day numbers
+sign : (g : Over) (c : After-is_back-back g) → IsTrue c.is_back-back.result ↔ (day_number (g.C.YearShapes.list c.args.cal.now) (date_of (g.C.YearShapes.extended c.args.cal.now) c.args.to) <ℤ day_number (g.C.YearShapes.list c.args.cal.now) (date_of (g.C.YearShapes.extended c.args.cal.now) c.args.from))
+sign g c =
+    let list = g.C.YearShapes.list c.args.cal.now in
+    let t = date_of (g.C.YearShapes.extended c.args.cal.now) c.args.from in let u = date_of (g.C.YearShapes.extended c.args.cal.now) c.args.to in (
+      λ on. subst (λ (n : ℤ). day_number list u <ℤ n) c.to_rata_die.ensures (subst (λ (n : ℤ). n <ℤ c.to_rata_die.result) c.to_rata_die-second.ensures (c.is_back-back.ensures.0 on)),
+      λ lt. c.is_back-back.ensures.1 (subst (λ (n : ℤ). c.to_rata_die-second.result <ℤ n) (sym c.to_rata_die.ensures) (subst (λ (n : ℤ). n <ℤ day_number list t) (sym c.to_rata_die-second.ensures) lt)),
+    )
+
+leads : (g : Over) (c : After-is_back-back g) → Leads (g.C.YearShapes.list c.args.cal.now) c.is_back-back.result (date_of (g.C.YearShapes.extended c.args.cal.now) c.args.from) (date_of (g.C.YearShapes.extended c.args.cal.now) c.args.to)
+leads g c = leads-of _ c.is_back-back.result _ _ (sign g c).0 (sign g c).1
+
+base_is : (g : Over) (c : After-to_rata_die_inner-base g) → c.to_rata_die_inner-base.result ≡ day_number (g.C.YearShapes.list c.args.cal.now) (base (g.C.YearShapes.list c.args.cal.now) (date_of (g.C.YearShapes.extended c.args.cal.now) c.args.from) (g.C.YearShapes.extended c.args.cal.now c.admitted_months-reached.result.year) c.admitted_months-reached.result.month)
+base_is g c =
+    let list = g.C.YearShapes.list c.args.cal.now in let z = g.C.YearShapes.extended c.args.cal.now c.admitted_months-reached.result.year in
+    c.to_rata_die_inner-base.ensures ∙ ap (λ (d : ℕ). day_number list (date z c.admitted_months-reached.result.month d)) (c.min.ensures ∙ ap (min c.args.from.day) c.days_in_provided_month-length.ensures)
+
+-- the month and the day in it do not lie past the second date
+short : (g : Over) (c : After-to_rata_die_inner-base g) → ¬ IsBeyondDay c.is_back-back.result c.to_rata_die_inner-base.result c.to_rata_die-second.result
+short g c beyond =
+    let list = g.C.YearShapes.list c.args.cal.now in let z = g.C.YearShapes.extended c.args.cal.now c.admitted_months-reached.result.year in
+    let reach = c.admitted_months-reached.ensures.reaches in
+    base-within list (g.met.C.YearShapes.lawful c.args.cal.now) c.is_back-back.result (date_of (g.C.YearShapes.extended c.args.cal.now) c.args.from) (date_of (g.C.YearShapes.extended c.args.cal.now) c.args.to) z c.admitted_months-reached.result.month reach.moved.place c.requires.from.date.day.0 c.requires.to.date
+    (λ past. c.admitted_months-reached.ensures.within (z, c.admitted_months-reached.result.month, reach, past))
+    (subst (λ (n : ℤ). IsBeyondDay c.is_back-back.result n (day_number list (date_of (g.C.YearShapes.extended c.args.cal.now) c.args.to))) (base_is g c) (subst (λ (m : ℤ). IsBeyondDay c.is_back-back.result c.to_rata_die_inner-base.result m) c.to_rata_die-second.ensures beyond))
+
+pub month_after_years-start-requires-clause-from_range : goal.month_after_years-start-requires-clause-from_range
+month_after_years-start-requires-clause-from_range g c = from_range g (goal.at.month_after_years-start-requires-clause-from_range g c).Start
+
+pub month_after_years-start-requires-clause-to_range : goal.month_after_years-start-requires-clause-to_range
+month_after_years-start-requires-clause-to_range g c = to_range g (goal.at.month_after_years-start-requires-clause-to_range g c).Start
+
+pub admitted_months-reached-requires-clause-to_range : goal.admitted_months-reached-requires-clause-to_range
+admitted_months-reached-requires-clause-to_range g c = to_range g (goal.at.admitted_months-reached-requires-clause-to_range g c).Start
+
+pub days_apart-left-requires : goal.days_apart-left-requires
+days_apart-left-requires g c =
+    let s = (goal.at.days_apart-left-requires g c).After-to_rata_die_inner-base in
+    let list = g.C.YearShapes.list c.args.cal.now in let z = g.C.YearShapes.extended c.args.cal.now c.admitted_months-reached.result.year in
+    let t = date_of (g.C.YearShapes.extended c.args.cal.now) c.args.from in
+    let near = base-near list (g.met.C.YearShapes.lawful c.args.cal.now) c.is_back-back.result t c.admitted_years-years.result c.admitted_months-reached.result.months z c.admitted_months-reached.result.month c.admitted_months-reached.ensures.reaches c.requires.from.date in
+    left-small c.is_back-back.result (day_number list t) c.to_rata_die-second.result c.to_rata_die_inner-base.result
+    (subst (λ (n : ℤ). IsBaseNear c.is_back-back.result (day_number list t) n) (sym (base_is g s)) near) (short g s) c.requires.from.valid
+    (subst IsValidDay (sym c.to_rata_die-second.ensures) c.requires.to.valid)
+
+-- the days that are left are those from there to the second date
+left : (g : Over) (c : After-admitted_weeks-weeks g) → After-to_rata_die_inner-base g → IsLeft (g.C.YearShapes.list c.args.cal.now) (date_of (g.C.YearShapes.extended c.args.cal.now) c.args.from) (date_of (g.C.YearShapes.extended c.args.cal.now) c.args.to) c.is_back-back.result c.admitted_years-years.result c.admitted_months-reached.result.months c.days_apart-left.result
+left g c _ =
+    let s = (goal.at.returns-clause-difference g c).After-to_rata_die_inner-base in
+    let b = c.to_rata_die_inner-base.result in let m = c.to_rata_die-second.result in
+    let back = c.is_back-back.result in
+    record {
+      year = g.C.YearShapes.extended c.args.cal.now c.admitted_months-reached.result.year;
+      month = c.admitted_months-reached.result.month;
+      reaches = c.admitted_months-reached.ensures.reaches;
+      apart = sym c.to_rata_die-second.ensures ∙ days-left back b m (short g s) ∙ ap (λ (k : ℕ). b +ℤ toward back k) (sym c.days_apart-left.ensures) ∙ ap (λ (n : ℤ). n +ℤ toward back c.days_apart-left.result) (base_is g s);
+    }
+
+pub returns-clause-difference : goal.returns-clause-difference
+returns-clause-difference g c =
+    let s = goal.at.returns-clause-difference g c in
+    let w = c.admitted_weeks-weeks.result in let total = c.days_apart-left.result in
+    let fit = weeks-fit (admits_weeks c.args.unit) w total c.admitted_weeks-weeks.ensures.weeks c.admitted_weeks-weeks.ensures.none in
+    difference-parts (g.C.YearShapes.list c.args.cal.now) (date_of (g.C.YearShapes.extended c.args.cal.now) c.args.from) (date_of (g.C.YearShapes.extended c.args.cal.now) c.args.to) c.args.unit _ total (sign g s.After-is_back-back)
+    c.admitted_years-years.ensures.greatest c.admitted_months-reached.ensures.greatest (left g c s.After-to_rata_die_inner-base)
+    c.admitted_weeks-weeks.ensures.weeks c.admitted_weeks-weeks.ensures.none (omega (arith, fit))
+
+pub returns-clause-ticks : goal.returns-clause-ticks
+returns-clause-ticks g c =
+    let s = goal.at.returns-clause-ticks g c in
+    ticks-most (g.C.YearShapes.list c.args.cal.now) c.is_back-back.result (date_of (g.C.YearShapes.extended c.args.cal.now) c.args.from) (date_of (g.C.YearShapes.extended c.args.cal.now) c.args.to) c.requires.from.date c.requires.to.date (leads g s.After-is_back-back)
+    c.args.unit c.admitted_years-years.result c.args.steps.now c.month_after_years-start.new.steps c.admitted_months-reached.new.steps (g.C.YearShapes.extended c.args.cal.now c.month_after_years-start.result.year) c.month_after_years-start.ensures.number c.admitted_years-years.ensures.greatest
+    c.month_after_years-start.ensures.ticks c.admitted_months-reached.ensures.ticks c.admitted_months-reached.ensures.no_ticks

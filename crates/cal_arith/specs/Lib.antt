@@ -1,0 +1,4 @@
+pub mod Given
+pub mod Dates
+pub mod Places
+pub mod Ticks

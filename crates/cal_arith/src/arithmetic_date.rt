@@ -1,0 +1,254 @@
+//! Packed dates of any calendar.
+
+ghost use Rattle.std.specs.Prelude.{◌≡◌, ℕ, ℤ, pos, ◌+◌, ◌≤◌, ◌<◌, ◌-ℤ◌, ◌++◌, ◌==◌, unsigned_abs, IfOk};
+ghost use Rattle.std.proofs.Common.{rules};
+ghost use Rattle.std.specs.Cmp.{partial_order_from_own_ties, partial_order_from_total, then_total, on_total};
+ghost use Rattle.std.specs.Cmp.Rules.{comparing, hashing};
+ghost use Rattle.std.specs.Ordering.{nat_cmp, on, then_cmp, as_partial_cmp, eq_of_both};
+ghost use Rattle.std.proofs.lemmas.Cmp.{nat_cmp_total};
+ghost use Rattle.std.specs.Hash as fed;
+ghost use Rattle.cal_days.specs.Day.{IsFieldYear, IsValidDay};
+ghost use Rattle.cal_model.specs.CalendarList.{IsOn, day_number};
+ghost use Rattle.cal_model.specs.Adding.{add_overflow_of, IsSum};
+ghost use Rattle.cal_model.specs.Difference.{IsDifference, largest_unit_of};
+ghost use Rattle.cal_arith.specs.Dates.{answer_by, date_of, parts_of, Belongs};
+ghost use Rattle.cal_arith.specs.Ticks.{most_ticks};
+
+use crate::adding::added;
+use crate::dates::{Ymd, from_rata_die, to_rata_die};
+use crate::difference::{difference, largest_unit};
+use crate::steps::Steps;
+use crate::years::{DateFieldsResolver, PackWithMD, YearShapes};
+use cal_days::RataDie;
+use cal_types::{DateAddError, DateAddOptions, DateDifferenceOptions, DateDuration, Overflow};
+use std::alloc::AllocError;
+use std::cmp::Ordering;
+use std::fmt;
+use std::fmt::Debug;
+use std::hash::{Hash, Hasher};
+use std::marker::{Brand, PhantomData};
+use std::sync::ledger::{Blank, Ledger};
+
+/// A packed date of a calendar: a year, the place of a month in it, and a day of that month.
+///
+/// It belongs to a calendar where its year is one that the calendar gave, the calendar has the date, and its
+/// day number is in the valid range. Dates are equal and ordered by year, month's place and day.
+pub struct ArithmeticDate<C, P = <<C as YearShapes>::YearInfo as PackWithMD>::Packed> {
+    packed: P,
+    of: PhantomData<C>,
+}
+
+impl<C, P: Copy> Copy for ArithmeticDate<C, P> {}
+
+impl<C, P: Copy> Clone for ArithmeticDate<C, P> {
+    fn clone(&self) -> Result<Self, AllocError> {
+        Ok(ArithmeticDate {
+            packed: self.packed,
+            of: PhantomData,
+        })
+    }
+}
+
+impl<C: DateFieldsResolver> ArithmeticDate<C> {
+    /// The date of a valid day.
+    pub fn from_rata_die(rd: RataDie, cal: &C) -> Self
+        requires { IsValidDay rd }
+        ensures on { IsOn (C.list cal.now) rd (date_of (C.extended cal.now) (parts_of C.YearInfo.year_in C.YearInfo.month_in C.YearInfo.day_in result.packed)) }
+        ensures belongs { Belongs (C.list cal.now) (C.extended cal.now) (C.year_of cal.now) (parts_of C.YearInfo.year_in C.YearInfo.month_in C.YearInfo.day_in result.packed) }
+    {
+        ArithmeticDate::of_parts(from_rata_die(rd, cal), cal)
+    }
+
+    /// The day number of a date that belongs to the calendar.
+    pub fn to_rata_die(self, cal: &C) -> RataDie
+        requires { Belongs (C.list cal.now) (C.extended cal.now) (C.year_of cal.now) (parts_of C.YearInfo.year_in C.YearInfo.month_in C.YearInfo.day_in self.packed) }
+        ensures { result ≡ day_number (C.list cal.now) (date_of (C.extended cal.now) (parts_of C.YearInfo.year_in C.YearInfo.month_in C.YearInfo.day_in self.packed)) }
+    {
+        to_rata_die(parts::<C>(self.packed), cal)
+    }
+
+    /// The year.
+    pub fn year(self) -> C::YearInfo
+        ensures { result ≡ C.YearInfo.year_in self.packed }
+    {
+        <C::YearInfo as PackWithMD>::unpack_year(self.packed)
+    }
+
+    /// The place of the month in its year, from 1.
+    pub fn month(self) -> u8
+        ensures { result ≡ C.YearInfo.month_in self.packed }
+    {
+        <C::YearInfo as PackWithMD>::unpack_month(self.packed)
+    }
+
+    /// The day of the month, from 1.
+    pub fn day(self) -> u8
+        ensures { result ≡ C.YearInfo.day_in self.packed }
+    {
+        <C::YearInfo as PackWithMD>::unpack_day(self.packed)
+    }
+
+    /// The date with a duration added, as ECMAScript Temporal's NonISODateAdd; the default of the option
+    /// `overflow` is [`Overflow::Constrain`].
+    ///
+    /// [`DateAddError::Overflow`] comes for more than 2080000 years, 27040000 months, or 838240000 days with
+    /// the weeks', where the years lead past the years from -1040000 to 1040000, and where the sum is no
+    /// valid day. [`DateAddError::MonthNotInYear`] comes where the year that the years lead to lacks the
+    /// month, and [`DateAddError::InvalidDay`] where the month that the months lead to lacks the day, under
+    /// [`Overflow::Reject`].
+    pub fn added(&self, duration: DateDuration, cal: &C, options: DateAddOptions) -> Result<Self, DateAddError>
+        requires { Belongs (C.list cal.now) (C.extended cal.now) (C.year_of cal.now) (parts_of C.YearInfo.year_in C.YearInfo.month_in C.YearInfo.day_in self.now.packed) }
+        ensures sum { IsSum (C.list cal.now) (pos 0) (date_of (C.extended cal.now) (parts_of C.YearInfo.year_in C.YearInfo.month_in C.YearInfo.day_in self.now.packed)) duration (add_overflow_of options.overflow) (answer_by (λ a. date_of (C.extended cal.now) (parts_of C.YearInfo.year_in C.YearInfo.month_in C.YearInfo.day_in a.packed)) result) }
+        ensures belongs { IfOk result (λ a. Belongs (C.list cal.now) (C.extended cal.now) (C.year_of cal.now) (parts_of C.YearInfo.year_in C.YearInfo.month_in C.YearInfo.day_in a.packed)) }
+    {
+        self.added_shifted(duration, cal, options, 0)
+    }
+
+    /// The date with a duration added, as [`ArithmeticDate::added`], where the limit on years is tested on
+    /// the year with `shift` added, from -1040000 to 1040000. A calendar that hands its dates down to another
+    /// one gives what leads from its own years to the other's.
+    pub fn added_shifted(&self, duration: DateDuration, cal: &C, options: DateAddOptions, shift: i32) -> Result<Self, DateAddError>
+        requires date { Belongs (C.list cal.now) (C.extended cal.now) (C.year_of cal.now) (parts_of C.YearInfo.year_in C.YearInfo.month_in C.YearInfo.day_in self.now.packed) }
+        requires shift { IsFieldYear shift }
+        ensures sum { IsSum (C.list cal.now) shift (date_of (C.extended cal.now) (parts_of C.YearInfo.year_in C.YearInfo.month_in C.YearInfo.day_in self.now.packed)) duration (add_overflow_of options.overflow) (answer_by (λ a. date_of (C.extended cal.now) (parts_of C.YearInfo.year_in C.YearInfo.month_in C.YearInfo.day_in a.packed)) result) }
+        ensures belongs { IfOk result (λ a. Belongs (C.list cal.now) (C.extended cal.now) (C.year_of cal.now) (parts_of C.YearInfo.year_in C.YearInfo.month_in C.YearInfo.day_in a.packed)) }
+    {
+        let from = parts::<C>(self.packed);
+        match added(from, duration, add_overflow(options), shift, cal) {
+            Ok(sum) => Ok(ArithmeticDate::of_parts(sum, cal)),
+            Err(e) => Err(e),
+        }
+    }
+
+    /// The difference to another date, as ECMAScript Temporal's NonISODateUntil: years, then months, then
+    /// weeks and days, each as many as do not surpass the other date. The default of the option
+    /// `largest_unit` is days.
+    pub fn until(&self, other: &Self, cal: &C, options: DateDifferenceOptions) -> DateDuration
+        requires from { Belongs (C.list cal.now) (C.extended cal.now) (C.year_of cal.now) (parts_of C.YearInfo.year_in C.YearInfo.month_in C.YearInfo.day_in self.now.packed) }
+        requires to { Belongs (C.list cal.now) (C.extended cal.now) (C.year_of cal.now) (parts_of C.YearInfo.year_in C.YearInfo.month_in C.YearInfo.day_in other.now.packed) }
+        ensures { IsDifference (C.list cal.now) (date_of (C.extended cal.now) (parts_of C.YearInfo.year_in C.YearInfo.month_in C.YearInfo.day_in self.now.packed)) (date_of (C.extended cal.now) (parts_of C.YearInfo.year_in C.YearInfo.month_in C.YearInfo.day_in other.now.packed)) (largest_unit_of options.largest_unit) result }
+    {
+        ArithmeticDate::<C>::until_with_blank::<Brand>(self, other, cal, options, Blank::new(1))
+    }
+
+    /// The duration of [`ArithmeticDate::until`] within at most 8 look-ups of years; where months are the
+    /// largest unit, at most 8 and one more for each year between the dates.
+    pub fn until_counted<L: Ledger>(&self, other: &Self, cal: &C, options: DateDifferenceOptions, steps: &mut Steps<L>) -> DateDuration
+        requires from { Belongs (C.list cal.now) (C.extended cal.now) (C.year_of cal.now) (parts_of C.YearInfo.year_in C.YearInfo.month_in C.YearInfo.day_in self.now.packed) }
+        requires to { Belongs (C.list cal.now) (C.extended cal.now) (C.year_of cal.now) (parts_of C.YearInfo.year_in C.YearInfo.month_in C.YearInfo.day_in other.now.packed) }
+        ensures difference { IsDifference (C.list cal.now) (date_of (C.extended cal.now) (parts_of C.YearInfo.year_in C.YearInfo.month_in C.YearInfo.day_in self.now.packed)) (date_of (C.extended cal.now) (parts_of C.YearInfo.year_in C.YearInfo.month_in C.YearInfo.day_in other.now.packed)) (largest_unit_of options.largest_unit) result }
+        ensures ticks { steps.new ≤ steps.old + most_ticks (largest_unit_of options.largest_unit) (unsigned_abs (C.extended cal.now (C.YearInfo.year_in other.now.packed) -ℤ C.extended cal.now (C.YearInfo.year_in self.now.packed))) }
+    {
+        let from = parts::<C>(self.packed);
+        let to = parts::<C>(other.packed);
+        difference(from, to, largest_unit(options), cal, steps)
+    }
+
+    /// The difference by a counter that nobody reads.
+    fn until_with_blank<L: Ledger>(&self, other: &Self, cal: &C, options: DateDifferenceOptions, blank: Blank) -> DateDuration
+        requires from { Belongs (C.list cal.now) (C.extended cal.now) (C.year_of cal.now) (parts_of C.YearInfo.year_in C.YearInfo.month_in C.YearInfo.day_in self.now.packed) }
+        requires to { Belongs (C.list cal.now) (C.extended cal.now) (C.year_of cal.now) (parts_of C.YearInfo.year_in C.YearInfo.month_in C.YearInfo.day_in other.now.packed) }
+        requires name { blank.name ≡ L.name }
+        requires parts { blank.parts ≡ L.parts }
+        requires some { 0 < blank.parts }
+        ensures { IsDifference (C.list cal.now) (date_of (C.extended cal.now) (parts_of C.YearInfo.year_in C.YearInfo.month_in C.YearInfo.day_in self.now.packed)) (date_of (C.extended cal.now) (parts_of C.YearInfo.year_in C.YearInfo.month_in C.YearInfo.day_in other.now.packed)) (largest_unit_of options.largest_unit) result }
+    {
+        let mut steps = Steps::<L>::new(blank);
+        self.until_counted(other, cal, options, &mut steps)
+    }
+
+    /// The date of these parts, which belong to a calendar.
+    fn of_parts(date: Ymd<C::YearInfo>, cal: &C) -> Self
+        requires { Belongs (C.list cal.now) (C.extended cal.now) (C.year_of cal.now) date }
+        ensures { parts_of C.YearInfo.year_in C.YearInfo.month_in C.YearInfo.day_in result.packed ≡ date }
+    {
+        ArithmeticDate {
+            packed: date.year.pack(date.month, date.day),
+            of: PhantomData,
+        }
+    }
+}
+
+/// The parts of a packed date.
+fn parts<C: YearShapes>(packed: <C::YearInfo as PackWithMD>::Packed) -> Ymd<C::YearInfo>
+    ensures { result ≡ parts_of C.YearInfo.year_in C.YearInfo.month_in C.YearInfo.day_in packed }
+{
+    Ymd {
+        year: <C::YearInfo as PackWithMD>::unpack_year(packed),
+        month: <C::YearInfo as PackWithMD>::unpack_month(packed),
+        day: <C::YearInfo as PackWithMD>::unpack_day(packed),
+    }
+}
+
+/// Which overflow the options of adding ask for.
+fn add_overflow(options: DateAddOptions) -> Overflow
+    ensures { result ≡ add_overflow_of options.overflow }
+{
+    match options.overflow {
+        Some(overflow) => overflow,
+        None => Overflow::Constrain,
+    }
+}
+
+/// By year, month's place and day.
+impl<C: DateFieldsResolver> PartialEq for ArithmeticDate<C> {
+    ghost eq = { eq_of_both (on (λ a. C.YearInfo.year_in a.packed) C.YearInfo.eq) (eq_of_both (on (λ a. C.YearInfo.month_in a.packed) ◌==◌) (on (λ a. C.YearInfo.day_in a.packed) ◌==◌)) };
+
+    ghost laws = { Prim.search (comparing, rules, C.YearInfo.PartialEq.laws) };
+
+    fn eq(&self, other: &Self) -> bool {
+        <C::YearInfo as PackWithMD>::unpack_year(self.packed) == <C::YearInfo as PackWithMD>::unpack_year(other.packed)
+            && <C::YearInfo as PackWithMD>::unpack_month(self.packed) == <C::YearInfo as PackWithMD>::unpack_month(other.packed)
+            && <C::YearInfo as PackWithMD>::unpack_day(self.packed) == <C::YearInfo as PackWithMD>::unpack_day(other.packed)
+    }
+}
+
+impl<C: DateFieldsResolver> Eq for ArithmeticDate<C> {
+    ghost laws = { Prim.search (comparing, rules, C.YearInfo.Eq.laws) };
+}
+
+/// By year, then month's place, then day.
+impl<C: DateFieldsResolver> Ord for ArithmeticDate<C> {
+    ghost cmp = { then_cmp (on (λ a. C.YearInfo.year_in a.packed) C.YearInfo.cmp) (then_cmp (on (λ a. C.YearInfo.month_in a.packed) nat_cmp) (on (λ a. C.YearInfo.day_in a.packed) nat_cmp)) };
+
+    ghost total = { (then_total (on_total (λ a. C.YearInfo.year_in a.packed) C.YearInfo.total) (then_total (on_total (λ a. C.YearInfo.month_in a.packed) nat_cmp_total) (on_total (λ a. C.YearInfo.day_in a.packed) nat_cmp_total))) };
+
+    ghost matches_partial_cmp = { Prim.search (comparing, rules) };
+
+    ghost matches_eq = { Prim.search (comparing, rules, C.YearInfo.matches_eq) };
+
+    fn cmp(&self, other: &Self) -> Ordering {
+        <C::YearInfo as PackWithMD>::unpack_year(self.packed)
+            .cmp(&<C::YearInfo as PackWithMD>::unpack_year(other.packed))
+            .then(<C::YearInfo as PackWithMD>::unpack_month(self.packed).cmp(&<C::YearInfo as PackWithMD>::unpack_month(other.packed)))
+            .then(<C::YearInfo as PackWithMD>::unpack_day(self.packed).cmp(&<C::YearInfo as PackWithMD>::unpack_day(other.packed)))
+    }
+}
+
+impl<C: DateFieldsResolver> PartialOrd for ArithmeticDate<C> {
+    ghost partial_cmp = { as_partial_cmp (then_cmp (on (λ a. C.YearInfo.year_in a.packed) C.YearInfo.cmp) (then_cmp (on (λ a. C.YearInfo.month_in a.packed) nat_cmp) (on (λ a. C.YearInfo.day_in a.packed) nat_cmp))) };
+
+    ghost laws = { partial_order_from_own_ties (partial_order_from_total (then_total (on_total (λ a. C.YearInfo.year_in a.packed) C.YearInfo.total) (then_total (on_total (λ a. C.YearInfo.month_in a.packed) nat_cmp_total) (on_total (λ a. C.YearInfo.day_in a.packed) nat_cmp_total)))) (Prim.search (comparing, rules, C.YearInfo.matches_eq)) };
+
+    fn partial_cmp(&self, other: &Self) -> Option<Ordering> {
+        Some(self.cmp(other))
+    }
+}
+
+impl<C: DateFieldsResolver> Hash for ArithmeticDate<C> {
+    ghost hash_input = { λ a. C.YearInfo.hash_input (C.YearInfo.year_in a.packed) ++ fed.u8 (C.YearInfo.month_in a.packed) ++ fed.u8 (C.YearInfo.day_in a.packed) };
+
+    ghost respects_eq = { Prim.search (hashing, rules, C.YearInfo.respects_eq) };
+
+    fn hash<H: Hasher>(&self, state: &mut H) {
+        <C::YearInfo as PackWithMD>::unpack_year(self.packed).hash(state);
+        <C::YearInfo as PackWithMD>::unpack_month(self.packed).hash(state);
+        <C::YearInfo as PackWithMD>::unpack_day(self.packed).hash(state);
+    }
+}
+
+impl<C: DateFieldsResolver> Debug for ArithmeticDate<C> {
+    fn fmt<W: fmt::Write>(&self, f: &mut fmt::Formatter<W>) -> fmt::Result {
+        self.packed.fmt(f)
+    }
+}

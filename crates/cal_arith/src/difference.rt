@@ -1,0 +1,99 @@
+//! The difference of two dates, as ECMAScript Temporal's NonISODateUntil.
+
+ghost use Rattle.std.specs.Prelude.{◌≡◌, ◌+◌, ◌-◌, ◌*◌, ◌<◌, ◌≤◌, ◌<ℤ◌, ◌-ℤ◌, unsigned_abs, IsTrue, false, ◌↔◌};
+ghost use Rattle.cal_model.specs.CalendarList.{date};
+ghost use Rattle.cal_model.specs.Difference.{IsDifference, admits_weeks, largest_unit_of};
+ghost use Rattle.cal_arith.specs.Dates.{date_of, ymd, Belongs};
+ghost use Rattle.cal_arith.specs.Ticks.{most_ticks};
+
+use crate::dates::{Ymd, to_rata_die};
+use crate::months_between::admitted_months;
+use crate::steps::Steps;
+use crate::years::YearShapes;
+use crate::years_between::{admitted_years, month_after_years};
+use cal_days::RataDie;
+use cal_types::{DateDifferenceOptions, DateDuration, DateDurationUnit};
+use std::sync::ledger::Ledger;
+
+/// Whether the second day lies before the first.
+fn is_back(first: RataDie, second: RataDie) -> bool
+    ensures { IsTrue result ↔ (second <ℤ first) }
+{
+    second < first
+}
+
+/// How many days lie between two days.
+fn days_apart(first: RataDie, second: RataDie) -> u32
+    requires { unsigned_abs (second -ℤ first) < 4294967296 }
+    ensures { result ≡ unsigned_abs (second -ℤ first) }
+{
+    second.since(first).unsigned_abs() as u32
+}
+
+/// The whole weeks of a number of days, where weeks are admitted.
+fn admitted_weeks(days: u32, unit: DateDurationUnit) -> u32
+    ensures weeks { IsTrue (admits_weeks unit) → (7 * result ≤ days) × (days < 7 * result + 7) }
+    ensures none { admits_weeks unit ≡ false → result ≡ 0 }
+{
+    match unit {
+        DateDurationUnit::Weeks => days / 7,
+        _ => 0,
+    }
+}
+
+/// The difference from one date to another: years, then months, then weeks and days, each as many as do not
+/// surpass the second date.
+pub(crate) fn difference<C: YearShapes, L: Ledger>(from: Ymd<C::YearInfo>, to: Ymd<C::YearInfo>, unit: DateDurationUnit, cal: &C, steps: &mut Steps<L>) -> DateDuration
+    requires from { Belongs (C.list cal.now) (C.extended cal.now) (C.year_of cal.now) from }
+    requires to { Belongs (C.list cal.now) (C.extended cal.now) (C.year_of cal.now) to }
+    ensures difference { IsDifference (C.list cal.now) (date_of (C.extended cal.now) from) (date_of (C.extended cal.now) to) unit result }
+    ensures ticks { steps.new ≤ steps.old + most_ticks unit (unsigned_abs (C.extended cal.now to.year -ℤ C.extended cal.now from.year)) }
+{
+    let second = to_rata_die(to, cal);
+    let back = is_back(to_rata_die(from, cal), second);
+    let years = admitted_years(from, to, unit, back, cal);
+    let start = month_after_years(from, to, years, back, cal, steps);
+    let reached = admitted_months(from, to, start, years, unit, back, cal, steps);
+    let length = cal.days_in_provided_month(reached.year, reached.month);
+    let base = cal.to_rata_die_inner(reached.year, reached.month, from.day.min(length));
+    let left = days_apart(base, second);
+    let weeks = admitted_weeks(left, unit);
+    DateDuration {
+        is_negative: back,
+        years,
+        months: reached.months,
+        weeks,
+        days: left - 7 * weeks,
+    }
+}
+
+/// The duration of [`crate::ArithmeticDate::until`] between two dates, each a year, the place of a month and a
+/// day, within the look-ups of [`crate::ArithmeticDate::until_counted`].
+pub fn difference_counted<C: YearShapes, L: Ledger>(from: (C::YearInfo, u8, u8), to: (C::YearInfo, u8, u8), calendar: &C, options: DateDifferenceOptions, steps: &mut Steps<L>) -> DateDuration
+    requires from { Belongs (C.list calendar.now) (C.extended calendar.now) (C.year_of calendar.now) (ymd from.0 from.1 from.2) }
+    requires to { Belongs (C.list calendar.now) (C.extended calendar.now) (C.year_of calendar.now) (ymd to.0 to.1 to.2) }
+    ensures difference { IsDifference (C.list calendar.now) (date (C.extended calendar.now from.0) from.1 from.2) (date (C.extended calendar.now to.0) to.1 to.2) (largest_unit_of options.largest_unit) result }
+    ensures ticks { steps.new ≤ steps.old + most_ticks (largest_unit_of options.largest_unit) (unsigned_abs (C.extended calendar.now to.0 -ℤ C.extended calendar.now from.0)) }
+{
+    let first = Ymd {
+        year: from.0,
+        month: from.1,
+        day: from.2,
+    };
+    let second = Ymd {
+        year: to.0,
+        month: to.1,
+        day: to.2,
+    };
+    difference(first, second, largest_unit(options), calendar, steps)
+}
+
+/// Which largest unit the options of a difference ask for.
+pub(crate) fn largest_unit(options: DateDifferenceOptions) -> DateDurationUnit
+    ensures { result ≡ largest_unit_of options.largest_unit }
+{
+    match options.largest_unit {
+        Some(unit) => unit,
+        None => DateDurationUnit::Days,
+    }
+}

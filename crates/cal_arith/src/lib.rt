@@ -1,0 +1,22 @@
+//! Arithmetic of dates over any calendar: adding a duration, and the difference of two dates.
+//!
+//! A calendar offers its years by [`years::Years`]; its list of years decides every answer here. The rules
+//! are those of ECMAScript Temporal's NonISODateAdd and NonISODateUntil.
+#![tactic(auto)]
+
+pub mod adding;
+pub mod arithmetic_date;
+pub mod dates;
+pub mod difference;
+pub mod laws;
+pub mod months;
+pub mod months_between;
+pub mod past;
+pub mod places;
+pub mod steps;
+pub mod years;
+pub mod years_between;
+
+pub use arithmetic_date::ArithmeticDate;
+pub use steps::Steps;
+pub use years::{DateFieldsResolver, PackWithMD, YearShapes, Years};
