@@ -3,7 +3,6 @@
 
 import random
 import re
-import resource
 import shutil
 import subprocess
 import sys
@@ -40,6 +39,17 @@ def instructions(path: Path) -> int:
     return int(found.group(1)) if found else 0
 
 
+def peak_memory(path: Path) -> int:
+    """KiB of the running program, once it has answered the whole input."""
+    with subprocess.Popen(PROGRAM, stdin=subprocess.PIPE, stdout=subprocess.DEVNULL) as run:
+        run.stdin.write(path.read_bytes())
+        run.stdin.flush()
+        time.sleep(0.2)
+        status = Path(f"/proc/{run.pid}/status").read_text()
+        run.stdin.close()
+    return int(re.search(r"VmHWM:\s+(\d+)", status).group(1))
+
+
 def write(folder: Path, count: int) -> Path:
     chance = random.Random(7)
     path = folder / f"{count}.txt"
@@ -56,7 +66,7 @@ def main() -> int:
         best = min(seconds(large) for _ in range(ROUNDS))
         print(f"{REQUESTS} requests, {size} bytes: {best:.3f} s, the best of {ROUNDS}")
         print(f"{REQUESTS / best:,.0f} requests a second, {size / best / 1e6:.0f} MB a second")
-        print(f"peak memory {resource.getrusage(resource.RUSAGE_CHILDREN).ru_maxrss} KiB (of the largest child)")
+        print(f"peak memory {peak_memory(write(folder, 1000))} KiB for 1000 requests, {peak_memory(large)} KiB for all")
         if shutil.which("valgrind"):
             few, more = write(folder, 1000), write(folder, 3000)
             print(f"{(instructions(more) - instructions(few)) / 2000:.0f} instructions a request")
