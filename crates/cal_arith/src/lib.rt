@@ -14,6 +14,8 @@ pub mod months_between;
 pub mod past;
 pub mod places;
 pub mod steps;
+#[cfg(test)]
+mod tests;
 pub mod years;
 pub mod years_between;
 
