@@ -1,5 +1,5 @@
 -- A small calendar for tests: each year has twelve months of 30 and 29 days in turn.
-use Rattle.std.proofs.Common.{◌≡◌, ℕ, zero, suc, ◌+◌, ◌-◌, ◌*◌, ◌/◌, ◌%◌, ◌<◌, ◌≤◌, Bool, true, false, not, ◌&&◌, nat_le, nat_eq, if◌then◌else◌, IsTrue, Option, Some, None, Ok, Err, List, [], ◌∷◌, refl, sym, ap, subst, ◌∙◌, arith, unsigned_abs, ℤ, pos, neg_ℤ, ◌+ℤ◌, ◌-ℤ◌, ◌*ℤ◌, ◌≤ℤ◌, ◌<ℤ◌}
+use Rattle.std.proofs.Common.{◌≡◌, ℕ, zero, suc, ◌+◌, ◌-◌, ◌*◌, ◌/◌, ◌%◌, ◌≤◌, Bool, true, false, not, ◌&&◌, nat_le, Some, Ok, Err, List, [], ◌∷◌, refl, sym, ap, ◌∙◌, arith, unsigned_abs, ℤ, pos, neg_ℤ, ◌+ℤ◌, ◌-ℤ◌, ◌*ℤ◌, ◌≤ℤ◌, ◌<ℤ◌}
 use Rattle.std.proofs.lemmas.Bool.Decides.{nat_tests}
 use Rattle.cal_days.specs.Day.{IsBetween, IsFieldYear, IsRuleYear, IsValidDay}
 use Rattle.cal_days.specs.Sums.{total}
@@ -8,8 +8,8 @@ use Rattle.cal_days.proofs.SumLemmas.{span-same}
 use Rattle.cal_types.specs.Month.{MonthParts, month_rank}
 use Rattle.cal_types.specs.declared.options.Overflow.{Overflow}
 use Rattle.cal_types.specs.declared.errors.MonthError.TheVariants.{NotInCalendar}
-use Rattle.cal_types.specs.declared.options.Overflow.TheVariants.{Constrain, Reject}
-use Rattle.cal_model.specs.CalendarList.{CalendarList, Date, Entry, HasPlace, IsDate, IsLawful, IsValidDate, day_number, days_before, month_at, month_count, month_length, month_number, place_of, spot, start_of_year, year_length}
+use Rattle.cal_types.specs.declared.options.Overflow.TheVariants.{Constrain}
+use Rattle.cal_model.specs.CalendarList.{CalendarList, Date, Entry, IsDate, IsLawful, IsValidDate, day_number, days_before, month_at, month_count, month_length, month_number, place_of, spot, start_of_year, year_length}
 use Rattle.cal_arith.specs.Places.{ordinal_month}
 use Rattle.cal_model.proofs.ListLemmas.{date-in_year, month_number-next, month_number-place, spot-own, start_of_year-unique}
 

@@ -33,8 +33,11 @@ impl PackWithMD for i32 {
     type Packed = Parts;
 
     ghost stored = { λ y. y };
+
     ghost year_in = { λ p. p.year };
+
     ghost month_in = { λ p. p.month };
+
     ghost day_in = { λ p. p.day };
 
     fn pack(self, month: u8, day: u8) -> Parts {
@@ -70,8 +73,11 @@ impl YearShapes for AlternatingMonths {
     type YearInfo = i32;
 
     ghost list = { λ _. alternating };
+
     ghost year_of = { λ _ y. y };
+
     ghost extended = { λ _ y. y };
+
     ghost offset = { λ _. pos 0 };
 
     fn year_counted<L: Ledger>(&self, extended_year: i32, steps: &mut Steps<L>) -> i32 {
@@ -101,7 +107,12 @@ impl YearShapes for AlternatingMonths {
         12 * years
     }
 
-    fn ordinal_from_month(&self, _year: i32, month: Month, _overflow: Overflow) -> Result<u8, MonthError> {
+    fn ordinal_from_month(
+        &self,
+        _year: i32,
+        month: Month,
+        _overflow: Overflow,
+    ) -> Result<u8, MonthError> {
         if is_plain_month(month) {
             Ok(month.number())
         } else {
@@ -114,13 +125,21 @@ impl YearShapes for AlternatingMonths {
     }
 
     ghost numbered = { λ s y h. refl };
+
     ghost lawful = { λ s. alternating-lawful };
+
     ghost equal = { λ a b. refl };
+
     ghost ordered = { λ a b. refl };
+
     ghost stored_from = { λ s y h. stored-year y };
+
     ghost near = { λ s t. alternating-near t };
+
     ghost ranged = { λ s t. alternating-ranged t };
+
     ghost apart = { λ s t u. alternating-apart t u };
+
     ghost covered = { λ s t. alternating-covered t };
 }
 

@@ -3,7 +3,9 @@
 use crate::arithmetic_date::ArithmeticDate;
 use crate::tests::alternating_months::AlternatingMonths;
 use cal_days::RataDie;
-use cal_types::{DateAddError, DateAddOptions, DateDifferenceOptions, DateDuration, DateDurationUnit, Overflow};
+use cal_types::{
+    DateAddError, DateAddOptions, DateDifferenceOptions, DateDuration, DateDurationUnit, Overflow,
+};
 
 /// A duration forward.
 fn forward(years: u32, months: u32, weeks: u32, days: u32) -> DateDuration {
@@ -56,8 +58,18 @@ fn a_day_is_clamped_after_the_months(rt: HostRuntime) {
     };
     assert_eq!(rt; one_month.month(), 3);
     assert_eq!(rt; one_month.day(), 1);
-    assert!(rt; matches!(last.added(forward(0, 1, 0, 1), &cal, reject), Err(DateAddError::InvalidDay { max: 29 })));
-    assert!(rt; matches!(last.added(forward(2080001, 0, 0, 0), &cal, reject), Err(DateAddError::Overflow)));
+    assert!(rt;
+        matches!(
+            last.added(forward(0, 1, 0, 1), &cal, reject),
+            Err(DateAddError::InvalidDay { max: 29 })
+        )
+    );
+    assert!(rt;
+        matches!(
+            last.added(forward(2080001, 0, 0, 0), &cal, reject),
+            Err(DateAddError::Overflow)
+        )
+    );
 }
 
 #[test]

@@ -1,4 +1,4 @@
-use Rattle.std.proofs.Common.{◌≤◌, sym, arith}
+use Rattle.std.proofs.Common.{sym, arith}
 use Rattle.cal_arith.specs.AlternatingMonths.{month_count-alternating, month_length-alternating}
 use Rattle.cal_arith.proofs.tests.alternating_months.AlternatingMonthsYearShapes.days_in_provided_month.Goals as goal
 

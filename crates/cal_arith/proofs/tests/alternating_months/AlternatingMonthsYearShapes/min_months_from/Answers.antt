@@ -1,4 +1,4 @@
-use Rattle.std.proofs.Common.{◌≡◌, ℤ, pos, ◌*ℤ◌, to_z, of_z, w32, unsigned_abs, arith}
+use Rattle.std.proofs.Common.{◌≡◌, pos, ◌*ℤ◌, to_z, of_z, w32, unsigned_abs, arith}
 use Rattle.cal_days.proofs.Signed.{signed}
 use Rattle.cal_arith.specs.AlternatingMonths.{total-alternating}
 use Rattle.cal_arith.proofs.tests.alternating_months.AlternatingMonthsYearShapes.min_months_from.Goals as goal
