@@ -1,4 +1,5 @@
 pub mod AnswerLemmas
 mod SplitLemmas
 mod KnownLemmas
+pub mod FormLemmas
 mod RunLemmas

@@ -8,6 +8,7 @@ pub mod RequestSaid
 pub mod LineSaid
 pub mod Reading
 pub mod Requests
+pub mod Forms
 pub mod Replies
 pub mod Answers
 pub mod Standing

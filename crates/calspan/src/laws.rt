@@ -1,5 +1,12 @@
-//! Laws of the answers, each proved as the contract of a function that does nothing.
+//! Laws of requests and answers, each proved as the contract of a function that does nothing.
+ghost use Rattle.calspan.specs.Forms.{RequestsHaveOneForm};
 ghost use Rattle.calspan.specs.Laws.{EveryInputHasAnswers, AnswersAreUnique, AnswersToFrontAreFront};
+
+/// Words are read as a request exactly where they are of the form
+/// `span CALENDAR SHOWN UNIT OVERFLOW MISSING from BAG to BAG`, each BAG `year=INT month=CODE day=BYTE`, and say it.
+pub fn requests_have_one_form()
+    ensures { RequestsHaveOneForm }
+{}
 
 /// To every input, and to what has come of one, there are answers and a status.
 pub fn every_input_has_answers()
