@@ -119,7 +119,12 @@ impl YearShapes for Julian {
         12 * years
     }
 
-    fn ordinal_from_month(&self, _year: JulianYear, month: Month, _overflow: Overflow) -> Result<u8, MonthError> {
+    fn ordinal_from_month(
+        &self,
+        _year: JulianYear,
+        month: Month,
+        _overflow: Overflow,
+    ) -> Result<u8, MonthError> {
         if is_julian_month(month) {
             Ok(month.number())
         } else {
@@ -163,3 +168,6 @@ impl Years for Julian {
 }
 
 impl DateFieldsResolver for Julian {}
+
+#[cfg(test)]
+mod tests;
