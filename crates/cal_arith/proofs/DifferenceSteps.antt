@@ -1,10 +1,10 @@
 -- The steps of a difference, over plain variables.
-use Rattle.std.proofs.Common.{◌≡◌, ◌⊎◌, inl, inr, ℕ, ◌+◌, ◌-◌, ◌*◌, ◌<◌, ◌≤◌, ◌↔◌, Bool, true, false, IsTrue, Some, refl, sym, ap, subst, ◌∙◌, arith, unsigned_abs, ℤ, pos, ◌+ℤ◌, ◌-ℤ◌, ◌<ℤ◌}
+use Rattle.std.proofs.Common.{◌≡◌, ℕ, ◌+◌, ◌-◌, ◌*◌, ◌<◌, ◌≤◌, ◌↔◌, Bool, true, false, IsTrue, Some, refl, ap, subst, ◌∙◌, arith, unsigned_abs, ℤ, pos, ◌+ℤ◌, ◌-ℤ◌, ◌<ℤ◌}
 use Rattle.cal_types.specs.declared.options.Overflow.TheVariants.{Constrain}
 use Rattle.cal_types.specs.declared.duration.DateDuration.{DateDuration}
 use Rattle.cal_types.specs.declared.duration.DateDurationUnit.{DateDurationUnit}
 use Rattle.cal_types.specs.declared.duration.DateDurationUnit.TheVariants.{Years, Months, Weeks, Days}
-use Rattle.cal_model.specs.CalendarList.{CalendarList, Date, HasPlace, IsDate, IsMonthsAfter, day_number, month_at, month_count, month_number, spot}
+use Rattle.cal_model.specs.CalendarList.{CalendarList, Date, HasPlace, IsDate, day_number, month_at, month_count, month_number, spot}
 use Rattle.cal_model.specs.WithinYear.{Leads}
 use Rattle.cal_model.specs.Difference.{toward, Reaches, YearsSurpass, MonthsSurpass, DaysSurpass, IsGreatest, IsGreatestIf, IsDifference, admits_years, admits_months, admits_weeks}
 use Rattle.cal_days.proofs.Signed.{signed, by_lt}

@@ -1,9 +1,8 @@
 -- Places of months that the calendar knows.
-use Rattle.std.proofs.Common.{◌≡◌, ℕ, ℤ, true, false, Bool, IsTrue, Option, Some, None, Result, ok_or, refl, sym, ◌∙◌}
+use Rattle.std.proofs.Common.{◌≡◌, ℕ, ℤ, true, None, ok_or, refl, sym, ◌∙◌}
 use Rattle.cal_types.specs.Month.{MonthParts}
 use Rattle.cal_types.specs.declared.options.Overflow.{Overflow}
 use Rattle.cal_types.specs.declared.options.Overflow.TheVariants.{Constrain}
-use Rattle.cal_types.specs.declared.errors.MonthError.{MonthError}
 use Rattle.cal_types.specs.declared.errors.MonthError.TheVariants.{NotInYear}
 use Rattle.cal_model.specs.CalendarList.{CalendarList, HasPlace, IsLawful, month_at, spot}
 use Rattle.cal_arith.specs.Places.{ordinal_month}

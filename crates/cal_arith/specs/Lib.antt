@@ -2,3 +2,4 @@ pub mod Given
 pub mod Dates
 pub mod Places
 pub mod Ticks
+pub mod AlternatingMonths

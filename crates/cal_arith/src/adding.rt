@@ -21,7 +21,11 @@ fn can_be_added(duration: DateDuration) -> bool
 {
     duration.years <= 2080000
         && duration.months <= 27040000
-        && duration.weeks.saturating_mul(7).saturating_add(duration.days) <= 838240000
+        && duration
+            .weeks
+            .saturating_mul(7)
+            .saturating_add(duration.days)
+            <= 838240000
 }
 
 /// The date of a day number, where it is valid.
@@ -87,7 +91,13 @@ fn field_year(year: i32, years: u32, back: bool, shift: i32) -> Option<i32>
 
 /// The date with a duration added, or the first fault. The limit on years is tested on the year with the
 /// shift added.
-pub(crate) fn added<C: Years>(from: Ymd<C::YearInfo>, duration: DateDuration, overflow: Overflow, shift: i32, cal: &C) -> Result<Ymd<C::YearInfo>, DateAddError>
+pub(crate) fn added<C: Years>(
+    from: Ymd<C::YearInfo>,
+    duration: DateDuration,
+    overflow: Overflow,
+    shift: i32,
+    cal: &C,
+) -> Result<Ymd<C::YearInfo>, DateAddError>
     requires year { IsGiven (C.extended cal.now) (C.year_of cal.now) from.year }
     requires from { IsDate (C.list cal.now) (date_of (C.extended cal.now) from) }
     requires range { IsFieldYear (C.extended cal.now from.year) }
@@ -113,7 +123,13 @@ pub(crate) fn added<C: Years>(from: Ymd<C::YearInfo>, duration: DateDuration, ov
 }
 
 /// The sum, counted from the month that years and months lead to.
-fn sum_from_month<C: Years>(reached: YearMonth<C::YearInfo>, day: u8, duration: DateDuration, overflow: Overflow, cal: &C) -> Result<Ymd<C::YearInfo>, DateAddError>
+fn sum_from_month<C: Years>(
+    reached: YearMonth<C::YearInfo>,
+    day: u8,
+    duration: DateDuration,
+    overflow: Overflow,
+    cal: &C,
+) -> Result<Ymd<C::YearInfo>, DateAddError>
     requires year { IsGiven (C.extended cal.now) (C.year_of cal.now) reached.year }
     requires place { HasPlace (C.list cal.now) (C.extended cal.now reached.year) reached.month }
     requires day { 1 ≤ day }
@@ -126,5 +142,12 @@ fn sum_from_month<C: Years>(reached: YearMonth<C::YearInfo>, day: u8, duration: 
         return Err(DateAddError::InvalidDay { max: last });
     }
     let base = cal.to_rata_die_inner(reached.year, reached.month, day.min(last));
-    valid_date(days_away(base, 7 * duration.weeks + duration.days, duration.is_negative), cal)
+    valid_date(
+        days_away(
+            base,
+            7 * duration.weeks + duration.days,
+            duration.is_negative,
+        ),
+        cal,
+    )
 }

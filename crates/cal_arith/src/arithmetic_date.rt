@@ -96,7 +96,12 @@ impl<C: DateFieldsResolver> ArithmeticDate<C> {
     /// valid day. [`DateAddError::MonthNotInYear`] comes where the year that the years lead to lacks the
     /// month, and [`DateAddError::InvalidDay`] where the month that the months lead to lacks the day, under
     /// [`Overflow::Reject`].
-    pub fn added(&self, duration: DateDuration, cal: &C, options: DateAddOptions) -> Result<Self, DateAddError>
+    pub fn added(
+        &self,
+        duration: DateDuration,
+        cal: &C,
+        options: DateAddOptions,
+    ) -> Result<Self, DateAddError>
         requires { Belongs (C.list cal.now) (C.extended cal.now) (C.year_of cal.now) (parts_of C.YearInfo.year_in C.YearInfo.month_in C.YearInfo.day_in self.now.packed) }
         ensures sum { IsSum (C.list cal.now) (pos 0) (date_of (C.extended cal.now) (parts_of C.YearInfo.year_in C.YearInfo.month_in C.YearInfo.day_in self.now.packed)) duration (add_overflow_of options.overflow) (answer_by (λ a. date_of (C.extended cal.now) (parts_of C.YearInfo.year_in C.YearInfo.month_in C.YearInfo.day_in a.packed)) result) }
         ensures belongs { IfOk result (λ a. Belongs (C.list cal.now) (C.extended cal.now) (C.year_of cal.now) (parts_of C.YearInfo.year_in C.YearInfo.month_in C.YearInfo.day_in a.packed)) }
@@ -107,7 +112,13 @@ impl<C: DateFieldsResolver> ArithmeticDate<C> {
     /// The date with a duration added, as [`ArithmeticDate::added`], where the limit on years is tested on
     /// the year with `shift` added, from -1040000 to 1040000. A calendar that hands its dates down to another
     /// one gives what leads from its own years to the other's.
-    pub fn added_shifted(&self, duration: DateDuration, cal: &C, options: DateAddOptions, shift: i32) -> Result<Self, DateAddError>
+    pub fn added_shifted(
+        &self,
+        duration: DateDuration,
+        cal: &C,
+        options: DateAddOptions,
+        shift: i32,
+    ) -> Result<Self, DateAddError>
         requires date { Belongs (C.list cal.now) (C.extended cal.now) (C.year_of cal.now) (parts_of C.YearInfo.year_in C.YearInfo.month_in C.YearInfo.day_in self.now.packed) }
         requires shift { IsFieldYear shift }
         ensures sum { IsSum (C.list cal.now) shift (date_of (C.extended cal.now) (parts_of C.YearInfo.year_in C.YearInfo.month_in C.YearInfo.day_in self.now.packed)) duration (add_overflow_of options.overflow) (answer_by (λ a. date_of (C.extended cal.now) (parts_of C.YearInfo.year_in C.YearInfo.month_in C.YearInfo.day_in a.packed)) result) }
@@ -133,7 +144,13 @@ impl<C: DateFieldsResolver> ArithmeticDate<C> {
 
     /// The duration of [`ArithmeticDate::until`] within at most 8 look-ups of years; where months are the
     /// largest unit, at most 8 and one more for each year between the dates.
-    pub fn until_counted<L: Ledger>(&self, other: &Self, cal: &C, options: DateDifferenceOptions, steps: &mut Steps<L>) -> DateDuration
+    pub fn until_counted<L: Ledger>(
+        &self,
+        other: &Self,
+        cal: &C,
+        options: DateDifferenceOptions,
+        steps: &mut Steps<L>,
+    ) -> DateDuration
         requires from { Belongs (C.list cal.now) (C.extended cal.now) (C.year_of cal.now) (parts_of C.YearInfo.year_in C.YearInfo.month_in C.YearInfo.day_in self.now.packed) }
         requires to { Belongs (C.list cal.now) (C.extended cal.now) (C.year_of cal.now) (parts_of C.YearInfo.year_in C.YearInfo.month_in C.YearInfo.day_in other.now.packed) }
         ensures difference { IsDifference (C.list cal.now) (date_of (C.extended cal.now) (parts_of C.YearInfo.year_in C.YearInfo.month_in C.YearInfo.day_in self.now.packed)) (date_of (C.extended cal.now) (parts_of C.YearInfo.year_in C.YearInfo.month_in C.YearInfo.day_in other.now.packed)) (largest_unit_of options.largest_unit) result }
@@ -145,7 +162,13 @@ impl<C: DateFieldsResolver> ArithmeticDate<C> {
     }
 
     /// The difference by a counter that nobody reads.
-    fn until_with_blank<L: Ledger>(&self, other: &Self, cal: &C, options: DateDifferenceOptions, blank: Blank) -> DateDuration
+    fn until_with_blank<L: Ledger>(
+        &self,
+        other: &Self,
+        cal: &C,
+        options: DateDifferenceOptions,
+        blank: Blank,
+    ) -> DateDuration
         requires from { Belongs (C.list cal.now) (C.extended cal.now) (C.year_of cal.now) (parts_of C.YearInfo.year_in C.YearInfo.month_in C.YearInfo.day_in self.now.packed) }
         requires to { Belongs (C.list cal.now) (C.extended cal.now) (C.year_of cal.now) (parts_of C.YearInfo.year_in C.YearInfo.month_in C.YearInfo.day_in other.now.packed) }
         requires name { blank.name ≡ L.name }
@@ -197,9 +220,12 @@ impl<C: DateFieldsResolver> PartialEq for ArithmeticDate<C> {
     ghost laws = { Prim.search (comparing, rules, C.YearInfo.PartialEq.laws) };
 
     fn eq(&self, other: &Self) -> bool {
-        <C::YearInfo as PackWithMD>::unpack_year(self.packed) == <C::YearInfo as PackWithMD>::unpack_year(other.packed)
-            && <C::YearInfo as PackWithMD>::unpack_month(self.packed) == <C::YearInfo as PackWithMD>::unpack_month(other.packed)
-            && <C::YearInfo as PackWithMD>::unpack_day(self.packed) == <C::YearInfo as PackWithMD>::unpack_day(other.packed)
+        <C::YearInfo as PackWithMD>::unpack_year(self.packed)
+            == <C::YearInfo as PackWithMD>::unpack_year(other.packed)
+            && <C::YearInfo as PackWithMD>::unpack_month(self.packed)
+                == <C::YearInfo as PackWithMD>::unpack_month(other.packed)
+            && <C::YearInfo as PackWithMD>::unpack_day(self.packed)
+                == <C::YearInfo as PackWithMD>::unpack_day(other.packed)
     }
 }
 
@@ -220,8 +246,12 @@ impl<C: DateFieldsResolver> Ord for ArithmeticDate<C> {
     fn cmp(&self, other: &Self) -> Ordering {
         <C::YearInfo as PackWithMD>::unpack_year(self.packed)
             .cmp(&<C::YearInfo as PackWithMD>::unpack_year(other.packed))
-            .then(<C::YearInfo as PackWithMD>::unpack_month(self.packed).cmp(&<C::YearInfo as PackWithMD>::unpack_month(other.packed)))
-            .then(<C::YearInfo as PackWithMD>::unpack_day(self.packed).cmp(&<C::YearInfo as PackWithMD>::unpack_day(other.packed)))
+            .then(<C::YearInfo as PackWithMD>::unpack_month(self.packed).cmp(
+                &<C::YearInfo as PackWithMD>::unpack_month(other.packed),
+            ))
+            .then(<C::YearInfo as PackWithMD>::unpack_day(self.packed).cmp(
+                &<C::YearInfo as PackWithMD>::unpack_day(other.packed),
+            ))
     }
 }
 

@@ -43,7 +43,13 @@ fn admitted_weeks(days: u32, unit: DateDurationUnit) -> u32
 
 /// The difference from one date to another: years, then months, then weeks and days, each as many as do not
 /// surpass the second date.
-pub(crate) fn difference<C: YearShapes, L: Ledger>(from: Ymd<C::YearInfo>, to: Ymd<C::YearInfo>, unit: DateDurationUnit, cal: &C, steps: &mut Steps<L>) -> DateDuration
+pub(crate) fn difference<C: YearShapes, L: Ledger>(
+    from: Ymd<C::YearInfo>,
+    to: Ymd<C::YearInfo>,
+    unit: DateDurationUnit,
+    cal: &C,
+    steps: &mut Steps<L>,
+) -> DateDuration
     requires from { Belongs (C.list cal.now) (C.extended cal.now) (C.year_of cal.now) from }
     requires to { Belongs (C.list cal.now) (C.extended cal.now) (C.year_of cal.now) to }
     ensures difference { IsDifference (C.list cal.now) (date_of (C.extended cal.now) from) (date_of (C.extended cal.now) to) unit result }
@@ -69,7 +75,13 @@ pub(crate) fn difference<C: YearShapes, L: Ledger>(from: Ymd<C::YearInfo>, to: Y
 
 /// The duration of [`crate::ArithmeticDate::until`] between two dates, each a year, the place of a month and a
 /// day, within the look-ups of [`crate::ArithmeticDate::until_counted`].
-pub fn difference_counted<C: YearShapes, L: Ledger>(from: (C::YearInfo, u8, u8), to: (C::YearInfo, u8, u8), calendar: &C, options: DateDifferenceOptions, steps: &mut Steps<L>) -> DateDuration
+pub fn difference_counted<C: YearShapes, L: Ledger>(
+    from: (C::YearInfo, u8, u8),
+    to: (C::YearInfo, u8, u8),
+    calendar: &C,
+    options: DateDifferenceOptions,
+    steps: &mut Steps<L>,
+) -> DateDuration
     requires from { Belongs (C.list calendar.now) (C.extended calendar.now) (C.year_of calendar.now) (ymd from.0 from.1 from.2) }
     requires to { Belongs (C.list calendar.now) (C.extended calendar.now) (C.year_of calendar.now) (ymd to.0 to.1 to.2) }
     ensures difference { IsDifference (C.list calendar.now) (date (C.extended calendar.now from.0) from.1 from.2) (date (C.extended calendar.now to.0) to.1 to.2) (largest_unit_of options.largest_unit) result }

@@ -4,18 +4,20 @@
 //! are those of ECMAScript Temporal's NonISODateAdd and NonISODateUntil.
 #![tactic(auto)]
 
-pub mod adding;
+mod adding;
 pub mod arithmetic_date;
 pub mod dates;
 pub mod difference;
 pub mod laws;
-pub mod months;
-pub mod months_between;
-pub mod past;
-pub mod places;
+mod months;
+mod months_between;
+mod past;
+mod places;
 pub mod steps;
+#[cfg(test)]
+mod tests;
 pub mod years;
-pub mod years_between;
+mod years_between;
 
 pub use arithmetic_date::ArithmeticDate;
 pub use steps::Steps;

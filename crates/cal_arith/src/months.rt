@@ -18,7 +18,12 @@ pub struct YearMonth<Y> {
 }
 
 /// The month so many months later.
-pub(crate) fn months_later<C: Years>(year: C::YearInfo, month: u8, months: u32, cal: &C) -> YearMonth<C::YearInfo>
+pub(crate) fn months_later<C: Years>(
+    year: C::YearInfo,
+    month: u8,
+    months: u32,
+    cal: &C,
+) -> YearMonth<C::YearInfo>
     requires year { IsGiven (C.extended cal.now) (C.year_of cal.now) year }
     requires range { IsBetween (neg_ℤ (pos 2080000)) (pos 2080000) (C.extended cal.now year) }
     requires place { HasPlace (C.list cal.now) (C.extended cal.now year) month }
@@ -41,7 +46,12 @@ pub(crate) fn months_later<C: Years>(year: C::YearInfo, month: u8, months: u32, 
 }
 
 /// The month so many months earlier.
-pub(crate) fn months_earlier<C: Years>(year: C::YearInfo, month: u8, months: u32, cal: &C) -> YearMonth<C::YearInfo>
+pub(crate) fn months_earlier<C: Years>(
+    year: C::YearInfo,
+    month: u8,
+    months: u32,
+    cal: &C,
+) -> YearMonth<C::YearInfo>
     requires year { IsGiven (C.extended cal.now) (C.year_of cal.now) year }
     requires range { IsBetween (neg_ℤ (pos 2080000)) (pos 2080000) (C.extended cal.now year) }
     requires place { HasPlace (C.list cal.now) (C.extended cal.now year) month }
@@ -64,7 +74,13 @@ pub(crate) fn months_earlier<C: Years>(year: C::YearInfo, month: u8, months: u32
 }
 
 /// The month so many months later, or earlier.
-pub(crate) fn months_away<C: Years>(year: C::YearInfo, month: u8, months: u32, back: bool, cal: &C) -> YearMonth<C::YearInfo>
+pub(crate) fn months_away<C: Years>(
+    year: C::YearInfo,
+    month: u8,
+    months: u32,
+    back: bool,
+    cal: &C,
+) -> YearMonth<C::YearInfo>
     requires year { IsGiven (C.extended cal.now) (C.year_of cal.now) year }
     requires range { IsBetween (neg_ℤ (pos 2080000)) (pos 2080000) (C.extended cal.now year) }
     requires place { HasPlace (C.list cal.now) (C.extended cal.now year) month }

@@ -28,7 +28,12 @@ pub struct MonthsReached<Y> {
 }
 
 /// How many months the second month comes after the first.
-fn months_apart<C: YearShapes, L: Ledger>(first: YearMonth<C::YearInfo>, last: YearMonth<C::YearInfo>, cal: &C, steps: &mut Steps<L>) -> u32
+fn months_apart<C: YearShapes, L: Ledger>(
+    first: YearMonth<C::YearInfo>,
+    last: YearMonth<C::YearInfo>,
+    cal: &C,
+    steps: &mut Steps<L>,
+) -> u32
     requires first_year { IsGiven (C.extended cal.now) (C.year_of cal.now) first.year }
     requires first_range { IsFieldYear (C.extended cal.now first.year) }
     requires first { HasPlace (C.list cal.now) (C.extended cal.now first.year) first.month }
@@ -50,7 +55,13 @@ fn months_apart<C: YearShapes, L: Ledger>(first: YearMonth<C::YearInfo>, last: Y
 }
 
 /// How many months lie between a month and one that is not before it in the direction of counting.
-fn months_toward<C: YearShapes, L: Ledger>(start: YearMonth<C::YearInfo>, end: YearMonth<C::YearInfo>, back: bool, cal: &C, steps: &mut Steps<L>) -> u32
+fn months_toward<C: YearShapes, L: Ledger>(
+    start: YearMonth<C::YearInfo>,
+    end: YearMonth<C::YearInfo>,
+    back: bool,
+    cal: &C,
+    steps: &mut Steps<L>,
+) -> u32
     requires start_year { IsGiven (C.extended cal.now) (C.year_of cal.now) start.year }
     requires start_range { IsFieldYear (C.extended cal.now start.year) }
     requires start { HasPlace (C.list cal.now) (C.extended cal.now start.year) start.month }
@@ -69,7 +80,11 @@ fn months_toward<C: YearShapes, L: Ledger>(start: YearMonth<C::YearInfo>, end: Y
 }
 
 /// The month after a month.
-fn next_month<C: YearShapes, L: Ledger>(here: YearMonth<C::YearInfo>, cal: &C, steps: &mut Steps<L>) -> YearMonth<C::YearInfo>
+fn next_month<C: YearShapes, L: Ledger>(
+    here: YearMonth<C::YearInfo>,
+    cal: &C,
+    steps: &mut Steps<L>,
+) -> YearMonth<C::YearInfo>
     requires year { IsGiven (C.extended cal.now) (C.year_of cal.now) here.year }
     requires range { IsFieldYear (C.extended cal.now here.year) }
     requires place { HasPlace (C.list cal.now) (C.extended cal.now here.year) here.month }
@@ -91,7 +106,11 @@ fn next_month<C: YearShapes, L: Ledger>(here: YearMonth<C::YearInfo>, cal: &C, s
 }
 
 /// The month before a month.
-fn previous_month<C: YearShapes, L: Ledger>(here: YearMonth<C::YearInfo>, cal: &C, steps: &mut Steps<L>) -> YearMonth<C::YearInfo>
+fn previous_month<C: YearShapes, L: Ledger>(
+    here: YearMonth<C::YearInfo>,
+    cal: &C,
+    steps: &mut Steps<L>,
+) -> YearMonth<C::YearInfo>
     requires year { IsGiven (C.extended cal.now) (C.year_of cal.now) here.year }
     requires range { IsFieldYear (C.extended cal.now here.year) }
     requires place { HasPlace (C.list cal.now) (C.extended cal.now here.year) here.month }
@@ -114,7 +133,12 @@ fn previous_month<C: YearShapes, L: Ledger>(here: YearMonth<C::YearInfo>, cal: &
 }
 
 /// The month from which one more month in the direction of counting leads here.
-fn month_short_of<C: YearShapes, L: Ledger>(here: YearMonth<C::YearInfo>, back: bool, cal: &C, steps: &mut Steps<L>) -> YearMonth<C::YearInfo>
+fn month_short_of<C: YearShapes, L: Ledger>(
+    here: YearMonth<C::YearInfo>,
+    back: bool,
+    cal: &C,
+    steps: &mut Steps<L>,
+) -> YearMonth<C::YearInfo>
     requires year { IsGiven (C.extended cal.now) (C.year_of cal.now) here.year }
     requires range { IsFieldYear (C.extended cal.now here.year) }
     requires place { HasPlace (C.list cal.now) (C.extended cal.now here.year) here.month }
@@ -131,7 +155,15 @@ fn month_short_of<C: YearShapes, L: Ledger>(here: YearMonth<C::YearInfo>, back: 
 }
 
 /// The greatest number of months, after the years, that does not surpass the second date.
-fn months_between<C: YearShapes, L: Ledger>(from: Ymd<C::YearInfo>, to: Ymd<C::YearInfo>, start: YearMonth<C::YearInfo>, years: u32, back: bool, cal: &C, steps: &mut Steps<L>) -> MonthsReached<C::YearInfo>
+fn months_between<C: YearShapes, L: Ledger>(
+    from: Ymd<C::YearInfo>,
+    to: Ymd<C::YearInfo>,
+    start: YearMonth<C::YearInfo>,
+    years: u32,
+    back: bool,
+    cal: &C,
+    steps: &mut Steps<L>,
+) -> MonthsReached<C::YearInfo>
     requires to_year { IsGiven (C.extended cal.now) (C.year_of cal.now) to.year }
     requires to_range { IsFieldYear (C.extended cal.now to.year) }
     requires to { IsDate (C.list cal.now) (date_of (C.extended cal.now) to) }
@@ -166,7 +198,16 @@ fn months_between<C: YearShapes, L: Ledger>(from: Ymd<C::YearInfo>, to: Ymd<C::Y
 }
 
 /// The number of months of a difference, by its largest unit, and the month that it leads to.
-pub(crate) fn admitted_months<C: YearShapes, L: Ledger>(from: Ymd<C::YearInfo>, to: Ymd<C::YearInfo>, start: YearMonth<C::YearInfo>, years: u32, unit: DateDurationUnit, back: bool, cal: &C, steps: &mut Steps<L>) -> MonthsReached<C::YearInfo>
+pub(crate) fn admitted_months<C: YearShapes, L: Ledger>(
+    from: Ymd<C::YearInfo>,
+    to: Ymd<C::YearInfo>,
+    start: YearMonth<C::YearInfo>,
+    years: u32,
+    unit: DateDurationUnit,
+    back: bool,
+    cal: &C,
+    steps: &mut Steps<L>,
+) -> MonthsReached<C::YearInfo>
     requires to_year { IsGiven (C.extended cal.now) (C.year_of cal.now) to.year }
     requires to_range { IsFieldYear (C.extended cal.now to.year) }
     requires to { IsDate (C.list cal.now) (date_of (C.extended cal.now) to) }

@@ -39,7 +39,13 @@ pub(crate) fn is_past_day(back: bool, day: u8, other: u8) -> bool
 
 /// Whether as many years as lie between the years of two dates lead past the second, by the order of months
 /// or by the place of the first date's month in the second's year.
-pub(crate) fn surpasses_in_year<C: YearShapes>(from: Ymd<C::YearInfo>, to: Ymd<C::YearInfo>, place: u8, back: bool, cal: &C) -> bool
+pub(crate) fn surpasses_in_year<C: YearShapes>(
+    from: Ymd<C::YearInfo>,
+    to: Ymd<C::YearInfo>,
+    place: u8,
+    back: bool,
+    cal: &C,
+) -> bool
     requires from_year { IsGiven (C.extended cal.now) (C.year_of cal.now) from.year }
     requires from { HasPlace (C.list cal.now) (C.extended cal.now from.year) from.month }
     requires to_year { IsGiven (C.extended cal.now) (C.year_of cal.now) to.year }
@@ -49,5 +55,11 @@ pub(crate) fn surpasses_in_year<C: YearShapes>(from: Ymd<C::YearInfo>, to: Ymd<C
     let month = rank(cal.month_from_ordinal(from.year, from.month));
     let other = rank(cal.month_from_ordinal(to.year, to.month));
     is_past(back, month, from.day, other, to.day)
-        || is_past(back, u16::from(place), from.day, u16::from(to.month), to.day)
+        || is_past(
+            back,
+            u16::from(place),
+            from.day,
+            u16::from(to.month),
+            to.day,
+        )
 }

@@ -29,7 +29,9 @@ pub trait PackWithMD: Copy {
 
     /// The parts of what is packed.
     ghost year_in: { Self.Packed → Self };
+
     ghost month_in: { Self.Packed → ℕ };
+
     ghost day_in: { Self.Packed → ℕ };
 
     /// Packs a year with a month's place from 1 to 13 and a day from 1 to 31; unpacking gives them back.
@@ -67,6 +69,7 @@ pub trait YearShapes {
 
     /// The year of an extended year, and the extended year of a year.
     ghost year_of: { Self → ℤ → Self.YearInfo };
+
     ghost extended: { Self → Self.YearInfo → ℤ };
 
     /// What is added to an extended year to give the stored one.
@@ -112,7 +115,12 @@ pub trait YearShapes {
     /// The place of a month in a given year. [`MonthError::NotInCalendar`] comes for a month that no year
     /// of the calendar has, and [`MonthError::NotInYear`] where this year lacks it and, under
     /// [`Overflow::Constrain`], none stands in for it.
-    fn ordinal_from_month(&self, year: Self::YearInfo, month: Month, overflow: Overflow) -> Result<u8, MonthError>
+    fn ordinal_from_month(
+        &self,
+        year: Self::YearInfo,
+        month: Month,
+        overflow: Overflow,
+    ) -> Result<u8, MonthError>
         requires { IsGiven (extended self.now) (year_of self.now) year }
         ensures { result ≡ ordinal_month (list self.now) (extended self.now year) (month_parts month) overflow };
 
@@ -130,6 +138,7 @@ pub trait YearShapes {
 
     /// Years are equal and ordered as their stored numbers.
     ghost equal: { (a b : Self.YearInfo) → Self.YearInfo.eq a b ≡ int_eq (Self.YearInfo.stored a) (Self.YearInfo.stored b) };
+
     ghost ordered: { (a b : Self.YearInfo) → Self.YearInfo.cmp a b ≡ int_cmp (Self.YearInfo.stored a) (Self.YearInfo.stored b) };
 
     /// The stored number of a given year.

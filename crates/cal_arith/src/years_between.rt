@@ -31,7 +31,12 @@ fn stand_in_place<C: YearShapes>(from: Ymd<C::YearInfo>, reached: C::YearInfo, c
 }
 
 /// The greatest number of years that does not surpass the second date.
-fn years_between<C: YearShapes>(from: Ymd<C::YearInfo>, to: Ymd<C::YearInfo>, back: bool, cal: &C) -> u32
+fn years_between<C: YearShapes>(
+    from: Ymd<C::YearInfo>,
+    to: Ymd<C::YearInfo>,
+    back: bool,
+    cal: &C,
+) -> u32
     requires from_year { IsGiven (C.extended cal.now) (C.year_of cal.now) from.year }
     requires from { IsDate (C.list cal.now) (date_of (C.extended cal.now) from) }
     requires to_year { IsGiven (C.extended cal.now) (C.year_of cal.now) to.year }
@@ -51,7 +56,13 @@ fn years_between<C: YearShapes>(from: Ymd<C::YearInfo>, to: Ymd<C::YearInfo>, ba
 }
 
 /// The number of years of a difference, by its largest unit.
-pub(crate) fn admitted_years<C: YearShapes>(from: Ymd<C::YearInfo>, to: Ymd<C::YearInfo>, unit: DateDurationUnit, back: bool, cal: &C) -> u32
+pub(crate) fn admitted_years<C: YearShapes>(
+    from: Ymd<C::YearInfo>,
+    to: Ymd<C::YearInfo>,
+    unit: DateDurationUnit,
+    back: bool,
+    cal: &C,
+) -> u32
     requires from_year { IsGiven (C.extended cal.now) (C.year_of cal.now) from.year }
     requires from { IsDate (C.list cal.now) (date_of (C.extended cal.now) from) }
     requires to_year { IsGiven (C.extended cal.now) (C.year_of cal.now) to.year }
@@ -67,7 +78,14 @@ pub(crate) fn admitted_years<C: YearShapes>(from: Ymd<C::YearInfo>, to: Ymd<C::Y
 }
 
 /// The month that years lead to which do not surpass the second date.
-pub(crate) fn month_after_years<C: YearShapes, L: Ledger>(from: Ymd<C::YearInfo>, to: Ymd<C::YearInfo>, years: u32, back: bool, cal: &C, steps: &mut Steps<L>) -> YearMonth<C::YearInfo>
+pub(crate) fn month_after_years<C: YearShapes, L: Ledger>(
+    from: Ymd<C::YearInfo>,
+    to: Ymd<C::YearInfo>,
+    years: u32,
+    back: bool,
+    cal: &C,
+    steps: &mut Steps<L>,
+) -> YearMonth<C::YearInfo>
     requires from_year { IsGiven (C.extended cal.now) (C.year_of cal.now) from.year }
     requires from_range { IsFieldYear (C.extended cal.now from.year) }
     requires from { IsDate (C.list cal.now) (date_of (C.extended cal.now) from) }

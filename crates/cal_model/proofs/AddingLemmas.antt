@@ -1,15 +1,15 @@
 -- A difference, added to the first date, gives the second; and it is small enough to be added.
-use Rattle.std.proofs.Common.{◌≡◌, ◌⊎◌, inl, inr, ℕ, ◌+◌, ◌-◌, ◌*◌, ◌<◌, ◌≤◌, Bool, true, false, IsTrue, min, Option, Some, Ok, refl, sym, ap, subst, ◌∙◌, arith, unsigned_abs, ℤ, pos, neg_ℤ, ◌+ℤ◌, ◌-ℤ◌, ◌<ℤ◌, ◌≤ℤ◌, ◌&&◌, nat_le, MatchOption, MatchBool}
+use Rattle.std.proofs.Common.{◌≡◌, inl, inr, ℕ, ◌+◌, ◌*◌, ◌<◌, ◌≤◌, Bool, true, false, min, Some, Ok, refl, sym, ap, subst, ◌∙◌, arith, unsigned_abs, ℤ, pos, neg_ℤ, ◌+ℤ◌, ◌-ℤ◌}
 use Rattle.std.proofs.lemmas.Int.{by_lt_z}
 use Rattle.std.proofs.lemmas.Bool.Decides.{nat_tests}
 use Rattle.cal_types.specs.declared.options.Overflow.TheVariants.{Constrain}
 use Rattle.cal_types.specs.declared.duration.DateDuration.{DateDuration}
 use Rattle.cal_types.specs.declared.duration.DateDurationUnit.{DateDurationUnit}
 use Rattle.cal_days.specs.Day.{IsFieldYear, IsValidDay, is_valid_day, is_field_year}
-use Rattle.cal_model.specs.CalendarList.{CalendarList, Date, date, month_at, month_length, month_number, spot, day_number, HasPlace, IsDate, IsLawful, IsValidDate, IsOn, IsMonthsAfter}
-use Rattle.cal_model.specs.Adding.{is_addable, IsValidOn, IsSum}
+use Rattle.cal_model.specs.CalendarList.{CalendarList, Date, date, month_at, month_length, month_number, spot, day_number, HasPlace, IsDate, IsLawful, IsValidDate}
+use Rattle.cal_model.specs.Adding.{is_addable, IsSum}
 use Rattle.cal_model.specs.WithinYear.{Leads}
-use Rattle.cal_model.specs.Difference.{toward, IsBeyond, IsBeyondDay, Reaches, YearsSurpass, MonthsSurpass, DaysSurpass, IsGreatest, IsGreatestIf, admits_years, admits_months, IsDifference}
+use Rattle.cal_model.specs.Difference.{toward, IsBeyondDay, YearsSurpass, MonthsSurpass, IsGreatestIf, admits_years, admits_months, IsDifference}
 use Rattle.cal_days.proofs.Signed.{signed, by_lt}
 use Rattle.cal_days.proofs.RangeLemmas.{true-is_between}
 use Rattle.cal_model.proofs.ListLemmas.{place_of-own, spot-own, spot-place, month_number-order}

@@ -43,6 +43,6 @@ IsSum c shift t u o r =
     let y = t.year +ℤ toward u.is_negative u.years in
     MatchBool (is_addable u && is_field_year (y +ℤ shift))
     (MatchOption (spot c y (month_at c t.year t.month) o)
-      (r ≡ Err fault.MonthNotInYear)
-      (λ i. (z : ℤ) × (j : ℕ) × IsMonthsAfter c y i (toward u.is_negative u.months) z j × IsSumFromMonth c z j t.day u o r))
+    (r ≡ Err fault.MonthNotInYear)
+    (λ i. (z : ℤ) × (j : ℕ) × IsMonthsAfter c y i (toward u.is_negative u.months) z j × IsSumFromMonth c z j t.day u o r))
     (r ≡ Err fault.Overflow)

@@ -13,9 +13,11 @@ pub record Entry : Type 0 where
   pub month : MonthParts
   pub days : ℕ
 
+-- what stands past the last place
 abbrev pub no_entry : Entry
 no_entry = record { month = record { number = 0; is_leap = false }; days = 0 }
 
+-- the days of an entry
 abbrev pub days_of : Entry → ℕ
 days_of e = e.days
 
@@ -33,6 +35,7 @@ pub record Date : Type 0 where
   pub month : ℕ
   pub day : ℕ
 
+-- the date of a year, an ordinal month and a day
 abbrev pub date : ℤ → ℕ → ℕ → Date
 date y i d = record { year = y; month = i; day = d }
 
@@ -48,6 +51,7 @@ month_count c y = length (c.entries y)
 abbrev pub entry_at : CalendarList → ℤ → ℕ → Entry
 entry_at c y i = slice_index_or (c.entries y) (i - 1) no_entry
 
+-- the month in place i of a year
 abbrev pub month_at : CalendarList → ℤ → ℕ → MonthParts
 month_at c y i = (entry_at c y i).month
 

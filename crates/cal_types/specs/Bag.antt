@@ -1,3 +1,4 @@
+-- The fields of a date that a caller gives: a property bag of ECMAScript Temporal.
 use Rattle.std.specs.Prelude.{ℕ, ℤ, List, Option, option_map}
 use Rattle.cal_types.specs.Month.{MonthParts}
 use Rattle.cal_types.specs.MonthParts.{month_parts}

@@ -1,3 +1,4 @@
+-- Which error of a bag of fields stands for an error of its parts.
 use Rattle.cal_types.specs.declared.errors.MonthError.{MonthError}
 use Rattle.cal_types.specs.declared.errors.MonthError.TheVariants.{NotInCalendar, NotInYear}
 use Rattle.cal_types.specs.declared.errors.EcmaReferenceYearError.{EcmaReferenceYearError}

@@ -1,3 +1,5 @@
+-- Months, their order, and their codes.
+-- Source: the month codes of ECMAScript Temporal.
 use Rattle.std.specs.Prelude.{ℕ, ◌+◌, ◌-◌, ◌*◌, ◌/◌, ◌%◌, Bool, true, false, ◌&&◌, nat_eq, min, if◌then◌else◌, Option, Some, None, option_map, List, [], ◌∷◌, take, drop}
 use Rattle.std.specs.Char.{is_ascii_digit}
 use Rattle.std.specs.List.{starts_with}

@@ -1,3 +1,5 @@
+-- What a date says of its month.
+-- Source: the month codes of ECMAScript Temporal; the month that a formatter shows is that of CLDR (UTS 35).
 use Rattle.std.specs.Prelude.{ℕ, List}
 use Rattle.cal_types.specs.Month.{MonthParts, code_text}
 use Rattle.cal_types.specs.declared.month_info.LeapStatus.{LeapStatus}

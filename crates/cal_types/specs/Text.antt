@@ -1,3 +1,4 @@
+-- Small ASCII texts.
 use Rattle.std.specs.Prelude.{◌≡◌, ℕ, ◌-◌, ◌≤◌, Bool, true, List, ◌++◌, ◌&&◌, nat_lt, length, take, replicate}
 use Rattle.std.specs.List.{list_all}
 

@@ -1,3 +1,4 @@
+-- The year of a date: in an era (CLDR, UTS 35), or in the cycle of sixty years.
 use Rattle.std.specs.Prelude.{ℤ, Option, Some, None}
 use Rattle.cal_types.specs.declared.year.YearInfo.{YearInfo}
 use Rattle.cal_types.specs.declared.year.YearInfo.TheVariants.{Era, Cyclic}

@@ -25,7 +25,9 @@ pub record Request : Type 0 where
 
 -- the calendar of a program name
 abbrev pub calendar_named : List ℕ → Option AnyCalendar
-calendar_named word = if is_text word (codes "iso") then Some (calendar.Iso (record {})) else None
+calendar_named word =
+    if is_text word (codes "iso") then Some (calendar.Iso (record {}))
+    else (if is_text word (codes "gregorian") then Some (calendar.Gregorian (record {})) else None)
 
 -- a word for an option's value, or `none` where the option is left out
 abbrev pub option_word : {T : Type 0} → List ℕ → T → List ℕ → Option (Option T)

@@ -14,6 +14,7 @@ ghost use Rattle.calspan.specs.Requests.{calendar_named, option_word, fixed_word
 
 use crate::words::{Words, byte, int};
 use cal_base::Iso;
+use cal_gregory::Gregorian;
 use cal_types::{
     DateDifferenceOptions, DateDurationUnit, DateFields, DateFromFieldsOptions,
     MissingFieldsStrategy, Month, Overflow,
@@ -132,6 +133,7 @@ fn next_calendar(words: &mut Words) -> Option<AnyCalendar>
 {
     match words.next() {
         Some(word) if word == b"iso".as_slice() => Some(AnyCalendar::Iso(Iso)),
+        Some(word) if word == b"gregorian".as_slice() => Some(AnyCalendar::Gregorian(Gregorian)),
         _ => None,
     }
 }

@@ -11,7 +11,7 @@ const LEAP_DAY: &[u8] =
     b"span iso iso days reject none from year=2020 month=M02 day=29 to year=2021 month=M02 day=28\n";
 
 const LEAP_DAY_ANSWER: &[u8] =
-    b"ok 2020/default.2020/M02/29@737484 2020/default.2020/M02/29@737484 2021/default.2021/M02/28@737849 2021/default.2021/M02/28@737849 P365D\n";
+    b"ok 2020/default.2020/M02/29@737484 2020/ce.2020/M02/29@737484 2021/default.2021/M02/28@737849 2021/ce.2021/M02/28@737849 P365D\n";
 
 fn span_word(alloc: Global) -> Result<Vec<String>, Fail> {
     let mut words = Vec::new(alloc);
@@ -24,13 +24,37 @@ struct Case {
     answer: &'static [u8],
 }
 
-const CASES: [Case; 14] = [
+const CASES: [Case; 20] = [
     Case {
-        line: b"span iso iso none none reject from year=2020 month=M02 day=29 to year=2021 month=M02 day=28",
+        line: b"span iso gregorian none reject none from year=2020 month=M02 day=29 to year=2021 month=M02 day=28",
         answer: LEAP_DAY_ANSWER,
     },
     Case {
-        line: b"span iso iso none none none from year=002020 month=M02 day=029 to year=2021 month=M02 day=28\r\n",
+        line: b"span iso iso none none reject from year=2020 month=M02 day=29 to year=2021 month=M02 day=28",
+        answer: b"ok 2020/default.2020/M02/29@737484 2020/default.2020/M02/29@737484 2021/default.2021/M02/28@737849 2021/default.2021/M02/28@737849 P365D\n",
+    },
+    Case {
+        line: b"span gregorian gregorian days reject none from year=0 month=M12 day=31 to year=1 month=M01 day=1",
+        answer: b"ok 0/bce.1/M12/31@0 0/bce.1/M12/31@0 1/ce.1/M01/01@1 1/ce.1/M01/01@1 P1D\n",
+    },
+    Case {
+        line: b"span gregorian iso days reject none from year=-4 month=M12 day=31 to year=1 month=M01 day=1",
+        answer: b"ok -4/bce.5/M12/31@-1461 -4/default.-4/M12/31@-1461 1/ce.1/M01/01@1 1/default.1/M01/01@1 P1462D\n",
+    },
+    Case {
+        line: b"span iso gregorian days reject none from year=-999999 month=M01 day=1 to year=999999 month=M12 day=31",
+        answer: b"ok -999999/default.-999999/M01/01@-365242499 -999999/bce.1000000/M01/01@-365242499 999999/default.999999/M12/31@365242134 999999/ce.999999/M12/31@365242134 P730484633D\n",
+    },
+    Case {
+        line: b"span gregorian iso days reject none from year=1000000 month=M01 day=1 to year=2000 month=M01 day=1",
+        answer: b"err from Overflow\n",
+    },
+    Case {
+        line: b"span hebrew iso days none none from year=1 month=M01 day=1 to year=1 month=M01 day=1",
+        answer: b"err line 1 unbuilt\n",
+    },
+    Case {
+        line: b"span iso gregorian none none none from year=002020 month=M02 day=029 to year=2021 month=M02 day=28\r\n",
         answer: LEAP_DAY_ANSWER,
     },
     Case {

@@ -1,4 +1,6 @@
 pub mod AnySystem
 pub mod AnyLaws
+pub mod AnyOrder
+pub mod AnyOrderLaws
 pub mod Spans
 pub mod SpanAnswers

@@ -1,6 +1,6 @@
-use Rattle.std.proofs.Common.{◌≡◌, ℤ, pos, neg_ℤ, ◌+ℤ◌, ℕ, Option, Bool, true, Some, None, to_z, of_z, w32, ap, subst, sym, refl, ◌∙◌, arith}
+use Rattle.std.proofs.Common.{◌≡◌, ℤ, pos, neg_ℤ, ◌+ℤ◌, ℕ, Option, true, Some, None, to_z, of_z, w32, ap, subst, sym, refl, ◌∙◌, arith}
 use Rattle.cal_days.specs.Day.{IsBetween, IsFieldYear, IsRuleYear, is_field_year}
-use Rattle.cal_model.specs.CalendarList.{CalendarList, Date, date, spot, month_at, month_length, IsMonthsAfter}
+use Rattle.cal_model.specs.CalendarList.{spot, month_at, IsMonthsAfter}
 use Rattle.cal_model.specs.Adding.{is_addable}
 use Rattle.cal_model.specs.Difference.{toward}
 use Rattle.cal_days.proofs.Signed.{signed}

@@ -1,5 +1,5 @@
-use Rattle.std.proofs.Common.{◌≡◌, ℕ, ℤ, pos, neg_ℤ, min, ap, subst, sym, ◌∙◌, arith}
-use Rattle.cal_model.specs.CalendarList.{date, day_number, month_length, IsDate}
+use Rattle.std.proofs.Common.{pos, neg_ℤ, subst, sym, arith}
+use Rattle.cal_model.specs.CalendarList.{date, IsDate}
 use Rattle.cal_days.specs.Day.{IsBetween}
 use Rattle.cal_days.proofs.Signed.{signed}
 use Rattle.cal_arith.proofs.adding.sum_from_month.Given.{Over}

@@ -1,5 +1,5 @@
-use Rattle.std.proofs.Common.{◌≡◌, ℕ, ◌+◌, ◌-◌, ◌<◌, ◌≤◌, pos, ◌+ℤ◌, ◌∙◌, arith, ap}
-use Rattle.cal_model.specs.CalendarList.{date, start_of_year, days_before, year_length, month_length, HasPlace, IsOn}
+use Rattle.std.proofs.Common.{◌≡◌, ◌+◌, ◌-◌, ◌<◌, ◌≤◌, ◌+ℤ◌, arith}
+use Rattle.cal_model.specs.CalendarList.{date, start_of_year, days_before, HasPlace, IsOn}
 use Rattle.cal_days.proofs.Signed.{signed, signed_casts}
 use Rattle.cal_model.proofs.ListLemmas.{first-place, first-date, day_number-first, days_before-first, year_length-most, place-next, on-rest}
 use Rattle.cal_arith.proofs.dates.from_rata_die.Given.{Over}

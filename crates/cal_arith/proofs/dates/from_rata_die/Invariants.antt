@@ -1,4 +1,4 @@
-use Rattle.std.proofs.Common.{◌≡◌, ℕ, ◌+◌, ◌-◌, pos, ◌+ℤ◌, ◌≤ℤ◌}
+use Rattle.std.proofs.Common.{◌≡◌, ◌+◌, ◌-◌, pos, ◌+ℤ◌}
 use Rattle.cal_model.specs.CalendarList.{HasPlace, start_of_year, days_before, month_length}
 use Rattle.cal_arith.proofs.dates.from_rata_die.Given as goal
 
@@ -9,7 +9,7 @@ invariant-months g l =
     record {
       place : HasPlace c y l.month;
       days : start_of_year c y +ℤ pos (days_before c y l.month + l.rest) ≡ l.fn.rd;
-      length : l.length ≡ month_length c y l.month
+      length : l.length ≡ month_length c y l.month;
     }
 
 abbrev pub decreases-months : goal.decreases-months

@@ -1,10 +1,8 @@
-use Rattle.std.proofs.Common.{◌≡◌, ◌⊎◌, ℕ, ℤ, pos, ◌+◌, ◌-◌, ◌*◌, ◌<◌, ◌≤◌, ◌↔◌, ◌+ℤ◌, ◌-ℤ◌, ◌<ℤ◌, unsigned_abs, min, Some, Bool, true, false, IsTrue, ap, subst, sym, refl, ◌∙◌, arith}
-use Rattle.cal_types.specs.declared.options.Overflow.TheVariants.{Constrain}
+use Rattle.std.proofs.Common.{◌≡◌, ℕ, ℤ, ◌↔◌, ◌+ℤ◌, ◌<ℤ◌, min, IsTrue, ap, subst, sym, ◌∙◌, arith}
 use Rattle.cal_days.specs.Day.{IsFieldYear, IsValidDay}
-use Rattle.cal_model.specs.CalendarList.{Date, date, day_number, month_at, month_length, IsValidDate}
+use Rattle.cal_model.specs.CalendarList.{date, day_number}
 use Rattle.cal_model.specs.WithinYear.{Leads}
 use Rattle.cal_model.specs.Difference.{toward, IsBeyondDay, admits_weeks}
-use Rattle.cal_days.proofs.Signed.{signed}
 use Rattle.cal_model.proofs.DifferenceLemmas.{base, IsBaseNear, base-within, base-near, days-left, left-small, leads-of}
 use Rattle.cal_model.proofs.DifferenceLaws.{IsLeft}
 use Rattle.cal_arith.specs.Dates.{date_of}

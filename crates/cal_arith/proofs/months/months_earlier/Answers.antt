@@ -1,4 +1,4 @@
-use Rattle.std.proofs.Common.{◌≡◌, ℕ, ℤ, pos, ◌+◌, ◌-◌, ◌+ℤ◌, ◌-ℤ◌, arith, ap, sym, ◌∙◌, subst}
+use Rattle.std.proofs.Common.{◌≡◌, ℤ, pos, ◌-◌, ◌+ℤ◌, ◌-ℤ◌, arith, ap}
 use Rattle.cal_model.specs.CalendarList.{month_count, month_number, HasPlace}
 use Rattle.cal_arith.specs.Given.{IsGiven}
 use Rattle.cal_days.proofs.Signed.{signed}

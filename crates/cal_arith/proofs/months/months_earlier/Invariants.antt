@@ -1,5 +1,5 @@
-use Rattle.std.proofs.Common.{◌≡◌, ℕ, ◌+◌, ◌-◌, ◌*◌, pos, ◌+ℤ◌, ◌-ℤ◌, ◌*ℤ◌, ◌≤ℤ◌}
-use Rattle.cal_model.specs.CalendarList.{HasPlace, month_count, month_number}
+use Rattle.std.proofs.Common.{◌≡◌, ◌+◌, pos, ◌+ℤ◌, ◌-ℤ◌, ◌*ℤ◌, ◌≤ℤ◌}
+use Rattle.cal_model.specs.CalendarList.{HasPlace, month_number}
 use Rattle.cal_arith.specs.Given.{IsGiven}
 use Rattle.cal_arith.proofs.months.months_earlier.Given as goal
 
@@ -12,7 +12,7 @@ invariant-years g l =
       place : HasPlace c (number l.earlier) l.place;
       moved : month_number c (number l.earlier) l.place -ℤ pos l.left ≡ month_number c (number l.fn.year) l.fn.month -ℤ pos l.fn.months;
       high : number l.earlier ≤ℤ number l.fn.year;
-      low : (pos 12 *ℤ number l.fn.year +ℤ pos (l.left + 1)) ≤ℤ (pos 12 *ℤ number l.earlier +ℤ pos (l.fn.months + l.place))
+      low : (pos 12 *ℤ number l.fn.year +ℤ pos (l.left + 1)) ≤ℤ (pos 12 *ℤ number l.earlier +ℤ pos (l.fn.months + l.place));
     }
 
 abbrev pub decreases-years : goal.decreases-years

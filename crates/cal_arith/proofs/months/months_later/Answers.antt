@@ -1,5 +1,5 @@
-use Rattle.std.proofs.Common.{◌≡◌, ℕ, ℤ, pos, ◌+◌, ◌+ℤ◌, ◌-ℤ◌, arith, ap, sym, subst}
-use Rattle.cal_model.specs.CalendarList.{month_count, month_number}
+use Rattle.std.proofs.Common.{◌≡◌, ℤ, pos, ◌+◌, ◌+ℤ◌, arith, ap}
+use Rattle.cal_model.specs.CalendarList.{month_number}
 use Rattle.cal_arith.specs.Given.{IsGiven}
 use Rattle.cal_days.proofs.Signed.{signed}
 use Rattle.cal_model.proofs.ListLemmas.{month_number-place, month_number-next}

@@ -1,7 +1,6 @@
-use Rattle.std.proofs.Common.{◌≡◌, ℤ, ◌+ℤ◌, sym}
+use Rattle.std.proofs.Common.{sym}
 use Rattle.cal_types.specs.declared.options.Overflow.TheVariants.{Constrain}
 use Rattle.cal_model.specs.CalendarList.{month_at, month_number}
-use Rattle.cal_model.specs.Difference.{toward}
 use Rattle.cal_model.proofs.ListLemmas.{spot-place}
 use Rattle.cal_model.proofs.DifferenceLemmas.{months_surpass-none, toward-zero}
 use Rattle.cal_arith.specs.Dates.{date_of}

@@ -1,6 +1,6 @@
-use Rattle.std.proofs.Common.{◌≡◌, ◌⊎◌, ℕ, ℤ, pos, ◌+◌, ◌-◌, ◌≤◌, ◌+ℤ◌, ◌-ℤ◌, ◌≤ℤ◌, ◌<ℤ◌, inl, inr, to_z, of_z, w32, ap, subst, sym, ◌∙◌, arith}
+use Rattle.std.proofs.Common.{◌≡◌, ℤ, pos, ◌+◌, ◌+ℤ◌, ◌≤ℤ◌, ◌<ℤ◌, inl, ap, arith}
 use Rattle.std.proofs.lemmas.Int.{by_lt_z}
-use Rattle.cal_model.specs.CalendarList.{month_number, month_count}
+use Rattle.cal_model.specs.CalendarList.{month_number}
 use Rattle.cal_arith.specs.Given.{IsGiven}
 use Rattle.cal_days.proofs.Signed.{signed}
 use Rattle.cal_model.proofs.ListLemmas.{month_number-place, month_number-next, month_number-order}

@@ -1,4 +1,4 @@
-use Rattle.std.proofs.Common.{◌≡◌, ℕ, ◌+◌, ◌-◌, ◌*◌, pos, ◌+ℤ◌, ◌-ℤ◌, ◌*ℤ◌, ◌≤ℤ◌, ◌⊎◌, unsigned_abs}
+use Rattle.std.proofs.Common.{◌≡◌, pos, ◌+ℤ◌, ◌-ℤ◌, ◌*ℤ◌, ◌≤ℤ◌}
 use Rattle.cal_model.specs.CalendarList.{month_number}
 use Rattle.cal_days.specs.Sums.{years_up}
 use Rattle.cal_arith.specs.Given.{IsGiven}
@@ -14,7 +14,7 @@ invariant-years g l =
       low : number l.first.year ≤ℤ number l.year;
       high : number l.year ≤ℤ number l.last.year;
       bound : pos l.count ≤ℤ (pos 13 *ℤ (number l.year -ℤ number l.first.year));
-      ticks : pos l.steps ≡ pos l.fn.steps +ℤ (number l.year -ℤ number l.first.year)
+      ticks : pos l.steps ≡ pos l.fn.steps +ℤ (number l.year -ℤ number l.first.year);
     }
 
 abbrev pub decreases-years : goal.decreases-years

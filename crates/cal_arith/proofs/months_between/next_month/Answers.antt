@@ -1,4 +1,4 @@
-use Rattle.std.proofs.Common.{◌≡◌, ℤ, pos, ◌+ℤ◌, to_z, of_z, w32, ap, sym, ◌∙◌, arith}
+use Rattle.std.proofs.Common.{◌≡◌, pos, ◌+ℤ◌, arith}
 use Rattle.cal_days.proofs.Signed.{signed}
 use Rattle.cal_arith.specs.Given.{IsGiven}
 use Rattle.cal_arith.proofs.GivenLemmas.{given_by}

@@ -1,4 +1,4 @@
-use Rattle.std.proofs.Common.{◌≡◌, ℤ, pos, ◌-◌, ◌+◌, ◌+ℤ◌, ◌-ℤ◌, to_z, of_z, w32, ap, sym, ◌∙◌, arith}
+use Rattle.std.proofs.Common.{◌≡◌, pos, ◌-◌, ◌+◌, ◌-ℤ◌, ap, sym, ◌∙◌, arith}
 use Rattle.cal_model.specs.CalendarList.{month_number}
 use Rattle.cal_days.proofs.Signed.{signed}
 use Rattle.cal_arith.specs.Given.{IsGiven}

@@ -1,6 +1,4 @@
 use Rattle.std.proofs.Common.{◌≡◌, ℤ, ◌+ℤ◌, to_z, of_z, w32, ap, sym, ◌∙◌, subst, arith}
-use Rattle.cal_types.specs.declared.options.Overflow.TheVariants.{Constrain}
-use Rattle.cal_model.specs.CalendarList.{spot}
 use Rattle.cal_days.specs.Day.{IsFieldYear}
 use Rattle.cal_model.specs.Difference.{toward}
 use Rattle.cal_arith.specs.Given.{IsGiven}

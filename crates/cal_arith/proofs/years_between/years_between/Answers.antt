@@ -1,4 +1,4 @@
-use Rattle.std.proofs.Common.{◌≡◌, ℕ, ℤ, ◌≤◌, ◌-ℤ◌, ◌+ℤ◌, unsigned_abs, Bool, true, false, to_z, of_z, w32, ap, subst, sym, ◌∙◌, arith}
+use Rattle.std.proofs.Common.{◌≡◌, ℕ, ◌≤◌, ◌-ℤ◌, ◌+ℤ◌, unsigned_abs, to_z, of_z, w32, ap, subst, sym, ◌∙◌, arith}
 use Rattle.cal_model.specs.Difference.{toward}
 use Rattle.cal_model.specs.WithinYear.{SurpassesInYear}
 use Rattle.cal_days.proofs.Signed.{signed, by_lt}

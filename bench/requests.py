@@ -1,0 +1,77 @@
+#!/usr/bin/env python3
+"""Measures the built program on a large input of requests: requests and bytes a second, peak memory, instructions a request."""
+
+import random
+import re
+import shutil
+import subprocess
+import sys
+import tempfile
+import time
+from pathlib import Path
+
+PROGRAM = [str(Path(__file__).resolve().parent.parent / "calspan"), "span"]
+REQUESTS = 130_000
+ROUNDS = 5
+
+
+def request(chance: random.Random) -> str:
+    def bag() -> str:
+        return f"year={chance.randint(1600, 2400)} month=M{chance.randint(1, 12):02} day={chance.randint(1, 28)}"
+
+    calendars = ["iso", "gregorian"]
+    return f"span {chance.choice(calendars)} {chance.choice(calendars)} days reject none from {bag()} to {bag()}\n"
+
+
+def seconds(path: Path) -> float:
+    with path.open("rb") as data:
+        start = time.perf_counter()
+        subprocess.run(PROGRAM, stdin=data, stdout=subprocess.DEVNULL, check=False)
+        return time.perf_counter() - start
+
+
+def instructions(path: Path) -> int:
+    binary = Path(PROGRAM[0]).parent / "crates/calspan/out/calspan"
+    command = ["valgrind", "--tool=callgrind", "--callgrind-out-file=/dev/null", str(binary), "span"]
+    with path.open("rb") as data:
+        run = subprocess.run(command, stdin=data, stdout=subprocess.DEVNULL, stderr=subprocess.PIPE, check=False, text=True)
+    found = re.search(r"Collected : (\d+)", run.stderr)
+    return int(found.group(1)) if found else 0
+
+
+def peak_memory(path: Path) -> int:
+    """KiB of the running program, once it has answered the whole input."""
+    with subprocess.Popen(PROGRAM, stdin=subprocess.PIPE, stdout=subprocess.DEVNULL) as run:
+        run.stdin.write(path.read_bytes())
+        run.stdin.flush()
+        time.sleep(0.2)
+        status = Path(f"/proc/{run.pid}/status").read_text()
+        run.stdin.close()
+    return int(re.search(r"VmHWM:\s+(\d+)", status).group(1))
+
+
+def write(folder: Path, count: int) -> Path:
+    chance = random.Random(7)
+    path = folder / f"{count}.txt"
+    path.write_text("".join(request(chance) for _ in range(count)))
+    return path
+
+
+def main() -> int:
+    subprocess.run(PROGRAM, stdin=subprocess.DEVNULL, check=False)
+    with tempfile.TemporaryDirectory() as name:
+        folder = Path(name)
+        large = write(folder, REQUESTS)
+        size = large.stat().st_size
+        best = min(seconds(large) for _ in range(ROUNDS))
+        print(f"{REQUESTS} requests, {size} bytes: {best:.3f} s, the best of {ROUNDS}")
+        print(f"{REQUESTS / best:,.0f} requests a second, {size / best / 1e6:.0f} MB a second")
+        print(f"peak memory {peak_memory(write(folder, 1000))} KiB for 1000 requests, {peak_memory(large)} KiB for all")
+        if shutil.which("valgrind"):
+            few, more = write(folder, 1000), write(folder, 3000)
+            print(f"{(instructions(more) - instructions(few)) / 2000:.0f} instructions a request")
+    return 0
+
+
+if __name__ == "__main__":
+    sys.exit(main())

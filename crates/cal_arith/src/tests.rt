@@ -1,0 +1,4 @@
+//! A small calendar that meets the laws, and dates of it.
+
+mod alternating_months;
+mod dates;
