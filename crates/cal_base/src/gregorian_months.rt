@@ -14,8 +14,8 @@ fn february_correction(leap: bool) -> u16
     if leap { 1 } else { 2 }
 }
 
-/// The days of a month, 1 to 12.
-pub(crate) fn days_in_month(leap: bool, month: u8) -> u8
+/// The days of a month, 1 to 12, in a leap year or a common one.
+pub fn days_in_month(leap: bool, month: u8) -> u8
     requires { (1 ≤ month) × (month ≤ 12) }
     ensures { (y : ℤ) → gregorian_leap y ≡ leap → result ≡ month_length gregorian_list y month }
 {
@@ -27,8 +27,8 @@ pub(crate) fn days_in_month(leap: bool, month: u8) -> u8
     }
 }
 
-/// The days of a year before a month, 1 to 12.
-pub(crate) fn days_before_month(leap: bool, month: u8) -> u16
+/// The days of a leap year or a common one before a month, 1 to 12.
+pub fn days_before_month(leap: bool, month: u8) -> u16
     requires { (1 ≤ month) × (month ≤ 12) }
     ensures bound { result ≤ 335 }
     ensures value { (y : ℤ) → gregorian_leap y ≡ leap → result ≡ days_before gregorian_list y month }

@@ -2,7 +2,7 @@
 #![tactic(auto)]
 
 mod calendars;
-mod gregorian_months;
+pub mod gregorian_months;
 mod iso_calendar;
 pub mod scaffold;
 

@@ -3,3 +3,4 @@ pub mod RangeLemmas
 pub mod DivisionLemmas
 pub mod SumLemmas
 pub mod GregorianLemmas
+pub mod JulianLemmas

@@ -2,3 +2,4 @@ pub mod Day
 pub mod Division
 pub mod Sums
 pub mod Gregorian
+pub mod Julian

@@ -7,6 +7,7 @@
 #![tactic(auto)]
 
 pub mod gregorian;
+pub mod julian;
 pub mod rata_die;
 #[cfg(test)]
 mod tests;

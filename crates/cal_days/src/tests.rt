@@ -1,6 +1,7 @@
 //! Known days and years, from published conversion tables.
 
 use crate::gregorian::{is_leap_year, year_from_fixed, year_start};
+use crate::julian;
 use crate::rata_die::RataDie;
 
 #[test]
@@ -70,4 +71,63 @@ fn sums_stop_at_both_ends(rt: HostRuntime) {
     assert!(rt; first.checked_add(72057594037927935) == Some(last));
     assert!(rt; last.checked_add(-72057594037927935) == Some(first));
     assert_eq!(rt; last.since(first), 72057594037927935);
+}
+
+#[test]
+fn julian_years_start_on_known_days(rt: HostRuntime) {
+    let cases = [
+        (1, -1),
+        (0, -367),
+        (-1, -732),
+        (1582, 577459),
+        (2000, 730133),
+        (2022, 738169),
+        (-4712, -1721425),
+    ];
+    for (year, day) in cases {
+        assert!(rt; -8000000 <= year && year <= 8000000);
+        assert_eq!(rt; julian::year_start(year).to_i64_date(), day, "at {year}");
+    }
+}
+
+#[test]
+fn julian_centuries_are_leap(rt: HostRuntime) {
+    let cases = [
+        (1900, true),
+        (2000, true),
+        (2023, false),
+        (0, true),
+        (-1, false),
+        (-4, true),
+        (-100, true),
+    ];
+    for (year, is_leap) in cases {
+        assert!(rt; -8000000 <= year && year <= 8000000);
+        assert_eq!(rt; julian::is_leap_year(year), is_leap, "at {year}");
+    }
+}
+
+#[test]
+fn days_lie_in_known_julian_years(rt: HostRuntime) {
+    let cases = [
+        (-1, 1),
+        (-2, 0),
+        (-367, 0),
+        (-368, -1),
+        (363, 1),
+        (364, 2),
+        (738156, 2021),
+        (738168, 2021),
+        (738169, 2022),
+        (-365242499, -999979),
+        (365242134, 999979),
+    ];
+    for (day, year) in cases {
+        assert!(rt; -365242499 <= day && day <= 365242134);
+        assert_eq!(rt;
+            julian::year_from_fixed(RataDie::new(day)),
+            year,
+            "at {day}"
+        );
+    }
 }

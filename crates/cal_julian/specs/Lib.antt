@@ -1,0 +1,2 @@
+pub mod JulianList
+pub mod JulianLaws
