@@ -92,7 +92,12 @@ impl<Y: GregorianYears> YearShapes for AbstractGregorian<Y> {
         12 * years
     }
 
-    fn ordinal_from_month(&self, _year: IsoYear, month: Month, _overflow: Overflow) -> Result<u8, MonthError> {
+    fn ordinal_from_month(
+        &self,
+        _year: IsoYear,
+        month: Month,
+        _overflow: Overflow,
+    ) -> Result<u8, MonthError> {
         if is_iso_month(month) {
             Ok(month.number())
         } else {

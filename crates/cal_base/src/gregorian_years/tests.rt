@@ -1,13 +1,15 @@
 //! Calendars that count their years from ISO year 0, -543 and 1911, against a list of months and against a
 //! count by day, month and year.
 
-ghost use Rattle.std.specs.Prelude.{◌≤◌};
 ghost use Rattle.cal_days.specs.Day.{IsValidDay};
+ghost use Rattle.cal_base.specs.OffsetList.{IsOffset};
 
 use super::*;
 use cal_arith::ArithmeticDate;
 use cal_model::{ListedDate, ListedMonth, ListedYears};
-use cal_types::{DateAddError, DateAddOptions, DateDifferenceOptions, DateDuration, DateDurationUnit};
+use cal_types::{
+    DateAddError, DateAddOptions, DateDifferenceOptions, DateDuration, DateDurationUnit,
+};
 
 /// Years that are counted from an ISO year.
 #[derive(Clone, Copy, Debug)]
@@ -30,8 +32,14 @@ impl GregorianYears for CountedFrom {
         self.iso_year
     }
 
-    fn era_year_from_extended(&self, extended_year: i32, month: u8, day: u8) -> EraYear {
-        IsoYears.era_year_from_extended(extended_year, month, day)
+    fn era_year_from_extended(&self, extended_year: i32, _month: u8, _day: u8) -> EraYear {
+        EraYear {
+            year: extended_year,
+            extended_year,
+            era: TinyAsciiStr::of_text(b"default"),
+            era_index: Some(0),
+            ambiguity: YearAmbiguity::Unambiguous,
+        }
     }
 
     fn debug_name(&self) -> &'static str {
@@ -65,6 +73,16 @@ fn date_on<Y: GregorianYears>(cal: &AbstractGregorian<Y>, rd: i64) -> ListedDate
     }
 }
 
+/// The year in its era of a day number.
+fn era_year_on<Y: GregorianYears>(cal: &AbstractGregorian<Y>, rd: i64) -> EraYear
+    requires { IsValidDay rd }
+{
+    let date = ArithmeticDate::<AbstractGregorian<Y>>::from_rata_die(RataDie::new(rd), cal);
+    let extended_year = cal.extended_from_year_info(date.year());
+    cal.0
+        .era_year_from_extended(extended_year, date.month(), date.day())
+}
+
 /// The day number of the date of a day number.
 fn day_again<Y: GregorianYears>(cal: &AbstractGregorian<Y>, rd: i64) -> i64
     requires { IsValidDay rd }
@@ -74,7 +92,12 @@ fn day_again<Y: GregorianYears>(cal: &AbstractGregorian<Y>, rd: i64) -> i64
 }
 
 /// The day number of a sum.
-fn sum<Y: GregorianYears>(cal: &AbstractGregorian<Y>, rd: i64, duration: DateDuration, overflow: Overflow) -> Result<i64, DateAddError>
+fn sum<Y: GregorianYears>(
+    cal: &AbstractGregorian<Y>,
+    rd: i64,
+    duration: DateDuration,
+    overflow: Overflow,
+) -> Result<i64, DateAddError>
     requires { IsValidDay rd }
 {
     let date = ArithmeticDate::<AbstractGregorian<Y>>::from_rata_die(RataDie::new(rd), cal);
@@ -88,7 +111,12 @@ fn sum<Y: GregorianYears>(cal: &AbstractGregorian<Y>, rd: i64, duration: DateDur
 }
 
 /// The difference of the dates of two day numbers.
-fn difference<Y: GregorianYears>(cal: &AbstractGregorian<Y>, from: i64, to: i64, unit: DateDurationUnit) -> DateDuration
+fn difference<Y: GregorianYears>(
+    cal: &AbstractGregorian<Y>,
+    from: i64,
+    to: i64,
+    unit: DateDurationUnit,
+) -> DateDuration
     requires from { IsValidDay from }
     requires to { IsValidDay to }
 {
@@ -144,9 +172,21 @@ fn days_of_listed_years_are_as_listed(rt: HostRuntime) {
     let taiwanese = ListedYears::new(88, 729755, &years);
     for day in 729755..732677 {
         assert!(rt; 729755 <= day && day < 732677);
-        assert_eq!(rt; iso.date_on(day), Some(date_on(&AbstractGregorian(IsoYears), day)), "at {day}");
-        assert_eq!(rt; thai.date_on(day), Some(date_on(&buddhist(), day)), "at {day}");
-        assert_eq!(rt; taiwanese.date_on(day), Some(date_on(&minguo(), day)), "at {day}");
+        assert_eq!(rt;
+            iso.date_on(day),
+            Some(date_on(&AbstractGregorian(IsoYears), day)),
+            "at {day}"
+        );
+        assert_eq!(rt;
+            thai.date_on(day),
+            Some(date_on(&buddhist(), day)),
+            "at {day}"
+        );
+        assert_eq!(rt;
+            taiwanese.date_on(day),
+            Some(date_on(&minguo(), day)),
+            "at {day}"
+        );
         assert_eq!(rt; day_again(&buddhist(), day), day, "at {day}");
         assert_eq!(rt; day_again(&minguo(), day), day, "at {day}");
     }
@@ -167,7 +207,11 @@ fn known_days_have_known_dates(rt: HostRuntime) {
             (date_on(&buddhist(), day), thai),
             (date_on(&minguo(), day), taiwanese),
         ] {
-            assert_eq!(rt; (shown.year, shown.month, shown.day), (year, month, day_of_month), "at {day}");
+            assert_eq!(rt;
+                (shown.year, shown.month, shown.day),
+                (year, month, day_of_month),
+                "at {day}"
+            );
         }
         assert_eq!(rt; day_again(&minguo(), day), day, "at {day}");
     }
@@ -194,9 +238,26 @@ fn sums_are_those_of_a_slow_count(rt: HostRuntime) {
         (738945, duration(false, 997975, 10, 0, 2), 365242134),
     ] {
         assert!(rt; -365242499 <= from && from <= 365242134);
-        assert_eq!(rt; sum(&AbstractGregorian(IsoYears), from, added, Overflow::Constrain), Ok(want), "at {from}");
-        assert_eq!(rt; sum(&buddhist(), from, added, Overflow::Constrain), Ok(want), "at {from}");
-        assert_eq!(rt; sum(&minguo(), from, added, Overflow::Constrain), Ok(want), "at {from}");
+        assert_eq!(rt;
+            sum(
+                &AbstractGregorian(IsoYears),
+                from,
+                added,
+                Overflow::Constrain
+            ),
+            Ok(want),
+            "at {from}"
+        );
+        assert_eq!(rt;
+            sum(&buddhist(), from, added, Overflow::Constrain),
+            Ok(want),
+            "at {from}"
+        );
+        assert_eq!(rt;
+            sum(&minguo(), from, added, Overflow::Constrain),
+            Ok(want),
+            "at {from}"
+        );
     }
 }
 
@@ -209,13 +270,33 @@ fn sums_past_the_ends_are_faults(rt: HostRuntime) {
         duration(false, 0, 0, 4294967295, 0),
         duration(true, 4294967295, 4294967295, 4294967295, 4294967295),
     ] {
-        assert_eq!(rt; sum(&AbstractGregorian(IsoYears), 365242134, added, Overflow::Constrain), Err(DateAddError::Overflow));
-        assert_eq!(rt; sum(&buddhist(), 365242134, added, Overflow::Constrain), Err(DateAddError::Overflow));
-        assert_eq!(rt; sum(&minguo(), 365242134, added, Overflow::Constrain), Err(DateAddError::Overflow));
+        assert_eq!(rt;
+            sum(
+                &AbstractGregorian(IsoYears),
+                365242134,
+                added,
+                Overflow::Constrain
+            ),
+            Err(DateAddError::Overflow)
+        );
+        assert_eq!(rt;
+            sum(&buddhist(), 365242134, added, Overflow::Constrain),
+            Err(DateAddError::Overflow)
+        );
+        assert_eq!(rt;
+            sum(&minguo(), 365242134, added, Overflow::Constrain),
+            Err(DateAddError::Overflow)
+        );
     }
     let year = duration(false, 1, 0, 0, 0);
-    assert_eq!(rt; sum(&minguo(), 738945, year, Overflow::Reject), Err(DateAddError::InvalidDay { max: 28 }));
-    assert_eq!(rt; sum(&buddhist(), 738945, year, Overflow::Constrain), Ok(739310));
+    assert_eq!(rt;
+        sum(&minguo(), 738945, year, Overflow::Reject),
+        Err(DateAddError::InvalidDay { max: 28 })
+    );
+    assert_eq!(rt;
+        sum(&buddhist(), 738945, year, Overflow::Constrain),
+        Ok(739310)
+    );
 }
 
 #[test]
@@ -238,11 +319,20 @@ fn differences_are_those_of_a_slow_count(rt: HostRuntime) {
         (70939, -47603, Years, duration(true, 324, 6, 0, 22)),
         (70939, -47603, Months, duration(true, 0, 3894, 0, 22)),
         (631774, -2157, Weeks, duration(true, 0, 0, 90561, 4)),
-        (-365242499, 365242134, Days, duration(false, 0, 0, 0, 730484633)),
+        (
+            -365242499,
+            365242134,
+            Days,
+            duration(false, 0, 0, 0, 730484633),
+        ),
     ] {
         assert!(rt; -365242499 <= from && from <= 365242134);
         assert!(rt; -365242499 <= to && to <= 365242134);
-        assert_eq!(rt; difference(&AbstractGregorian(IsoYears), from, to, unit), want, "at {from}");
+        assert_eq!(rt;
+            difference(&AbstractGregorian(IsoYears), from, to, unit),
+            want,
+            "at {from}"
+        );
         assert_eq!(rt; difference(&buddhist(), from, to, unit), want, "at {from}");
         assert_eq!(rt; difference(&minguo(), from, to, unit), want, "at {from}");
     }
@@ -250,8 +340,13 @@ fn differences_are_those_of_a_slow_count(rt: HostRuntime) {
 
 #[test]
 fn iso_years_are_of_one_era(rt: HostRuntime) {
-    let year = IsoYears.era_year_from_extended(2024, 2, 29);
+    let year = era_year_on(&AbstractGregorian(IsoYears), 738945);
     assert_eq!(rt; year.era.as_str(), "default");
-    assert_eq!(rt; (year.year, year.extended_year, year.era_index), (2024, 2024, Some(0)));
+    assert_eq!(rt;
+        (year.year, year.extended_year, year.era_index),
+        (2024, 2024, Some(0))
+    );
+    assert_eq!(rt; era_year_on(&minguo(), 738945).extended_year, 113);
     assert_eq!(rt; IsoYears.debug_name(), "ISO");
+    assert_eq!(rt; minguo().0.debug_name(), "counted");
 }
