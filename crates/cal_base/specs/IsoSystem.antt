@@ -2,6 +2,7 @@
 use Rattle.std.specs.Prelude.{Bool, ◌&&◌, codes, Some}
 use Rattle.cal_days.specs.Day.{is_valid_day}
 use Rattle.cal_types.specs.declared.month_info.LeapStatus.TheVariants.{Normal}
+use Rattle.cal_types.specs.declared.year.EraYear.{EraYear}
 use Rattle.cal_types.specs.declared.year.YearInfo.{YearInfo}
 use Rattle.cal_types.specs.declared.year.YearInfo.TheVariants.{Era}
 use Rattle.cal_types.specs.declared.year.YearAmbiguity.TheVariants.{Unambiguous}
@@ -11,8 +12,11 @@ use Rattle.cal_base.specs.GregorianList.{gregorian_list}
 use Rattle.cal_base.specs.declared.iso_calendar.IsoDateInner.{IsoDateInner}
 
 -- the year of the one era is the extended year
+abbrev pub iso_era_year : Date → EraYear
+iso_era_year t = record { year = t.year; extended_year = t.year; era = codes "default"; era_index = Some 0; ambiguity = Unambiguous }
+
 abbrev pub iso_year_info : Date → YearInfo
-iso_year_info t = Era (record { year = t.year; extended_year = t.year; era = codes "default"; era_index = Some 0; ambiguity = Unambiguous })
+iso_year_info t = Era (iso_era_year t)
 
 abbrev pub iso_system : CalendarSystem
 iso_system = record { list = gregorian_list; year_info = iso_year_info; leap_status = λ _ _. Normal; formatted_month = month_at gregorian_list }

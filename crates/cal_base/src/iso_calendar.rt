@@ -43,7 +43,7 @@ pub struct IsoDateInner {
 }
 
 /// The days before a day of a year.
-fn days_before_day(leap: bool, month: u8, day: u8) -> u16
+pub(crate) fn days_before_day(leap: bool, month: u8, day: u8) -> u16
     requires month { (1 ≤ month) × (month ≤ 12) }
     requires day { (1 ≤ day) × (day ≤ 31) }
     ensures bound { result ≤ 365 }
@@ -100,7 +100,7 @@ fn is_valid_day(rd: RataDie) -> bool
 }
 
 /// Whether a month is a plain month from 1 to 12.
-fn is_iso_month(month: Month) -> bool
+pub(crate) fn is_iso_month(month: Month) -> bool
     ensures { result ≡ is_plain_month 12 (month_parts month) }
 {
     !month.is_leap() && 1 <= month.number() && month.number() <= 12

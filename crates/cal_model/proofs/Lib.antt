@@ -6,3 +6,4 @@ pub mod ResolvingSteps
 pub mod ResolvingLemmas
 pub mod DateTests
 pub mod ListedLemmas
+pub mod RenumberedLemmas

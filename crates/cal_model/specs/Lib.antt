@@ -1,4 +1,5 @@
 pub mod CalendarList
+pub mod Renumbered
 pub mod CalendarSystem
 pub mod Resolving
 pub mod Difference

@@ -1,0 +1,26 @@
+-- The calendars with the months of the proleptic Gregorian calendar, whose years are counted from a year of their own.
+use Rattle.std.specs.Prelude.{ℤ, pos, neg_ℤ, ◌+ℤ◌, ◌-ℤ◌}
+use Rattle.cal_days.specs.Day.{IsBetween}
+use Rattle.cal_model.specs.CalendarList.{CalendarList}
+use Rattle.cal_model.specs.Renumbered.{renumbered}
+use Rattle.cal_base.specs.GregorianList.{gregorian_list}
+use Rattle.cal_base.specs.declared.iso_year.IsoYear.{IsoYear}
+
+-- the list whose extended year y is the ISO year y + offset
+abbrev pub offset_list : ℤ → CalendarList
+offset_list offset = renumbered offset gregorian_list
+
+-- how far the extended years of a calendar may lie from the ISO years
+abbrev pub IsOffset : ℤ → Type 0
+IsOffset offset = IsBetween (neg_ℤ (pos 9999)) (pos 9999) offset
+
+-- the ISO years that the extended years from -8000000 to 8000000 may be
+abbrev pub IsOffsetYear : ℤ → Type 0
+IsOffsetYear y = IsBetween (neg_ℤ (pos 8009999)) (pos 8009999) y
+
+-- the ISO year of an extended year, and the other way round
+abbrev pub iso_year_of : ℤ → ℤ → IsoYear
+iso_year_of offset extended_year = record { number = extended_year +ℤ offset }
+
+abbrev pub extended_year_from : ℤ → IsoYear → ℤ
+extended_year_from offset year = year.number -ℤ offset
