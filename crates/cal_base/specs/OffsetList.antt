@@ -18,9 +18,10 @@ IsOffset offset = IsBetween (neg_ℤ (pos 9999)) (pos 9999) offset
 abbrev pub IsOffsetYear : ℤ → Type 0
 IsOffsetYear y = IsBetween (neg_ℤ (pos 8009999)) (pos 8009999) y
 
--- the ISO year of an extended year, and the other way round
+-- the ISO year of an extended year
 abbrev pub iso_year_of : ℤ → ℤ → IsoYear
 iso_year_of offset extended_year = record { number = extended_year +ℤ offset }
 
+-- the extended year of an ISO year
 abbrev pub extended_year_from : ℤ → IsoYear → ℤ
 extended_year_from offset year = year.number -ℤ offset
