@@ -104,7 +104,8 @@ bag_is words bag rest e =
     record {
       texts = record { year = ky.value; month = km.value; day = kd.value };
       form = y.is ∙ λ i. ky.is i ∷ second i;
-      says = record { year = y.x; month = m.x; day = d.x; says_year = ky.reads; says_month = km.reads; says_day = kd.reads; is = sym bag_e } }
+      says = record { year = y.x; month = m.x; day = d.x; says_year = ky.reads; says_month = km.reads; says_day = kd.reads; is = sym bag_e };
+    }
 
 pub bag_reads : (t : BagTexts) (bag : Bag) (rest : List (List ℕ)) → SaysBag t bag → bag_read (bag_words t rest) ≡ Some (bag, rest)
 unfolding bag_read
@@ -146,13 +147,18 @@ header_is words h rest e =
     let fifth : d.rest ≡ f.word ∷ g.word ∷ codes "from" ∷ rest = f.is ∙ ap (λ l. f.word ∷ l) (g.is ∙ ap (λ l. g.word ∷ l) seventh) in
     let third : b.rest ≡ c.word ∷ d.word ∷ f.word ∷ g.word ∷ codes "from" ∷ rest = c.is ∙ ap (λ l. c.word ∷ l) (d.is ∙ ap (λ l. d.word ∷ l) fifth) in
     record {
-      calendar = b.word; shown = c.word; unit = d.word; overflow = f.word; missing_fields = g.word;
+      calendar = b.word;
+      shown = c.word;
+      unit = d.word;
+      overflow = f.word;
+      missing_fields = g.word;
       form = a.is ∙ λ i. span i ∷ (b.is ∙ ap (λ l. b.word ∷ l) third) i;
       says_calendar = b.reads ∙ ap (λ (t : Header). Some t.calendar) is;
       says_shown = c.reads ∙ ap (λ (t : Header). Some t.shown) is;
       says_unit = d.reads ∙ ap (λ (t : Header). Some t.unit) is;
       says_overflow = f.reads ∙ ap (λ (t : Header). Some t.overflow) is;
-      says_missing = g.reads ∙ ap (λ (t : Header). Some t.missing_fields) is }
+      says_missing = g.reads ∙ ap (λ (t : Header). Some t.missing_fields) is;
+    }
 
 pub request_is : (words : List (List ℕ)) (r : Request) → request_read words ≡ Some r → IsRequest words r
 unfolding request_read
@@ -179,7 +185,9 @@ request_is words r e =
         overflow = header.says_overflow ∙ ap (λ (t : Request). Some t.overflow) is;
         missing_fields = header.says_missing ∙ ap (λ (t : Request). Some t.missing_fields) is;
         from = subst (λ (r : Request). SaysBag from.texts r.from) is from.says;
-        to = subst (λ (r : Request). SaysBag to.texts r.to) is to.says } }
+        to = subst (λ (r : Request). SaysBag to.texts r.to) is to.says;
+      };
+    }
   where
     at_end_is : (x : Request) (words : List (List ℕ)) (r : Request) → at_end x words ≡ Some r → (words ≡ []) × (x ≡ r)
     at_end_is x [] r e = (refl, cc)
