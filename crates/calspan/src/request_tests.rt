@@ -8,7 +8,7 @@ use std::test::Fail;
 
 /// The leap day of 2020 and the last day of February 2021.
 const LEAP_DAY: &[u8] =
-    b"span iso iso days reject none from year=2020 month=M02 day=29 to year=2021 month=M02 day=28\n";
+    b"span iso gregorian days reject none from year=2020 month=M02 day=29 to year=2021 month=M02 day=28\n";
 
 const LEAP_DAY_ANSWER: &[u8] =
     b"ok 2020/default.2020/M02/29@737484 2020/ce.2020/M02/29@737484 2021/default.2021/M02/28@737849 2021/ce.2021/M02/28@737849 P365D\n";
