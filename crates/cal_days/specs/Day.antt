@@ -33,6 +33,10 @@ is_field_year y = is_between (neg_ℤ (pos 1040000)) (pos 1040000) y
 abbrev pub IsRuleYear : ℤ → Type 0
 IsRuleYear y = IsBetween (neg_ℤ (pos 8000000)) (pos 8000000) y
 
+-- those years, and the years at most 9999 beside them, for calendars that count their years from another calendar's
+abbrev pub IsShiftedYear : ℤ → Type 0
+IsShiftedYear y = IsBetween (neg_ℤ (pos 8009999)) (pos 8009999) y
+
 -- a number that is far from the ends of a 64-bit integer
 abbrev pub IsNear : ℤ → Type 0
 IsNear z = IsBetween (neg_ℤ (pos 1000000000000)) (pos 1000000000000) z

@@ -2,7 +2,7 @@
 //! chapter 2).
 
 ghost use Rattle.std.specs.Prelude.{◌≡◌, ◌↔◌, IsTrue, pos, neg_ℤ, ◌+ℤ◌, ◌-ℤ◌, ◌≤ℤ◌, ◌<ℤ◌};
-ghost use Rattle.cal_days.specs.Day.{IsBetween, IsNear, IsRuleYear, IsValidDay};
+ghost use Rattle.cal_days.specs.Day.{IsBetween, IsNear, IsShiftedYear, IsValidDay};
 ghost use Rattle.cal_days.specs.Gregorian.{gregorian_leap, gregorian_start, gregorian_year_length, leap_days_through};
 
 use crate::rata_die::RataDie;
@@ -20,10 +20,10 @@ fn leap_days(year: i64) -> i64
     year.div_euclid(4) - year.div_euclid(100) + year.div_euclid(400)
 }
 
-/// The first day of a year from -8000000 to 8000000.
+/// The first day of a year from -8009999 to 8009999.
 #[tactic(auto, using(crate::proofs::Signed::signed))]
 pub fn year_start(year: i32) -> RataDie
-    requires { IsRuleYear year }
+    requires { IsShiftedYear year }
     ensures formula { result ≡ gregorian_start year }
     ensures joins { gregorian_start (year +ℤ pos 1) ≡ gregorian_start year +ℤ pos (gregorian_year_length year) }
 {
@@ -31,13 +31,13 @@ pub fn year_start(year: i32) -> RataDie
     RataDie::new(365 * before + leap_days(before) + 1)
 }
 
-/// Whether a year from -8000000 to 8000000 has 366 days.
+/// Whether a year has 366 days.
 #[tactic(auto, using(crate::proofs::Signed::signed), unfolding(crate::specs::Division::floor_mod))]
 pub fn is_leap_year(year: i32) -> bool
-    requires { IsRuleYear year }
     ensures { IsTrue result ↔ IsTrue (gregorian_leap year) }
 {
-    year.rem_euclid(4) == 0 && (year.rem_euclid(100) != 0 || year.rem_euclid(400) == 0)
+    // Of the years that 4 divides, 25 divides those that 100 divides, and 16 those that 400 divides.
+    year.rem_euclid(4) == 0 && (year.rem_euclid(25) != 0 || year.rem_euclid(16) == 0)
 }
 
 /// The year that contains a valid day, or the one after it.

@@ -23,10 +23,9 @@ pub fn year_start(year: i32) -> RataDie
     RataDie::new(365 * before + before.div_euclid(4) + FIRST_DAY_OF_YEAR_1)
 }
 
-/// Whether a year from -8000000 to 8000000 has 366 days.
+/// Whether a year has 366 days.
 #[tactic(auto, using(crate::proofs::Signed::signed), unfolding(crate::specs::Division::floor_mod))]
 pub fn is_leap_year(year: i32) -> bool
-    requires { IsRuleYear year }
     ensures { IsTrue result ↔ IsTrue (julian_leap year) }
 {
     year.rem_euclid(4) == 0

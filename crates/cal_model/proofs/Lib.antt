@@ -7,3 +7,5 @@ pub mod ResolvingLemmas
 pub mod DateTests
 pub mod ListedLemmas
 pub mod RenumberedLemmas
+pub mod OrderLemmas
+pub mod MonthCases

@@ -5,7 +5,7 @@ use Rattle.std.specs.List.{position_from}
 use Rattle.cal_types.specs.Month.{MonthParts, month_rank}
 use Rattle.cal_types.specs.declared.options.Overflow.{Overflow}
 use Rattle.cal_types.specs.declared.options.Overflow.TheVariants.{Constrain, Reject}
-use Rattle.cal_days.specs.Day.{IsValidDay}
+use Rattle.cal_days.specs.Day.{IsValidDay, is_valid_day}
 use Rattle.cal_days.specs.Sums.{span}
 
 -- a month of a year, and how many days it has
@@ -88,6 +88,10 @@ is_date c t = (nat_le 1 t.month && nat_le t.month (month_count c t.year)) && (na
 pub record IsValidDate (c : CalendarList) (t : Date) : Type 0 where
   pub date : IsDate c t
   pub valid : IsValidDay (day_number c t)
+
+-- the same as a test
+abbrev pub is_valid_date : CalendarList → Date → Bool
+is_valid_date c t = is_date c t && is_valid_day (day_number c t)
 
 -- t is the date of day number n
 pub record IsOn (c : CalendarList) (n : ℤ) (t : Date) : Type 0 where

@@ -7,3 +7,5 @@ pub mod WithinYear
 pub mod YearList
 pub mod ListedYears
 pub mod Adding
+pub mod Constructing
+pub mod DateOrder

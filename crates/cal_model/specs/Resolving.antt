@@ -1,6 +1,6 @@
 -- Resolving the fields of a date: the date, or the first fault.
 -- Source: ECMAScript Temporal's CalendarResolveFields and NonISOCalendarDateToISO. The year is named by an extended year and the month by a month, so far.
-use Rattle.std.specs.Prelude.{◌≡◌, ℕ, ℤ, min, max, ◌&&◌, nat_le, Option, Some, None, Result, Ok, Err, if◌then◌else◌}
+use Rattle.std.specs.Prelude.{◌≡◌, ℕ, ℤ, min, max, ◌&&◌, nat_le, Option, Some, None, IsSome, Result, Ok, Err, if◌then◌else◌}
 use Rattle.cal_days.specs.Day.{is_field_year, is_valid_day}
 use Rattle.cal_types.specs.Month.{MonthParts}
 use Rattle.cal_types.specs.Bag.{Bag}
@@ -68,3 +68,13 @@ pub record Names (bag : Bag) (y : ℤ) (m : MonthParts) (d : ℕ) : Type 0 where
   pub year : bag.extended_year ≡ Some y
   pub month : bag.month ≡ Some m
   pub day : bag.day ≡ Some d
+
+-- an extended year, a month and a day are given, and nothing else
+pub record IsPlain (bag : Bag) : Type 0 where
+  pub era : bag.era ≡ None
+  pub era_year : bag.era_year ≡ None
+  pub extended_year : IsSome bag.extended_year
+  pub month : IsSome bag.month
+  pub month_code : bag.month_code ≡ None
+  pub ordinal_month : bag.ordinal_month ≡ None
+  pub day : IsSome bag.day

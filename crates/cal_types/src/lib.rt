@@ -4,6 +4,7 @@
 //! Names and shapes follow `icu_calendar`; month codes and options are those of ECMAScript Temporal.
 #![tactic(auto)]
 
+pub mod algorithm;
 pub mod day;
 pub mod duration;
 pub mod errors;
@@ -15,6 +16,7 @@ pub mod options;
 pub mod tiny;
 pub mod year;
 
+pub use algorithm::{CalendarAlgorithm, HijriCalendarAlgorithm};
 pub use day::{DayOfMonth, DayOfYear};
 pub use duration::{DateDuration, DateDurationUnit};
 pub use errors::{
