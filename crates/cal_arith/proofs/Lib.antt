@@ -1,3 +1,6 @@
 pub mod GivenLemmas
 pub mod PlaceLemmas
 pub mod DifferenceSteps
+pub mod OrderLemmas
+pub mod YearLemmas
+pub mod FieldLemmas

@@ -11,6 +11,7 @@ use Rattle.cal_types.specs.declared.errors.MonthError.TheVariants.{NotInCalendar
 use Rattle.cal_types.specs.declared.options.Overflow.TheVariants.{Constrain}
 use Rattle.cal_model.specs.CalendarList.{CalendarList, Date, Entry, IsDate, IsLawful, IsValidDate, day_number, days_before, month_at, month_count, month_length, month_number, place_of, spot, start_of_year, year_length}
 use Rattle.cal_arith.specs.Places.{ordinal_month}
+use Rattle.cal_model.proofs.MonthCases.{by_month}
 use Rattle.cal_model.proofs.ListLemmas.{date-in_year, month_number-next, month_number-place, spot-own, start_of_year-unique}
 
 -- the plain month of a number, with its days
@@ -34,23 +35,6 @@ alternating = record {
   is_of_kind = is_plain;
   stand_in = λ m. m;
 }
-
--- what holds of each month from 1 to 12
-by_month : (P : ℕ → Type 0) → P 1 → P 2 → P 3 → P 4 → P 5 → P 6 → P 7 → P 8 → P 9 → P 10 → P 11 → P 12 → (i : ℕ) → 1 ≤ i → i ≤ 12 → P i
-by_month P a b c d e f g h j k l m zero low high = absurd (omega arith)
-by_month P a b c d e f g h j k l m (suc zero) low high = a
-by_month P a b c d e f g h j k l m (suc (suc zero)) low high = b
-by_month P a b c d e f g h j k l m (suc (suc (suc zero))) low high = c
-by_month P a b c d e f g h j k l m (suc (suc (suc (suc zero)))) low high = d
-by_month P a b c d e f g h j k l m (suc (suc (suc (suc (suc zero))))) low high = e
-by_month P a b c d e f g h j k l m (suc (suc (suc (suc (suc (suc zero)))))) low high = f
-by_month P a b c d e f g h j k l m (suc (suc (suc (suc (suc (suc (suc zero))))))) low high = g
-by_month P a b c d e f g h j k l m (suc (suc (suc (suc (suc (suc (suc (suc zero)))))))) low high = h
-by_month P a b c d e f g h j k l m (suc (suc (suc (suc (suc (suc (suc (suc (suc zero))))))))) low high = j
-by_month P a b c d e f g h j k l m (suc (suc (suc (suc (suc (suc (suc (suc (suc (suc zero)))))))))) low high = k
-by_month P a b c d e f g h j k l m (suc (suc (suc (suc (suc (suc (suc (suc (suc (suc (suc zero))))))))))) low high = l
-by_month P a b c d e f g h j k l m (suc (suc (suc (suc (suc (suc (suc (suc (suc (suc (suc (suc zero)))))))))))) low high = m
-by_month P a b c d e f g h j k l m (suc (suc (suc (suc (suc (suc (suc (suc (suc (suc (suc (suc (suc i))))))))))))) low high = absurd (omega arith)
 
 -- each year has twelve months
 pub month_count-alternating : (y : ℤ) → month_count alternating y ≡ 12

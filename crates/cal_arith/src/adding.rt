@@ -8,10 +8,11 @@ ghost use Rattle.cal_model.specs.Adding.{is_addable, is_reject, IsValidOn, IsSum
 ghost use Rattle.cal_arith.specs.Given.{IsGiven};
 ghost use Rattle.cal_arith.specs.Dates.{date_of, answer_of, Belongs};
 
-use crate::dates::{Ymd, from_rata_die};
+use crate::dates::{Ymd, from_rata_die, to_rata_die};
+use crate::getters::is_in_range;
 use crate::months::{YearMonth, months_away};
 use crate::places::place_in;
-use crate::years::Years;
+use crate::years::{YearShapes, Years};
 use cal_days::RataDie;
 use cal_types::{DateAddError, DateDuration, Overflow};
 
@@ -53,6 +54,41 @@ fn days_away(day: RataDie, days: u32, back: bool) -> RataDie
     }
 }
 
+/// The date itself, where its day number is valid.
+fn date_in_range<C: YearShapes>(
+    date: Ymd<C::YearInfo>,
+    cal: &C,
+) -> Result<Ymd<C::YearInfo>, DateAddError>
+    requires year { IsGiven (C.extended cal.now) (C.year_of cal.now) date.year }
+    requires date { IsDate (C.list cal.now) (date_of (C.extended cal.now) date) }
+    ensures on { IsValidOn (C.list cal.now) (day_number (C.list cal.now) (date_of (C.extended cal.now) date)) (answer_of (C.extended cal.now) result) }
+    ensures belongs { IfOk result (λ d. Belongs (C.list cal.now) (C.extended cal.now) (C.year_of cal.now) d) }
+{
+    if is_in_range(to_rata_die(date, cal)) {
+        Ok(date)
+    } else {
+        Err(DateAddError::Overflow)
+    }
+}
+
+/// The date so many days later, or earlier, where its day number is valid.
+fn date_days_away<C: Years>(
+    date: Ymd<C::YearInfo>,
+    days: u32,
+    back: bool,
+    cal: &C,
+) -> Result<Ymd<C::YearInfo>, DateAddError>
+    requires year { IsGiven (C.extended cal.now) (C.year_of cal.now) date.year }
+    requires date { IsDate (C.list cal.now) (date_of (C.extended cal.now) date) }
+    ensures on { IsValidOn (C.list cal.now) (day_number (C.list cal.now) (date_of (C.extended cal.now) date) +ℤ toward back days) (answer_of (C.extended cal.now) result) }
+    ensures belongs { IfOk result (λ d. Belongs (C.list cal.now) (C.extended cal.now) (C.year_of cal.now) d) }
+{
+    if days == 0 {
+        return date_in_range(date, cal);
+    }
+    valid_date(days_away(to_rata_die(date, cal), days, back), cal)
+}
+
 /// The year so many years later, or earlier.
 fn moved_year(year: i32, years: u32, back: bool) -> i32
     requires year { IsFieldYear year }
@@ -66,8 +102,8 @@ fn moved_year(year: i32, years: u32, back: bool) -> i32
     }
 }
 
-/// Whether fields may name a year.
-fn can_be_named(year: i32) -> bool
+/// Whether fields may name a year: whether it lies from -1040000 to 1040000.
+pub fn can_be_named(year: i32) -> bool
     ensures { result ≡ is_field_year year }
 {
     -1040000 <= year && year <= 1040000
@@ -141,13 +177,15 @@ fn sum_from_month<C: Years>(
     if matches!(overflow, Overflow::Reject) && day > last {
         return Err(DateAddError::InvalidDay { max: last });
     }
-    let base = cal.to_rata_die_inner(reached.year, reached.month, day.min(last));
-    valid_date(
-        days_away(
-            base,
-            7 * duration.weeks + duration.days,
-            duration.is_negative,
-        ),
+    let there = Ymd {
+        year: reached.year,
+        month: reached.month,
+        day: day.min(last),
+    };
+    date_days_away(
+        there,
+        7 * duration.weeks + duration.days,
+        duration.is_negative,
         cal,
     )
 }

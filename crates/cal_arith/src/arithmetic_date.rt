@@ -1,6 +1,6 @@
 //! Packed dates of any calendar.
 
-ghost use Rattle.std.specs.Prelude.{◌≡◌, ℕ, ℤ, pos, ◌+◌, ◌≤◌, ◌<◌, ◌-ℤ◌, ◌++◌, ◌==◌, unsigned_abs, IfOk};
+ghost use Rattle.std.specs.Prelude.{◌≡◌, ℕ, ℤ, pos, ◌+◌, ◌≤◌, ◌<◌, ◌-ℤ◌, ◌++◌, ◌==◌, unsigned_abs, Ok, IfOk};
 ghost use Rattle.std.proofs.Common.{rules};
 ghost use Rattle.std.specs.Cmp.{partial_order_from_own_ties, partial_order_from_total, then_total, on_total};
 ghost use Rattle.std.specs.Cmp.Rules.{comparing, hashing};
@@ -34,8 +34,8 @@ use std::sync::ledger::{Blank, Ledger};
 /// It belongs to a calendar where its year is one that the calendar gave, the calendar has the date, and its
 /// day number is in the valid range. Dates are equal and ordered by year, month's place and day.
 pub struct ArithmeticDate<C, P = <<C as YearShapes>::YearInfo as PackWithMD>::Packed> {
-    packed: P,
-    of: PhantomData<C>,
+    pub(crate) packed: P,
+    pub(crate) of: PhantomData<C>,
 }
 
 impl<C, P: Copy> Copy for ArithmeticDate<C, P> {}
@@ -133,11 +133,12 @@ impl<C: DateFieldsResolver> ArithmeticDate<C> {
 
     /// The difference to another date, as ECMAScript Temporal's NonISODateUntil: years, then months, then
     /// weeks and days, each as many as do not surpass the other date. The default of the option
-    /// `largest_unit` is days.
+    /// `largest_unit` is days. Added to this date under [`Overflow::Constrain`], it gives the other date.
     pub fn until(&self, other: &Self, cal: &C, options: DateDifferenceOptions) -> DateDuration
         requires from { Belongs (C.list cal.now) (C.extended cal.now) (C.year_of cal.now) (parts_of C.YearInfo.year_in C.YearInfo.month_in C.YearInfo.day_in self.now.packed) }
         requires to { Belongs (C.list cal.now) (C.extended cal.now) (C.year_of cal.now) (parts_of C.YearInfo.year_in C.YearInfo.month_in C.YearInfo.day_in other.now.packed) }
-        ensures { IsDifference (C.list cal.now) (date_of (C.extended cal.now) (parts_of C.YearInfo.year_in C.YearInfo.month_in C.YearInfo.day_in self.now.packed)) (date_of (C.extended cal.now) (parts_of C.YearInfo.year_in C.YearInfo.month_in C.YearInfo.day_in other.now.packed)) (largest_unit_of options.largest_unit) result }
+        ensures difference { IsDifference (C.list cal.now) (date_of (C.extended cal.now) (parts_of C.YearInfo.year_in C.YearInfo.month_in C.YearInfo.day_in self.now.packed)) (date_of (C.extended cal.now) (parts_of C.YearInfo.year_in C.YearInfo.month_in C.YearInfo.day_in other.now.packed)) (largest_unit_of options.largest_unit) result }
+        ensures leads_back { IsSum (C.list cal.now) (C.offset cal.now) (date_of (C.extended cal.now) (parts_of C.YearInfo.year_in C.YearInfo.month_in C.YearInfo.day_in self.now.packed)) result Overflow.Constrain (Ok (date_of (C.extended cal.now) (parts_of C.YearInfo.year_in C.YearInfo.month_in C.YearInfo.day_in other.now.packed))) }
     {
         ArithmeticDate::<C>::until_with_blank::<Brand>(self, other, cal, options, Blank::new(1))
     }
@@ -154,6 +155,7 @@ impl<C: DateFieldsResolver> ArithmeticDate<C> {
         requires from { Belongs (C.list cal.now) (C.extended cal.now) (C.year_of cal.now) (parts_of C.YearInfo.year_in C.YearInfo.month_in C.YearInfo.day_in self.now.packed) }
         requires to { Belongs (C.list cal.now) (C.extended cal.now) (C.year_of cal.now) (parts_of C.YearInfo.year_in C.YearInfo.month_in C.YearInfo.day_in other.now.packed) }
         ensures difference { IsDifference (C.list cal.now) (date_of (C.extended cal.now) (parts_of C.YearInfo.year_in C.YearInfo.month_in C.YearInfo.day_in self.now.packed)) (date_of (C.extended cal.now) (parts_of C.YearInfo.year_in C.YearInfo.month_in C.YearInfo.day_in other.now.packed)) (largest_unit_of options.largest_unit) result }
+        ensures leads_back { IsSum (C.list cal.now) (C.offset cal.now) (date_of (C.extended cal.now) (parts_of C.YearInfo.year_in C.YearInfo.month_in C.YearInfo.day_in self.now.packed)) result Overflow.Constrain (Ok (date_of (C.extended cal.now) (parts_of C.YearInfo.year_in C.YearInfo.month_in C.YearInfo.day_in other.now.packed))) }
         ensures ticks { steps.new ≤ steps.old + most_ticks (largest_unit_of options.largest_unit) (unsigned_abs (C.extended cal.now (C.YearInfo.year_in other.now.packed) -ℤ C.extended cal.now (C.YearInfo.year_in self.now.packed))) }
     {
         let from = parts::<C>(self.packed);
@@ -174,14 +176,15 @@ impl<C: DateFieldsResolver> ArithmeticDate<C> {
         requires name { blank.name ≡ L.name }
         requires parts { blank.parts ≡ L.parts }
         requires some { 0 < blank.parts }
-        ensures { IsDifference (C.list cal.now) (date_of (C.extended cal.now) (parts_of C.YearInfo.year_in C.YearInfo.month_in C.YearInfo.day_in self.now.packed)) (date_of (C.extended cal.now) (parts_of C.YearInfo.year_in C.YearInfo.month_in C.YearInfo.day_in other.now.packed)) (largest_unit_of options.largest_unit) result }
+        ensures difference { IsDifference (C.list cal.now) (date_of (C.extended cal.now) (parts_of C.YearInfo.year_in C.YearInfo.month_in C.YearInfo.day_in self.now.packed)) (date_of (C.extended cal.now) (parts_of C.YearInfo.year_in C.YearInfo.month_in C.YearInfo.day_in other.now.packed)) (largest_unit_of options.largest_unit) result }
+        ensures leads_back { IsSum (C.list cal.now) (C.offset cal.now) (date_of (C.extended cal.now) (parts_of C.YearInfo.year_in C.YearInfo.month_in C.YearInfo.day_in self.now.packed)) result Overflow.Constrain (Ok (date_of (C.extended cal.now) (parts_of C.YearInfo.year_in C.YearInfo.month_in C.YearInfo.day_in other.now.packed))) }
     {
         let mut steps = Steps::<L>::new(blank);
         self.until_counted(other, cal, options, &mut steps)
     }
 
     /// The date of these parts, which belong to a calendar.
-    fn of_parts(date: Ymd<C::YearInfo>, cal: &C) -> Self
+    pub(crate) fn of_parts(date: Ymd<C::YearInfo>, cal: &C) -> Self
         requires { Belongs (C.list cal.now) (C.extended cal.now) (C.year_of cal.now) date }
         ensures { parts_of C.YearInfo.year_in C.YearInfo.month_in C.YearInfo.day_in result.packed ≡ date }
     {
@@ -193,7 +196,7 @@ impl<C: DateFieldsResolver> ArithmeticDate<C> {
 }
 
 /// The parts of a packed date.
-fn parts<C: YearShapes>(packed: <C::YearInfo as PackWithMD>::Packed) -> Ymd<C::YearInfo>
+pub(crate) fn parts<C: YearShapes>(packed: <C::YearInfo as PackWithMD>::Packed) -> Ymd<C::YearInfo>
     ensures { result ≡ parts_of C.YearInfo.year_in C.YearInfo.month_in C.YearInfo.day_in packed }
 {
     Ymd {

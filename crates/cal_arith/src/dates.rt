@@ -1,7 +1,7 @@
 //! Dates as a year, the place of a month and a day.
 
-ghost use Rattle.std.specs.Prelude.{◌≡◌};
-ghost use Rattle.cal_model.specs.CalendarList.{IsDate, IsOn, day_number};
+ghost use Rattle.std.specs.Prelude.{◌≡◌, ◌<◌, ◌+ℤ◌, pos};
+ghost use Rattle.cal_model.specs.CalendarList.{IsDate, IsOn, date, day_number, start_of_year, year_length};
 ghost use Rattle.cal_days.specs.Day.{IsValidDay};
 ghost use Rattle.cal_arith.specs.Given.{IsGiven};
 ghost use Rattle.cal_arith.specs.Dates.{date_of, Belongs};
@@ -29,6 +29,28 @@ pub(crate) fn to_rata_die<C: YearShapes>(date: Ymd<C::YearInfo>, cal: &C) -> Rat
     cal.to_rata_die_inner(date.year, date.month, date.day)
 }
 
+/// The place of the month and the day of the month of a day of a given year, which is counted from 0; each
+/// month before it is asked for its length.
+pub(crate) fn month_by_month<C: YearShapes>(
+    year: C::YearInfo,
+    day_of_year: u16,
+    cal: &C,
+) -> (u8, u8)
+    requires year { IsGiven (C.extended cal.now) (C.year_of cal.now) year }
+    requires within { day_of_year < year_length (C.list cal.now) (C.extended cal.now year) }
+    ensures { IsOn (C.list cal.now) (start_of_year (C.list cal.now) (C.extended cal.now year) +ℤ pos day_of_year) (date (C.extended cal.now year) result.0 result.1) }
+{
+    let mut month = 1;
+    let mut rest = day_of_year;
+    let mut length = u16::from(cal.days_in_provided_month(year, month));
+    'months: while rest >= length {
+        rest -= length;
+        month += 1;
+        length = u16::from(cal.days_in_provided_month(year, month));
+    }
+    (month, rest as u8 + 1)
+}
+
 /// The date of a day number.
 pub(crate) fn from_rata_die<C: Years>(rd: RataDie, cal: &C) -> Ymd<C::YearInfo>
     requires { IsValidDay rd }
@@ -36,17 +58,7 @@ pub(crate) fn from_rata_die<C: Years>(rd: RataDie, cal: &C) -> Ymd<C::YearInfo>
     ensures belongs { Belongs (C.list cal.now) (C.extended cal.now) (C.year_of cal.now) result }
 {
     let year = cal.year_containing_rd(rd);
-    let mut month = 1;
-    let mut rest = rd.since(cal.to_rata_die_inner(year, 1, 1)) as u16;
-    let mut length = u16::from(cal.days_in_provided_month(year, month));
-    'months: while rest >= length {
-        rest -= length;
-        month += 1;
-        length = u16::from(cal.days_in_provided_month(year, month));
-    }
-    Ymd {
-        year,
-        month,
-        day: rest as u8 + 1,
-    }
+    let day_of_year = rd.since(cal.to_rata_die_inner(year, 1, 1)) as u16;
+    let (month, day) = cal.month_and_day(year, day_of_year);
+    Ymd { year, month, day }
 }

@@ -1,7 +1,8 @@
 //! The difference of two dates, as ECMAScript Temporal's NonISODateUntil.
 
-ghost use Rattle.std.specs.Prelude.{◌≡◌, ◌+◌, ◌-◌, ◌*◌, ◌<◌, ◌≤◌, ◌<ℤ◌, ◌-ℤ◌, unsigned_abs, IsTrue, false, ◌↔◌};
+ghost use Rattle.std.specs.Prelude.{◌≡◌, ◌+◌, ◌-◌, ◌*◌, ◌<◌, ◌≤◌, ◌<ℤ◌, ◌-ℤ◌, unsigned_abs, IsTrue, false, Ok, ◌↔◌};
 ghost use Rattle.cal_model.specs.CalendarList.{date};
+ghost use Rattle.cal_model.specs.Adding.{IsSum};
 ghost use Rattle.cal_model.specs.Difference.{IsDifference, admits_weeks, largest_unit_of};
 ghost use Rattle.cal_arith.specs.Dates.{date_of, ymd, Belongs};
 ghost use Rattle.cal_arith.specs.Ticks.{most_ticks};
@@ -12,7 +13,7 @@ use crate::steps::Steps;
 use crate::years::YearShapes;
 use crate::years_between::{admitted_years, month_after_years};
 use cal_days::RataDie;
-use cal_types::{DateDifferenceOptions, DateDuration, DateDurationUnit};
+use cal_types::{DateDifferenceOptions, DateDuration, DateDurationUnit, Overflow};
 use std::sync::ledger::Ledger;
 
 /// Whether the second day lies before the first.
@@ -53,6 +54,7 @@ pub(crate) fn difference<C: YearShapes, L: Ledger>(
     requires from { Belongs (C.list cal.now) (C.extended cal.now) (C.year_of cal.now) from }
     requires to { Belongs (C.list cal.now) (C.extended cal.now) (C.year_of cal.now) to }
     ensures difference { IsDifference (C.list cal.now) (date_of (C.extended cal.now) from) (date_of (C.extended cal.now) to) unit result }
+    ensures leads_back { IsSum (C.list cal.now) (C.offset cal.now) (date_of (C.extended cal.now) from) result Overflow.Constrain (Ok (date_of (C.extended cal.now) to)) }
     ensures ticks { steps.new ≤ steps.old + most_ticks unit (unsigned_abs (C.extended cal.now to.year -ℤ C.extended cal.now from.year)) }
 {
     let second = to_rata_die(to, cal);
@@ -85,6 +87,7 @@ pub fn difference_counted<C: YearShapes, L: Ledger>(
     requires from { Belongs (C.list calendar.now) (C.extended calendar.now) (C.year_of calendar.now) (ymd from.0 from.1 from.2) }
     requires to { Belongs (C.list calendar.now) (C.extended calendar.now) (C.year_of calendar.now) (ymd to.0 to.1 to.2) }
     ensures difference { IsDifference (C.list calendar.now) (date (C.extended calendar.now from.0) from.1 from.2) (date (C.extended calendar.now to.0) to.1 to.2) (largest_unit_of options.largest_unit) result }
+    ensures leads_back { IsSum (C.list calendar.now) (C.offset calendar.now) (date (C.extended calendar.now from.0) from.1 from.2) result Overflow.Constrain (Ok (date (C.extended calendar.now to.0) to.1 to.2)) }
     ensures ticks { steps.new ≤ steps.old + most_ticks (largest_unit_of options.largest_unit) (unsigned_abs (C.extended calendar.now to.0 -ℤ C.extended calendar.now from.0)) }
 {
     let first = Ymd {

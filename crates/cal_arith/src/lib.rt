@@ -6,8 +6,11 @@
 
 mod adding;
 pub mod arithmetic_date;
+mod constructing;
 pub mod dates;
 pub mod difference;
+mod fields;
+mod getters;
 pub mod laws;
 mod months;
 mod months_between;
@@ -19,6 +22,7 @@ mod tests;
 pub mod years;
 mod years_between;
 
+pub use adding::can_be_named;
 pub use arithmetic_date::ArithmeticDate;
 pub use steps::Steps;
 pub use years::{DateFieldsResolver, PackWithMD, YearShapes, Years};

@@ -2,3 +2,5 @@
 
 mod alternating_months;
 mod dates;
+mod made_dates;
+mod shown_dates;

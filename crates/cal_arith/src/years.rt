@@ -1,14 +1,15 @@
 //! What a calendar offers of its years.
 
-ghost use Rattle.std.specs.Prelude.{◌≡◌, ℕ, ℤ, ◌+◌, ◌≤◌, ◌↔◌, ◌≤ℤ◌, ◌<ℤ◌, ◌+ℤ◌, ◌-ℤ◌, pos, neg_ℤ, unsigned_abs};
+ghost use Rattle.std.specs.Prelude.{◌≡◌, ℕ, ℤ, ◌+◌, ◌<◌, ◌≤◌, ◌↔◌, ◌≤ℤ◌, ◌<ℤ◌, ◌+ℤ◌, ◌-ℤ◌, pos, neg_ℤ, unsigned_abs};
 ghost use Rattle.std.specs.Ordering.{int_cmp, int_eq};
 ghost use Rattle.cal_days.specs.Day.{IsBetween, IsValidDay, IsFieldYear, IsRuleYear};
 ghost use Rattle.cal_days.specs.Sums.{total};
 ghost use Rattle.cal_types.specs.MonthParts.{month_parts};
-ghost use Rattle.cal_model.specs.CalendarList.{CalendarList, Date, date, month_count, month_at, month_length, month_number, year_length, start_of_year, day_number, HasPlace, IsDate, IsLawful, IsValidDate};
+ghost use Rattle.cal_model.specs.CalendarList.{CalendarList, Date, date, month_count, month_at, month_length, month_number, year_length, start_of_year, day_number, HasPlace, IsDate, IsLawful, IsOn, IsValidDate};
 ghost use Rattle.cal_arith.specs.Given.{IsGiven};
 ghost use Rattle.cal_arith.specs.Places.{ordinal_month};
 
+use crate::dates::month_by_month;
 use crate::steps::Steps;
 use cal_days::RataDie;
 use cal_types::{Month, MonthError, Overflow};
@@ -172,6 +173,15 @@ pub trait Years: YearShapes {
         ensures storable { IsFieldYear (Self.YearInfo.stored result) }
         ensures first { start_of_year (Self.list self.now) (Self.extended self.now result) ≤ℤ rd }
         ensures last { rd <ℤ (start_of_year (Self.list self.now) (Self.extended self.now result) +ℤ pos (year_length (Self.list self.now) (Self.extended self.now result))) };
+
+    /// The place of the month and the day of the month of a day of a given year, which is counted from 0.
+    fn month_and_day(&self, year: Self::YearInfo, day_of_year: u16) -> (u8, u8)
+        requires year { IsGiven (Self.extended self.now) (Self.year_of self.now) year }
+        requires within { day_of_year < year_length (Self.list self.now) (Self.extended self.now year) }
+        ensures { IsOn (Self.list self.now) (start_of_year (Self.list self.now) (Self.extended self.now year) +ℤ pos day_of_year) (date (Self.extended self.now year) result.0 result.1) }
+    {
+        month_by_month(year, day_of_year, self)
+    }
 }
 
 /// A calendar that names its years by eras, and its dates without a year by reference years.

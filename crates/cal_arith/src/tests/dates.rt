@@ -1,11 +1,13 @@
 //! Dates of the small calendar.
 
 use crate::arithmetic_date::ArithmeticDate;
+use crate::laws::{are_same_day, order_of_days};
 use crate::tests::alternating_months::AlternatingMonths;
 use cal_days::RataDie;
 use cal_types::{
     DateAddError, DateAddOptions, DateDifferenceOptions, DateDuration, DateDurationUnit, Overflow,
 };
+use std::cmp::Ordering;
 
 /// A duration forward.
 fn forward(years: u32, months: u32, weeks: u32, days: u32) -> DateDuration {
@@ -87,5 +89,21 @@ fn each_unit_has_its_difference(rt: HostRuntime) {
     for (largest_unit, want) in cases {
         let options = DateDifferenceOptions { largest_unit };
         assert_eq!(rt; first.until(&second, &cal, options), want);
+    }
+}
+
+#[test]
+fn dates_have_the_order_of_their_days(rt: HostRuntime) {
+    let cal = AlternatingMonths;
+    let first = ArithmeticDate::from_rata_die(RataDie::new(30), &cal);
+    for (number, order) in [
+        (29, Ordering::Greater),
+        (30, Ordering::Equal),
+        (31, Ordering::Less),
+    ] {
+        assert!(rt; -365242499 <= number && number <= 365242134);
+        let second = ArithmeticDate::from_rata_die(RataDie::new(number), &cal);
+        assert_eq!(rt; order_of_days(&first, &second, &cal), order);
+        assert_eq!(rt; are_same_day(&first, &second, &cal), number == 30);
     }
 }

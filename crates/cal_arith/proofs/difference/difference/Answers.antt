@@ -1,8 +1,9 @@
 use Rattle.std.proofs.Common.{◌≡◌, ℕ, ℤ, ◌↔◌, ◌+ℤ◌, ◌<ℤ◌, min, IsTrue, ap, subst, sym, ◌∙◌, arith}
 use Rattle.cal_days.specs.Day.{IsFieldYear, IsValidDay}
-use Rattle.cal_model.specs.CalendarList.{date, day_number}
+use Rattle.cal_model.specs.CalendarList.{date, day_number, IsValidDate}
 use Rattle.cal_model.specs.WithinYear.{Leads}
 use Rattle.cal_model.specs.Difference.{toward, IsBeyondDay, admits_weeks}
+use Rattle.cal_model.proofs.AddingLemmas.{difference-added_back}
 use Rattle.cal_model.proofs.DifferenceLemmas.{base, IsBaseNear, base-within, base-near, days-left, left-small, leads-of}
 use Rattle.cal_model.proofs.DifferenceLaws.{IsLeft}
 use Rattle.cal_arith.specs.Dates.{date_of}
@@ -83,6 +84,15 @@ returns-clause-difference g c =
     difference-parts (g.C.YearShapes.list c.args.cal.now) (date_of (g.C.YearShapes.extended c.args.cal.now) c.args.from) (date_of (g.C.YearShapes.extended c.args.cal.now) c.args.to) c.args.unit _ total (sign g s.After-is_back-back)
     c.admitted_years-years.ensures.greatest c.admitted_months-reached.ensures.greatest (left g c s.After-to_rata_die_inner-base)
     c.admitted_weeks-weeks.ensures.weeks c.admitted_weeks-weeks.ensures.none (omega (arith, fit))
+
+pub returns-clause-leads_back : goal.returns-clause-leads_back
+returns-clause-leads_back g c =
+    let s = c.args.cal.now in let laws = g.met.C.YearShapes in
+    let t = date_of (g.C.YearShapes.extended s) c.args.from in let u = date_of (g.C.YearShapes.extended s) c.args.to in
+    let h : IsValidDate (g.C.YearShapes.list s) t = record { date = c.requires.from.date; valid = c.requires.from.valid } in
+    let k : IsValidDate (g.C.YearShapes.list s) u = record { date = c.requires.to.date; valid = c.requires.to.valid } in
+    let p = laws.ranged s t h in let q = laws.ranged s u k in
+    difference-added_back (g.C.YearShapes.list s) (laws.lawful s) t u h k c.args.unit _ (returns-clause-difference g c) (g.C.YearShapes.offset s) p.0 q.0 p.1 q.1 (laws.apart s t u h k)
 
 pub returns-clause-ticks : goal.returns-clause-ticks
 returns-clause-ticks g c =
