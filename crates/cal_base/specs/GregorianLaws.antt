@@ -1,33 +1,18 @@
 -- The months of a year of the Gregorian list.
-use Rattle.std.proofs.Common.{nat_abs, ◌≤ℤ◌, ◌<ℤ◌, ◌-ℤ◌, ◌≡◌, ◌≢◌, ◌==◌, ◌||◌, ℕ, zero, suc, ◌+◌, ◌-◌, ◌*◌, ◌/◌, ◌<◌, ◌≤◌, Bool, true, false, if◌then◌else◌, IsTrue, ◌↔◌, Some, sum_by, take, refl, sym, ap, subst, ◌∙◌, arith, ℤ, pos, ◌+ℤ◌}
+use Rattle.std.proofs.Common.{nat_abs, ◌≤ℤ◌, ◌<ℤ◌, ◌-ℤ◌, ◌≡◌, ◌≢◌, ◌==◌, ◌||◌, ℕ, min, ◌+◌, ◌-◌, ◌*◌, ◌/◌, ◌<◌, ◌≤◌, Bool, true, false, if◌then◌else◌, IsTrue, ◌↔◌, Some, sum_by, take, refl, sym, ap, subst, ◌∙◌, arith, ℤ, pos, ◌+ℤ◌}
 use Rattle.std.specs.Prelude.{slice_index_or, nat_le, nat_lt}
 use Rattle.std.proofs.lemmas.Bool.Decides.{nat_tests}
 use Rattle.cal_days.specs.Gregorian.{gregorian_leap, gregorian_start, gregorian_year_length, leap_days_through}
 use Rattle.cal_days.specs.Division.{floor_div}
 use Rattle.cal_days.proofs.Signed.{signed, signed_casts}
 use Rattle.cal_days.proofs.GregorianLemmas.{gregorian_start-next}
-use Rattle.cal_types.specs.Month.{MonthParts, month_rank}
+use Rattle.cal_types.specs.Month.{MonthParts, month_rank, plain_month}
 use Rattle.cal_types.specs.declared.options.Overflow.TheVariants.{Constrain}
 use Rattle.cal_model.specs.CalendarList.{days_of, no_entry, days_before, month_length, month_count, month_at, year_length, start_of_year, HasPlace, IsOn, date, place_of, IsLawful}
+use Rattle.cal_model.proofs.DateTests.{same_truth}
 use Rattle.cal_model.proofs.ListLemmas.{start_of_year-unique, spot-own, on-rest}
+use Rattle.cal_model.proofs.MonthCases.{by_month}
 use Rattle.cal_base.specs.GregorianList.{gregorian_months, gregorian_list, is_plain_month}
-
--- what holds of each month from 1 to 12
-pub by_month : (P : ℕ → Type 0) → P 1 → P 2 → P 3 → P 4 → P 5 → P 6 → P 7 → P 8 → P 9 → P 10 → P 11 → P 12 → (i : ℕ) → 1 ≤ i → i ≤ 12 → P i
-by_month P a b c d e f g h j k l m zero low high = absurd (omega arith)
-by_month P a b c d e f g h j k l m (suc zero) low high = a
-by_month P a b c d e f g h j k l m (suc (suc zero)) low high = b
-by_month P a b c d e f g h j k l m (suc (suc (suc zero))) low high = c
-by_month P a b c d e f g h j k l m (suc (suc (suc (suc zero)))) low high = d
-by_month P a b c d e f g h j k l m (suc (suc (suc (suc (suc zero))))) low high = e
-by_month P a b c d e f g h j k l m (suc (suc (suc (suc (suc (suc zero)))))) low high = f
-by_month P a b c d e f g h j k l m (suc (suc (suc (suc (suc (suc (suc zero))))))) low high = g
-by_month P a b c d e f g h j k l m (suc (suc (suc (suc (suc (suc (suc (suc zero)))))))) low high = h
-by_month P a b c d e f g h j k l m (suc (suc (suc (suc (suc (suc (suc (suc (suc zero))))))))) low high = j
-by_month P a b c d e f g h j k l m (suc (suc (suc (suc (suc (suc (suc (suc (suc (suc zero)))))))))) low high = k
-by_month P a b c d e f g h j k l m (suc (suc (suc (suc (suc (suc (suc (suc (suc (suc (suc zero))))))))))) low high = l
-by_month P a b c d e f g h j k l m (suc (suc (suc (suc (suc (suc (suc (suc (suc (suc (suc (suc zero)))))))))))) low high = m
-by_month P a b c d e f g h j k l m (suc (suc (suc (suc (suc (suc (suc (suc (suc (suc (suc (suc (suc i))))))))))))) low high = absurd (omega arith)
 
 -- the days of a year's months before a month, and those of the month
 abbrev pub prior_days : Bool → ℕ → ℕ
@@ -176,11 +161,6 @@ gregorian_list-lawful = record {
   stands = λ y m h. (m.number, spot-own gregorian_list y m Constrain m.number (place_of-kind y m h));
 }
 
-same_truth : (a b : Bool) → IsTrue a ↔ IsTrue b → b ≡ a
-same_truth true b h = h.0 refl
-same_truth false true h = sym (h.1 refl)
-same_truth false false h = refl
-
 -- what the test of a leap year tells
 pub leap_is : (r : Bool) (y z : ℤ) → z ≡ y → IsTrue r ↔ IsTrue (gregorian_leap z) → gregorian_leap y ≡ r
 leap_is r y z e h = ap gregorian_leap (sym e) ∙ same_truth r (gregorian_leap z) h
@@ -209,3 +189,9 @@ day_in_year rd y z start since e is apart low high =
     let in_list = year_length-gregorian y in
     let listed = start_of_year-gregorian z in
     (omega (arith, signed_casts, same, length, next, in_list), omega (arith, signed_casts, same, listed))
+
+-- a month's number is small
+pub plain_month-small : (i : ℕ) → i ≤ 12 → plain_month i ≡ record { number = i; is_leap = false }
+plain_month-small i h = let same : min i 99 ≡ i = omega arith in ap plain same where
+  plain : ℕ → MonthParts
+  plain n = record { number = n; is_leap = false }

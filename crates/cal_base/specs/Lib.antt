@@ -1,7 +1,8 @@
 pub mod GregorianList
 pub mod GregorianLaws
 pub mod IsoSystem
-pub mod IsoLaws
-pub mod Conditions
 pub mod OffsetList
 pub mod OffsetListLaws
+pub mod IsoEra
+pub mod OffsetSystem
+pub mod OffsetSystemLaws

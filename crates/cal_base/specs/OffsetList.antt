@@ -14,10 +14,6 @@ offset_list offset = renumbered offset gregorian_list
 abbrev pub IsOffset : ℤ → Type 0
 IsOffset offset = IsBetween (neg_ℤ (pos 9999)) (pos 9999) offset
 
--- the ISO years that the extended years from -8000000 to 8000000 may be
-abbrev pub IsOffsetYear : ℤ → Type 0
-IsOffsetYear y = IsBetween (neg_ℤ (pos 8009999)) (pos 8009999) y
-
 -- the ISO year of an extended year
 abbrev pub iso_year_of : ℤ → ℤ → IsoYear
 iso_year_of offset extended_year = record { number = extended_year +ℤ offset }

@@ -1,6 +1,6 @@
 -- A list of Gregorian years that are counted from a year of their own is a calendar's, and its valid days lie near its year 0.
 use Rattle.std.proofs.Common.{true, ◌≡◌, ℕ, zero, suc, ◌-◌, ◌*◌, ◌≤◌, refl, sym, ap, ◌∙◌, arith, unsigned_abs, ℤ, pos, neg_ℤ, ◌+ℤ◌, ◌-ℤ◌, ◌*ℤ◌, ◌≤ℤ◌, ◌<ℤ◌}
-use Rattle.cal_days.specs.Day.{is_between, IsBetween, IsValidDay, IsRuleYear, IsFieldYear}
+use Rattle.cal_days.specs.Day.{IsShiftedYear, is_between, IsBetween, IsValidDay, IsRuleYear, IsFieldYear}
 use Rattle.cal_days.specs.Gregorian.{gregorian_start}
 use Rattle.cal_days.specs.Sums.{total}
 use Rattle.cal_days.proofs.Signed.{signed}
@@ -13,7 +13,7 @@ use Rattle.cal_model.proofs.ListLemmas.{date-in_year}
 use Rattle.cal_model.proofs.RenumberedLemmas.{month_count-renumbered, month_number-renumbered, day_number-renumbered, renumbered-date, renumbered-valid, renumbered-lawful}
 use Rattle.cal_base.specs.GregorianList.{gregorian_list}
 use Rattle.cal_base.specs.GregorianLaws.{start_of_year-gregorian, year_length-gregorian, month_count-gregorian, gregorian_list-lawful}
-use Rattle.cal_base.specs.OffsetList.{offset_list, IsOffset, IsOffsetYear, iso_year_of, extended_year_from}
+use Rattle.cal_base.specs.OffsetList.{offset_list, IsOffset, iso_year_of, extended_year_from}
 use Rattle.cal_base.specs.declared.iso_year.IsoYear.{IsoYear}
 use Rattle.cal_arith.specs.Given.{IsGiven}
 
@@ -92,7 +92,7 @@ iso_year-extended offset year = ap numbered (sym (number-extended offset year)) 
   numbered n = record { number = n }
 
 -- the ISO year of a given year
-pub given-iso : (offset : ℤ) → IsOffset offset → (year : IsoYear) → IsGiven (extended_year_from offset) (iso_year_of offset) year → IsOffsetYear year.number
+pub given-iso : (offset : ℤ) → IsOffset offset → (year : IsoYear) → IsGiven (extended_year_from offset) (iso_year_of offset) year → IsShiftedYear year.number
 given-iso offset small year given = (omega (arith, signed, given.range), omega (arith, signed, given.range))
 
 -- an offset that passes the test lies in the range

@@ -1,17 +1,17 @@
 //! The Gregorian calendars: those with the months of the proleptic Gregorian calendar, which count their
 //! years from a year of their own, as the Buddhist and the Minguo calendar.
 
-ghost use Rattle.std.specs.Prelude.{◌≡◌, ℕ, ℤ, List, pos};
+ghost use Rattle.std.specs.Prelude.{◌≡◌, ℕ, ℤ, List, Option};
+ghost use Rattle.cal_types.specs.declared.algorithm.CalendarAlgorithm.{CalendarAlgorithm};
 ghost use Rattle.cal_types.specs.declared.year.EraYear.{EraYear};
 ghost use Rattle.cal_model.specs.CalendarList.{Date, date, IsValidDate};
 ghost use Rattle.cal_base.specs.OffsetList.{offset_list, IsOffset};
 
-use crate::gregorian_months::days_in_month;
-use crate::iso_calendar::is_iso_month;
-use crate::iso_year::{IsoYear, is_leap, iso_day_number};
+use crate::gregorian_months::{days_before_month, days_in_month, is_gregorian_month, month_of_day};
+use crate::iso_year::{IsoYear, iso_day_number};
 use cal_arith::{DateFieldsResolver, Steps, YearShapes, Years};
 use cal_days::{RataDie, gregorian};
-use cal_types::{EraYear, Month, MonthError, Overflow, TinyAsciiStr, YearAmbiguity};
+use cal_types::{CalendarAlgorithm, EraYear, Month, MonthError, Overflow};
 use std::fmt::Debug;
 use std::sync::ledger::Ledger;
 
@@ -22,6 +22,9 @@ pub trait GregorianYears: Copy + Debug {
 
     /// The year in its era of a date in extended years.
     ghost era_year: { Self → Date → EraYear };
+
+    /// The calendar's algorithm, where CLDR names one.
+    ghost algorithm: { Self → Option CalendarAlgorithm };
 
     /// The calendar's name in English.
     ghost name: { Self → List ℕ };
@@ -34,6 +37,10 @@ pub trait GregorianYears: Copy + Debug {
     fn era_year_from_extended(&self, extended_year: i32, month: u8, day: u8) -> EraYear
         requires { IsValidDate (offset_list (offset self.now)) (date extended_year month day) }
         ensures { result ≡ era_year self.now (date extended_year month day) };
+
+    /// The calendar's algorithm (CLDR, UTS 35). None where CLDR names none for it.
+    fn calendar_algorithm(&self) -> Option<CalendarAlgorithm>
+        ensures { result ≡ algorithm self.now };
 
     /// The calendar's name in English, for messages to programmers.
     fn debug_name(&self) -> &'static str
@@ -81,7 +88,7 @@ impl<Y: GregorianYears> YearShapes for AbstractGregorian<Y> {
     }
 
     fn days_in_provided_month(&self, year: IsoYear, month: u8) -> u8 {
-        days_in_month(is_leap(year.number), month)
+        days_in_month(year.is_leap(), month)
     }
 
     fn to_rata_die_inner(&self, year: IsoYear, month: u8, day: u8) -> RataDie {
@@ -98,7 +105,7 @@ impl<Y: GregorianYears> YearShapes for AbstractGregorian<Y> {
         month: Month,
         _overflow: Overflow,
     ) -> Result<u8, MonthError> {
-        if is_iso_month(month) {
+        if is_gregorian_month(month) {
             Ok(month.number())
         } else {
             Err(MonthError::NotInCalendar)
@@ -140,47 +147,16 @@ impl<Y: GregorianYears> Years for AbstractGregorian<Y> {
             number: gregorian::year_from_fixed(rd),
         }
     }
+
+    fn month_and_day(&self, year: IsoYear, day_of_year: u16) -> (u8, u8) {
+        let leap = year.is_leap();
+        let month = month_of_day(leap, day_of_year);
+        let day = day_of_year - days_before_month(leap, month);
+        (month, day as u8 + 1)
+    }
 }
 
 impl<Y: GregorianYears> DateFieldsResolver for AbstractGregorian<Y> {}
-
-/// The years of the ISO calendar, which are the ISO years in the one era `default`.
-#[derive(Clone, Copy, Debug)]
-pub struct IsoYears;
-
-impl GregorianYears for IsoYears {
-    ghost use Rattle.std.specs.Prelude.{codes, Some, refl};
-    ghost use Rattle.cal_base.specs.IsoSystem.{iso_era_year};
-    ghost use Rattle.cal_base.specs.OffsetListLaws.{true-offset};
-
-    ghost offset = { λ _. pos 0 };
-
-    ghost era_year = { λ _ t. iso_era_year t };
-
-    ghost name = { λ _. codes "ISO" };
-
-    fn year_offset(&self) -> i32 {
-        0
-    }
-
-    fn era_year_from_extended(&self, extended_year: i32, _month: u8, _day: u8) -> EraYear {
-        EraYear {
-            year: extended_year,
-            extended_year,
-            era: TinyAsciiStr::of_text(b"default"),
-            era_index: Some(0),
-            ambiguity: YearAmbiguity::Unambiguous,
-        }
-    }
-
-    fn debug_name(&self) -> &'static str {
-        "ISO"
-    }
-
-    ghost offset_bound = { λ _. true-offset (pos 0) refl };
-
-    ghost named = { λ _ t. refl };
-}
 
 #[cfg(test)]
 mod tests;

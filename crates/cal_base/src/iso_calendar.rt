@@ -1,25 +1,61 @@
 //! The ISO calendar.
 
-ghost use Rattle.std.specs.Prelude.{◌≡◌, ℕ, ℤ, ◌+◌, ◌-◌, ◌≤◌, ◌+ℤ◌, ◌-ℤ◌, pos, ◌<ℤ◌, ◌<◌, ◌↔◌, List, IsTrue, IfOk, Some, unsigned_abs, int_lt};
-ghost use Rattle.cal_days.specs.Day.{IsRuleYear, IsFieldYear, IsValidDay, is_field_year, is_valid_day};
-ghost use Rattle.cal_days.specs.Gregorian.{gregorian_leap};
-ghost use Rattle.cal_types.specs.Bag.{Bag, bag_of};
-ghost use Rattle.cal_types.specs.MonthParts.{month_parts};
-ghost use Rattle.cal_model.specs.CalendarList.{date, day_number, days_before, start_of_year, year_length, IsDate, IsOn};
-ghost use Rattle.cal_model.specs.Difference.{IsDifference};
-ghost use Rattle.cal_base.specs.Conditions.{date_answer};
-ghost use Rattle.cal_model.specs.Resolving.{resolve, Names};
-ghost use Rattle.cal_base.specs.GregorianList.{gregorian_list, is_plain_month};
-ghost use Rattle.cal_base.specs.IsoSystem.{iso_system, iso_date, iso_belongs};
-
 use crate::calendars::{AsCalendar, Calendar};
-use crate::gregorian_months::{days_before_month, days_in_month, month_of_day};
+use crate::gregorian_years::{AbstractGregorian, GregorianYears};
 use crate::scaffold::UnstableSealed;
-use cal_days::{RataDie, gregorian};
+use cal_arith::{ArithmeticDate, Steps};
+use cal_days::RataDie;
 use cal_types::{
-    DateDifferenceOptions, DateDuration, DateFields, DateFromFieldsError, DateFromFieldsOptions,
-    DayOfMonth, EraYear, LeapStatus, Month, MonthInfo, Overflow, TinyAsciiStr, YearAmbiguity,
+    CalendarAlgorithm, DateAddError, DateAddOptions, DateDifferenceOptions, DateDuration,
+    DateFields, DateFromFieldsError, DateFromFieldsOptions, DateNewError, DayOfMonth, DayOfYear,
+    EraYear, Month, MonthInfo, TinyAsciiStr, YearAmbiguity, YearInput,
 };
+use std::convert::Infallible;
+use std::sync::ledger::Ledger;
+
+/// The years of the ISO calendar, which are the ISO years in the one era `default`.
+#[derive(Clone, Copy, Debug)]
+pub struct IsoYears;
+
+impl GregorianYears for IsoYears {
+    ghost use Rattle.std.specs.Prelude.{codes, pos, Some, None, refl};
+    ghost use Rattle.cal_base.specs.IsoEra.{iso_era_year};
+    ghost use Rattle.cal_base.specs.OffsetListLaws.{true-offset};
+
+    ghost offset = { λ _. pos 0 };
+
+    ghost era_year = { λ _ t. iso_era_year t };
+
+    ghost algorithm = { λ _. None };
+
+    ghost name = { λ _. codes "ISO" };
+
+    fn year_offset(&self) -> i32 {
+        0
+    }
+
+    fn era_year_from_extended(&self, extended_year: i32, _month: u8, _day: u8) -> EraYear {
+        EraYear {
+            year: extended_year,
+            extended_year,
+            era: TinyAsciiStr::of_text(b"default"),
+            era_index: Some(0),
+            ambiguity: YearAmbiguity::Unambiguous,
+        }
+    }
+
+    fn calendar_algorithm(&self) -> Option<CalendarAlgorithm> {
+        None
+    }
+
+    fn debug_name(&self) -> &'static str {
+        "ISO"
+    }
+
+    ghost offset_bound = { λ _. true-offset (pos 0) refl };
+
+    ghost named = { λ _ t. refl };
+}
 
 /// The ISO calendar: the proleptic Gregorian calendar with astronomical year numbers (ISO 8601).
 ///
@@ -36,133 +72,22 @@ impl Iso {
 
 /// A date of the ISO calendar: its year, its month and its day.
 #[derive(Clone, Copy, Debug, PartialEq, Eq, PartialOrd, Ord, Hash)]
-pub struct IsoDateInner {
-    year: i32,
-    month: u8,
-    day: u8,
-}
-
-/// The days before a day of a year.
-pub(crate) fn days_before_day(leap: bool, month: u8, day: u8) -> u16
-    requires month { (1 ≤ month) × (month ≤ 12) }
-    requires day { (1 ≤ day) × (day ≤ 31) }
-    ensures bound { result ≤ 365 }
-    ensures value { (y : ℤ) → gregorian_leap y ≡ leap → result ≡ days_before gregorian_list y month + (day - 1) }
-{
-    days_before_month(leap, month) + u16::from(day - 1)
-}
-
-/// The day number of a date.
-fn day_number(year: i32, month: u8, day: u8) -> RataDie
-    requires year { IsRuleYear year }
-    requires date { IsDate gregorian_list (date year month day) }
-    ensures { result ≡ day_number gregorian_list (date year month day) }
-{
-    let before = days_before_day(gregorian::is_leap_year(year), month, day);
-    let start = gregorian::year_start(year).to_i64_date();
-    RataDie::new(start + i64::from(before))
-}
-
-/// The date of a day of a year, which is counted from 0.
-fn date_in_year(year: i32, leap: bool, day_of_year: u16) -> IsoDateInner
-    requires leap { gregorian_leap year ≡ leap }
-    requires within { day_of_year < year_length gregorian_list year }
-    ensures { IsOn gregorian_list (start_of_year gregorian_list year +ℤ pos day_of_year) (iso_date result) }
-{
-    let month = month_of_day(leap, day_of_year);
-    let day = (day_of_year - days_before_month(leap, month)) as u8 + 1;
-    IsoDateInner { year, month, day }
-}
-
-/// The date of a day number in the valid range.
-fn date_on(rd: RataDie) -> IsoDateInner
-    requires { IsValidDay rd }
-    ensures { IsOn gregorian_list rd (iso_date result) }
-{
-    let year = gregorian::year_from_fixed(rd);
-    let day_of_year = rd.since(gregorian::year_start(year)) as u16;
-    date_in_year(year, gregorian::is_leap_year(year), day_of_year)
-}
-
-/// Whether fields may name a year.
-fn is_field_year(year: i32) -> bool
-    ensures { result ≡ is_field_year year }
-{
-    -1040000 <= year && year <= 1040000
-}
-
-/// Whether a day number is in the valid range.
-fn is_valid_day(rd: RataDie) -> bool
-    ensures { result ≡ is_valid_day rd }
-{
-    let day = rd.to_i64_date();
-    -365242499 <= day && day <= 365242134
-}
-
-/// Whether a month is a plain month from 1 to 12.
-pub(crate) fn is_iso_month(month: Month) -> bool
-    ensures { result ≡ is_plain_month 12 (month_parts month) }
-{
-    !month.is_leap() && 1 <= month.number() && month.number() <= 12
-}
-
-/// The date of a year, a month and a day, or the first fault.
-fn date_of_fields(year: i32, month: Month, day: u8) -> Result<IsoDateInner, DateFromFieldsError>
-    ensures resolved { (b : Bag) → Names b year (month_parts month) day → date_answer iso_date result ≡ resolve gregorian_list b Overflow.Reject }
-    ensures belongs { IfOk result (λ d. IsTrue (iso_belongs d)) }
-{
-    if !is_field_year(year) {
-        return Err(DateFromFieldsError::Overflow);
-    }
-    if !is_iso_month(month) {
-        return Err(DateFromFieldsError::MonthNotInCalendar);
-    }
-    let number = month.number();
-    let max = days_in_month(gregorian::is_leap_year(year), number);
-    if day == 0 || day > max {
-        return Err(DateFromFieldsError::InvalidDay { max });
-    }
-    if !is_valid_day(day_number(year, number, day)) {
-        return Err(DateFromFieldsError::Overflow);
-    }
-    Ok(IsoDateInner {
-        year,
-        month: number,
-        day,
-    })
-}
-
-/// The days from one day to another, as a duration.
-fn days_between(from: RataDie, to: RataDie) -> DateDuration
-    requires from { IsValidDay from }
-    requires to { IsValidDay to }
-    ensures sign { IsTrue result.is_negative ↔ (to <ℤ from) }
-    ensures years { result.years ≡ 0 }
-    ensures months { result.months ≡ 0 }
-    ensures weeks { result.weeks ≡ 0 }
-    ensures days { result.days ≡ unsigned_abs (to -ℤ from) }
-{
-    let days = to.since(from);
-    DateDuration {
-        is_negative: days < 0,
-        years: 0,
-        months: 0,
-        weeks: 0,
-        days: days.unsigned_abs() as u32,
-    }
-}
+pub struct IsoDateInner(ArithmeticDate<AbstractGregorian<IsoYears>>);
 
 impl UnstableSealed for Iso {}
 
 impl Calendar for Iso {
-    ghost use Rattle.std.specs.Prelude.{refl};
+    ghost use Rattle.std.specs.Prelude.{pos, true, refl, codes, None, Some};
+    ghost use Rattle.std.proofs.Common.{ap};
     ghost use Rattle.cal_base.specs.IsoSystem.{iso_system, iso_date, iso_belongs};
-    ghost use Rattle.cal_base.specs.GregorianLaws.{gregorian_list-lawful};
-    ghost use Rattle.cal_base.specs.IsoLaws.{iso_belongs-dated};
+    ghost use Rattle.cal_base.specs.OffsetListLaws.{offset_list-lawful};
+    ghost use Rattle.cal_base.specs.OffsetSystemLaws.{packed-dated, packed-equal, packed-ordered};
 
     type DateInner = IsoDateInner;
 
     type Year = EraYear;
+
+    type DateCompatibilityError = Infallible;
 
     ghost system = { λ _. iso_system };
 
@@ -170,58 +95,142 @@ impl Calendar for Iso {
 
     ghost belongs = { λ _ d. iso_belongs d };
 
+    ghost compatible = { λ _ _. true };
+
+    ghost is_cheap = { λ _. true };
+
+    ghost algorithm = { λ _. None };
+
+    ghost name = { λ _. codes "ISO" };
+
+    fn owns(&self, date: &IsoDateInner) -> bool {
+        AbstractGregorian(IsoYears).owns(&date.0)
+    }
+
+    fn new_date(
+        &self,
+        year: YearInput<'_>,
+        month: Month,
+        day: u8,
+    ) -> Result<IsoDateInner, DateNewError> {
+        Ok(IsoDateInner(AbstractGregorian(IsoYears).new_date(year, month, day)?))
+    }
+
     fn from_fields(
         &self,
         fields: DateFields<'_>,
-        _options: DateFromFieldsOptions,
+        options: DateFromFieldsOptions,
     ) -> Result<IsoDateInner, DateFromFieldsError> {
-        match (fields.extended_year, fields.month, fields.day) {
-            (Some(year), Some(month), Some(day)) => date_of_fields(year, month, day),
-            _ => Err(DateFromFieldsError::NotEnoughFields),
-        }
+        Ok(IsoDateInner(AbstractGregorian(IsoYears).from_fields(fields, options)?))
+    }
+
+    fn has_cheap_iso_conversion(&self) -> bool {
+        true
     }
 
     fn from_rata_die(&self, rd: RataDie) -> IsoDateInner {
-        date_on(rd)
+        IsoDateInner(AbstractGregorian(IsoYears).from_rata_die(rd))
     }
 
     fn to_rata_die(&self, date: &IsoDateInner) -> RataDie {
-        day_number(date.year, date.month, date.day)
+        AbstractGregorian(IsoYears).to_rata_die(&date.0)
+    }
+
+    fn months_in_year(&self, date: &IsoDateInner) -> u8 {
+        AbstractGregorian(IsoYears).months_in_year(&date.0)
+    }
+
+    fn days_in_year(&self, date: &IsoDateInner) -> u16 {
+        AbstractGregorian(IsoYears).days_in_year(&date.0)
+    }
+
+    fn days_in_month(&self, date: &IsoDateInner) -> u8 {
+        AbstractGregorian(IsoYears).days_in_month(&date.0)
+    }
+
+    fn is_in_leap_year(&self, date: &IsoDateInner) -> bool {
+        AbstractGregorian(IsoYears).is_in_leap_year(&date.0)
     }
 
     fn year_info(&self, date: &IsoDateInner) -> EraYear {
-        EraYear {
-            year: date.year,
-            extended_year: date.year,
-            era: TinyAsciiStr::of_text(b"default"),
-            era_index: Some(0),
-            ambiguity: YearAmbiguity::Unambiguous,
-        }
+        AbstractGregorian(IsoYears).year_info(&date.0)
+    }
+
+    fn extended_year(&self, date: &IsoDateInner) -> i32 {
+        AbstractGregorian(IsoYears).extended_year(&date.0)
     }
 
     fn month(&self, date: &IsoDateInner) -> MonthInfo {
-        let month = Month::new(date.month);
-        MonthInfo::new(date.month, month, LeapStatus::Normal, month)
+        AbstractGregorian(IsoYears).month(&date.0)
     }
 
     fn day_of_month(&self, date: &IsoDateInner) -> DayOfMonth {
-        DayOfMonth(date.day)
+        AbstractGregorian(IsoYears).day_of_month(&date.0)
+    }
+
+    fn day_of_year(&self, date: &IsoDateInner) -> DayOfYear {
+        AbstractGregorian(IsoYears).day_of_year(&date.0)
+    }
+
+    fn add(
+        &self,
+        date: &IsoDateInner,
+        duration: DateDuration,
+        options: DateAddOptions,
+    ) -> Result<IsoDateInner, DateAddError> {
+        Ok(IsoDateInner(AbstractGregorian(IsoYears).add(&date.0, duration, options)?))
     }
 
     fn until(
         &self,
         date1: &IsoDateInner,
         date2: &IsoDateInner,
-        _options: DateDifferenceOptions,
+        options: DateDifferenceOptions,
     ) -> DateDuration {
-        days_between(self.to_rata_die(date1), self.to_rata_die(date2))
+        AbstractGregorian(IsoYears).until(&date1.0, &date2.0, options)
     }
 
-    ghost lawful = { λ _. gregorian_list-lawful };
+    fn until_counted<L: Ledger>(
+        &self,
+        date1: &IsoDateInner,
+        date2: &IsoDateInner,
+        options: DateDifferenceOptions,
+        steps: &mut Steps<L>,
+    ) -> DateDuration {
+        AbstractGregorian(IsoYears).until_counted(&date1.0, &date2.0, options, steps)
+    }
 
-    ghost dated = { λ _ d h. iso_belongs-dated d h };
+    fn check_date_compatibility(&self, _other: &Self) -> Result<(), Infallible> {
+        Ok(())
+    }
+
+    fn calendar_algorithm(&self) -> Option<CalendarAlgorithm> {
+        AbstractGregorian(IsoYears).calendar_algorithm()
+    }
+
+    fn debug_name(&self) -> &'static str {
+        AbstractGregorian(IsoYears).debug_name()
+    }
+
+    ghost lawful = { λ _. offset_list-lawful (pos 0) };
+
+    ghost dated = { λ _ d h. packed-dated (pos 0) d.0.packed h };
 
     ghost named = { λ _ t. refl };
+
+    ghost equal_days = { λ _ a b h k. packed-equal (pos 0) a.0.packed b.0.packed h k };
+
+    ghost ordered_days = { λ _ a b h k. ap Some (packed-ordered (pos 0) a.0.packed b.0.packed h k) };
+
+    ghost compatible_itself = { λ _. refl };
+
+    ghost compatible_back = { λ _ _ h. h };
+
+    ghost compatible_on = { λ _ _ _ h k. k };
+
+    ghost shared = { λ _ _ _ h k. k };
+
+    ghost shared_day = { λ _ _ _ h k. refl };
 }
 
 impl AsCalendar for Iso {

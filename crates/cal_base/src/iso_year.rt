@@ -1,14 +1,14 @@
 //! ISO years, which the Gregorian calendars keep in their dates, and the days on which they start.
 
 ghost use Rattle.std.specs.Prelude.{◌≡◌, ◌↔◌, IsTrue, pos, neg_ℤ};
-ghost use Rattle.cal_days.specs.Day.{IsBetween, IsNear};
-ghost use Rattle.cal_days.specs.Gregorian.{gregorian_leap, gregorian_start, leap_days_through};
+ghost use Rattle.cal_days.specs.Day.{IsShiftedYear, IsBetween, is_field_year};
+ghost use Rattle.cal_days.specs.Gregorian.{gregorian_leap};
 ghost use Rattle.cal_model.specs.CalendarList.{date, day_number, IsDate};
 ghost use Rattle.cal_base.specs.GregorianList.{gregorian_list};
-ghost use Rattle.cal_base.specs.OffsetList.{IsOffsetYear};
 
-use crate::iso_calendar::days_before_day;
-use cal_arith::PackWithMD;
+use crate::gregorian_months::days_before_day;
+use cal_arith::{PackWithMD, can_be_named};
+use cal_days::gregorian;
 
 /// An ISO year: the year of the proleptic Gregorian calendar with astronomical year numbers (ISO 8601).
 #[derive(Clone, Copy, Debug, PartialEq, Eq, PartialOrd, Ord, Hash)]
@@ -23,6 +23,22 @@ pub struct PackedIsoYear {
     year: IsoYear,
     month: u8,
     day: u8,
+}
+
+impl IsoYear {
+    /// Whether fields may name the year.
+    pub(crate) fn can_be_named(self) -> bool
+        ensures { result ≡ is_field_year self.number }
+    {
+        can_be_named(self.number)
+    }
+
+    /// Whether the year has 366 days.
+    pub(crate) fn is_leap(self) -> bool
+        ensures { IsTrue result ↔ IsTrue (gregorian_leap self.number) }
+    {
+        gregorian::is_leap_year(self.number)
+    }
 }
 
 impl PackWithMD for IsoYear {
@@ -57,42 +73,13 @@ impl PackWithMD for IsoYear {
     }
 }
 
-/// Whether an ISO year has 366 days.
-#[tactic(auto, using(cal_days::proofs::Signed::signed), unfolding(cal_days::specs::Division::floor_mod))]
-pub(crate) fn is_leap(year: i32) -> bool
-    ensures { IsTrue result ↔ IsTrue (gregorian_leap year) }
-{
-    year.rem_euclid(4) == 0 && (year.rem_euclid(100) != 0 || year.rem_euclid(400) == 0)
-}
-
-/// The leap days of the ISO years from 1 to `year`; negative below year 1.
-#[tactic(auto, using(cal_days::proofs::Signed::signed))]
-fn leap_days(year: i64) -> i64
-    requires { IsNear year }
-    ensures value { result ≡ leap_days_through year }
-    ensures bound { IsNear result }
-{
-    year.div_euclid(4) - year.div_euclid(100) + year.div_euclid(400)
-}
-
-/// The day number of the first day of an ISO year from -8009999 to 8009999.
-#[tactic(auto, using(cal_days::proofs::Signed::signed))]
-fn year_start(year: i32) -> i64
-    requires { IsOffsetYear year }
-    ensures value { result ≡ gregorian_start year }
-    ensures bound { IsBetween (neg_ℤ (pos 3000000000)) (pos 3000000000) result }
-{
-    let before = i64::from(year) - 1;
-    365 * before + leap_days(before) + 1
-}
-
 /// The day number of a date of an ISO year from -8009999 to 8009999.
 pub(crate) fn iso_day_number(year: i32, month: u8, day: u8) -> i64
-    requires year { IsOffsetYear year }
+    requires year { IsShiftedYear year }
     requires date { IsDate gregorian_list (date year month day) }
     ensures value { result ≡ day_number gregorian_list (date year month day) }
     ensures bound { IsBetween (neg_ℤ (pos 4000000000)) (pos 4000000000) result }
 {
-    let before = days_before_day(is_leap(year), month, day);
-    year_start(year) + i64::from(before)
+    let before = days_before_day(gregorian::is_leap_year(year), month, day);
+    gregorian::year_start(year).to_i64_date() + i64::from(before)
 }

@@ -1,2 +1,3 @@
+pub mod CommonEra
+pub mod CommonEraLaws
 pub mod GregorianSystem
-pub mod GregorianSystemLaws

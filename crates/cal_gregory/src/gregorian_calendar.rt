@@ -2,25 +2,19 @@
 
 ghost use Rattle.std.specs.Prelude.{◌≡◌};
 ghost use Rattle.cal_days.specs.Day.{IsFieldYear};
-ghost use Rattle.cal_gregory.specs.GregorianSystem.{common_era_ambiguity, gregorian_era_year};
+ghost use Rattle.cal_gregory.specs.CommonEra.{common_era_ambiguity, common_era_year};
 
+use cal_arith::{ArithmeticDate, Steps};
 use cal_base::scaffold::UnstableSealed;
-use cal_base::{AsCalendar, Calendar, Iso, IsoDateInner};
+use cal_base::{AbstractGregorian, AsCalendar, Calendar, GregorianYears};
 use cal_days::RataDie;
 use cal_types::{
-    DateDifferenceOptions, DateDuration, DateFields, DateFromFieldsError, DateFromFieldsOptions,
-    DayOfMonth, EraYear, MonthInfo, TinyAsciiStr, YearAmbiguity,
+    CalendarAlgorithm, DateAddError, DateAddOptions, DateDifferenceOptions, DateDuration,
+    DateFields, DateFromFieldsError, DateFromFieldsOptions, DateNewError, DayOfMonth, DayOfYear,
+    EraYear, Month, MonthInfo, TinyAsciiStr, YearAmbiguity, YearInput,
 };
-
-/// The Gregorian calendar: the ISO calendar with the eras `ce` and `bce` (CLDR, UTS 35).
-///
-/// It is proleptic, and extended year 0 is 1 BCE.
-#[derive(Clone, Copy, Debug, Default)]
-pub struct Gregorian;
-
-/// A date of the Gregorian calendar: that of the ISO calendar.
-#[derive(Clone, Copy, Debug, PartialEq, Eq, PartialOrd, Ord, Hash)]
-pub struct GregorianDateInner(IsoDateInner);
+use std::convert::Infallible;
+use std::sync::ledger::Ledger;
 
 /// How much of a year of the Common Era a reader needs.
 fn common_era_ambiguity(year: i32) -> YearAmbiguity
@@ -36,7 +30,7 @@ fn common_era_ambiguity(year: i32) -> YearAmbiguity
 /// An extended year in its era.
 fn era_year(year: i32) -> EraYear
     requires { IsFieldYear year }
-    ensures { result ≡ gregorian_era_year year }
+    ensures { result ≡ common_era_year year }
 {
     if year < 1 {
         EraYear {
@@ -57,16 +51,71 @@ fn era_year(year: i32) -> EraYear
     }
 }
 
+/// The years of the Gregorian calendar, which are the ISO years in the eras `ce` and `bce`.
+#[derive(Clone, Copy, Debug)]
+pub struct CommonEraYears;
+
+impl GregorianYears for CommonEraYears {
+    ghost use Rattle.std.specs.Prelude.{codes, pos, refl, Some};
+    ghost use Rattle.cal_types.specs.declared.algorithm.CalendarAlgorithm.TheVariants.{Gregory};
+    ghost use Rattle.cal_base.specs.OffsetListLaws.{true-offset};
+    ghost use Rattle.cal_gregory.specs.CommonEraLaws.{common_era-named};
+
+    ghost offset = { λ _. pos 0 };
+
+    ghost era_year = { λ _ t. common_era_year t.year };
+
+    ghost algorithm = { λ _. Some Gregory };
+
+    ghost name = { λ _. codes "Gregorian" };
+
+    fn year_offset(&self) -> i32 {
+        0
+    }
+
+    fn era_year_from_extended(&self, extended_year: i32, _month: u8, _day: u8) -> EraYear {
+        era_year(extended_year)
+    }
+
+    fn calendar_algorithm(&self) -> Option<CalendarAlgorithm> {
+        Some(CalendarAlgorithm::Gregory)
+    }
+
+    fn debug_name(&self) -> &'static str {
+        "Gregorian"
+    }
+
+    ghost offset_bound = { λ _. true-offset (pos 0) refl };
+
+    ghost named = { λ _ t. common_era-named t };
+}
+
+/// The Gregorian calendar: the ISO calendar with the eras `ce` and `bce` (CLDR, UTS 35).
+///
+/// It is proleptic, and extended year 0 is 1 BCE.
+#[derive(Clone, Copy, Debug, Default)]
+pub struct Gregorian;
+
+/// A date of the Gregorian calendar: its year, its month and its day.
+#[derive(Clone, Copy, Debug, PartialEq, Eq, PartialOrd, Ord, Hash)]
+pub struct GregorianDateInner(ArithmeticDate<AbstractGregorian<CommonEraYears>>);
+
 impl UnstableSealed for Gregorian {}
 
 impl Calendar for Gregorian {
-    ghost use Rattle.cal_base.specs.GregorianLaws.{gregorian_list-lawful};
+    ghost use Rattle.std.specs.Prelude.{pos, true, refl, codes, Some};
+    ghost use Rattle.std.proofs.Common.{ap};
+    ghost use Rattle.cal_types.specs.declared.algorithm.CalendarAlgorithm.TheVariants.{Gregory};
+    ghost use Rattle.cal_base.specs.OffsetListLaws.{offset_list-lawful};
+    ghost use Rattle.cal_base.specs.OffsetSystemLaws.{packed-dated, packed-equal, packed-ordered};
     ghost use Rattle.cal_gregory.specs.GregorianSystem.{gregorian_system, gregorian_date, gregorian_belongs};
-    ghost use Rattle.cal_gregory.specs.GregorianSystemLaws.{gregorian_belongs-dated, gregorian_year_info-named};
+    ghost use Rattle.cal_gregory.specs.CommonEraLaws.{common_era-named};
 
     type DateInner = GregorianDateInner;
 
     type Year = EraYear;
+
+    type DateCompatibilityError = Infallible;
 
     ghost system = { λ _. gregorian_system };
 
@@ -74,32 +123,90 @@ impl Calendar for Gregorian {
 
     ghost belongs = { λ _ d. gregorian_belongs d };
 
+    ghost compatible = { λ _ _. true };
+
+    ghost is_cheap = { λ _. true };
+
+    ghost algorithm = { λ _. Some Gregory };
+
+    ghost name = { λ _. codes "Gregorian" };
+
+    fn owns(&self, date: &GregorianDateInner) -> bool {
+        AbstractGregorian(CommonEraYears).owns(&date.0)
+    }
+
+    fn new_date(
+        &self,
+        year: YearInput<'_>,
+        month: Month,
+        day: u8,
+    ) -> Result<GregorianDateInner, DateNewError> {
+        Ok(GregorianDateInner(AbstractGregorian(CommonEraYears).new_date(year, month, day)?))
+    }
+
     fn from_fields(
         &self,
         fields: DateFields<'_>,
         options: DateFromFieldsOptions,
     ) -> Result<GregorianDateInner, DateFromFieldsError> {
-        Ok(GregorianDateInner(Iso.from_fields(fields, options)?))
+        Ok(GregorianDateInner(AbstractGregorian(CommonEraYears).from_fields(fields, options)?))
+    }
+
+    fn has_cheap_iso_conversion(&self) -> bool {
+        true
     }
 
     fn from_rata_die(&self, rd: RataDie) -> GregorianDateInner {
-        GregorianDateInner(Iso.from_rata_die(rd))
+        GregorianDateInner(AbstractGregorian(CommonEraYears).from_rata_die(rd))
     }
 
     fn to_rata_die(&self, date: &GregorianDateInner) -> RataDie {
-        Iso.to_rata_die(&date.0)
+        AbstractGregorian(CommonEraYears).to_rata_die(&date.0)
+    }
+
+    fn months_in_year(&self, date: &GregorianDateInner) -> u8 {
+        AbstractGregorian(CommonEraYears).months_in_year(&date.0)
+    }
+
+    fn days_in_year(&self, date: &GregorianDateInner) -> u16 {
+        AbstractGregorian(CommonEraYears).days_in_year(&date.0)
+    }
+
+    fn days_in_month(&self, date: &GregorianDateInner) -> u8 {
+        AbstractGregorian(CommonEraYears).days_in_month(&date.0)
+    }
+
+    fn is_in_leap_year(&self, date: &GregorianDateInner) -> bool {
+        AbstractGregorian(CommonEraYears).is_in_leap_year(&date.0)
     }
 
     fn year_info(&self, date: &GregorianDateInner) -> EraYear {
-        era_year(Iso.year_info(&date.0).extended_year)
+        AbstractGregorian(CommonEraYears).year_info(&date.0)
+    }
+
+    fn extended_year(&self, date: &GregorianDateInner) -> i32 {
+        AbstractGregorian(CommonEraYears).extended_year(&date.0)
     }
 
     fn month(&self, date: &GregorianDateInner) -> MonthInfo {
-        Iso.month(&date.0)
+        AbstractGregorian(CommonEraYears).month(&date.0)
     }
 
     fn day_of_month(&self, date: &GregorianDateInner) -> DayOfMonth {
-        Iso.day_of_month(&date.0)
+        AbstractGregorian(CommonEraYears).day_of_month(&date.0)
+    }
+
+    fn day_of_year(&self, date: &GregorianDateInner) -> DayOfYear {
+        AbstractGregorian(CommonEraYears).day_of_year(&date.0)
+    }
+
+    fn add(
+        &self,
+        date: &GregorianDateInner,
+        duration: DateDuration,
+        options: DateAddOptions,
+    ) -> Result<GregorianDateInner, DateAddError> {
+        Ok(GregorianDateInner(AbstractGregorian(CommonEraYears).add(&date.0, duration, options)?))
     }
 
     fn until(
@@ -108,14 +215,50 @@ impl Calendar for Gregorian {
         date2: &GregorianDateInner,
         options: DateDifferenceOptions,
     ) -> DateDuration {
-        Iso.until(&date1.0, &date2.0, options)
+        AbstractGregorian(CommonEraYears).until(&date1.0, &date2.0, options)
     }
 
-    ghost lawful = { λ _. gregorian_list-lawful };
+    fn until_counted<L: Ledger>(
+        &self,
+        date1: &GregorianDateInner,
+        date2: &GregorianDateInner,
+        options: DateDifferenceOptions,
+        steps: &mut Steps<L>,
+    ) -> DateDuration {
+        AbstractGregorian(CommonEraYears).until_counted(&date1.0, &date2.0, options, steps)
+    }
 
-    ghost dated = { λ _ d h. gregorian_belongs-dated d h };
+    fn check_date_compatibility(&self, _other: &Self) -> Result<(), Infallible> {
+        Ok(())
+    }
 
-    ghost named = { λ _ t. gregorian_year_info-named t };
+    fn calendar_algorithm(&self) -> Option<CalendarAlgorithm> {
+        AbstractGregorian(CommonEraYears).calendar_algorithm()
+    }
+
+    fn debug_name(&self) -> &'static str {
+        AbstractGregorian(CommonEraYears).debug_name()
+    }
+
+    ghost lawful = { λ _. offset_list-lawful (pos 0) };
+
+    ghost dated = { λ _ d h. packed-dated (pos 0) d.0.packed h };
+
+    ghost named = { λ _ t. common_era-named t };
+
+    ghost equal_days = { λ _ a b h k. packed-equal (pos 0) a.0.packed b.0.packed h k };
+
+    ghost ordered_days = { λ _ a b h k. ap Some (packed-ordered (pos 0) a.0.packed b.0.packed h k) };
+
+    ghost compatible_itself = { λ _. refl };
+
+    ghost compatible_back = { λ _ _ h. h };
+
+    ghost compatible_on = { λ _ _ _ h k. k };
+
+    ghost shared = { λ _ _ _ h k. k };
+
+    ghost shared_day = { λ _ _ _ h k. refl };
 }
 
 impl AsCalendar for Gregorian {

@@ -3,4 +3,4 @@
 
 mod gregorian_calendar;
 
-pub use gregorian_calendar::{Gregorian, GregorianDateInner};
+pub use gregorian_calendar::{CommonEraYears, Gregorian, GregorianDateInner};

@@ -1,10 +1,10 @@
 //! Years in their eras, and known days from published conversion tables.
 
 ghost use Rattle.cal_types.specs.Bag.{bag_of};
-ghost use Rattle.cal_base.specs.Conditions.{IsPlain, IsRejecting};
+ghost use Rattle.cal_model.specs.Resolving.{IsPlain};
 
 use super::*;
-use cal_types::{DateDurationUnit, Month};
+use cal_types::DateDurationUnit;
 
 /// The options under which a fault is an error.
 const REJECT: DateFromFieldsOptions = DateFromFieldsOptions {
@@ -84,7 +84,7 @@ fn known_days_have_known_dates(rt: HostRuntime) {
 }
 
 #[test]
-fn difference_is_in_days(rt: HostRuntime) {
+fn days_back_are_counted(rt: HostRuntime) {
     let days = DateDifferenceOptions {
         largest_unit: Some(DateDurationUnit::Days),
     };
@@ -93,4 +93,31 @@ fn difference_is_in_days(rt: HostRuntime) {
     let between = Gregorian.until(&from, &to, days);
     assert_eq!(rt; (between.is_negative, between.days), (true, 2616));
     assert!(rt; to < from);
+}
+
+#[test]
+fn a_date_is_made_compared_and_added_to(rt: HostRuntime) {
+    let made = Gregorian.new_date(YearInput::Extended(2020), Month::new(2), 29);
+    let leap_day = Gregorian.from_rata_die(RataDie::new(737484));
+    assert_eq!(rt; made, Ok(leap_day));
+    assert!(rt; Gregorian.owns(&leap_day));
+    assert!(rt; Gregorian.is_in_leap_year(&leap_day));
+    let year = DateDuration {
+        is_negative: false,
+        years: 1,
+        months: 0,
+        weeks: 0,
+        days: 0,
+    };
+    let last = Gregorian.from_rata_die(RataDie::new(737849));
+    let constrained = Gregorian.add(&leap_day, year, DateAddOptions::default());
+    assert_eq!(rt; constrained, Ok(last));
+    let months = DateDifferenceOptions {
+        largest_unit: Some(DateDurationUnit::Months),
+    };
+    let between = Gregorian.until(&leap_day, &last, months);
+    assert_eq!(rt; (between.months, between.days), (11, 30));
+    let algorithm = Gregorian.calendar_algorithm();
+    assert_eq!(rt; algorithm, Some(CalendarAlgorithm::Gregory));
+    assert_eq!(rt; Gregorian.debug_name(), "Gregorian");
 }

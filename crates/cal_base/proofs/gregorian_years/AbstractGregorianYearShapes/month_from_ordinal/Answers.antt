@@ -1,5 +1,5 @@
 use Rattle.std.proofs.Common.{◌≤◌, ◌∙◌, sym, arith}
-use Rattle.cal_base.specs.IsoLaws.{plain_month-small}
+use Rattle.cal_base.specs.GregorianLaws.{plain_month-small}
 use Rattle.cal_base.specs.OffsetList.{extended_year_from}
 use Rattle.cal_base.specs.OffsetListLaws.{month_count-offset}
 use Rattle.cal_base.proofs.OffsetYears.{month_at-offset}

@@ -1,0 +1,34 @@
+-- A calendar of Gregorian years that are counted from a year of their own, with its eras.
+use Rattle.std.specs.Prelude.{Bool, ℤ, ◌+ℤ◌, ◌-ℤ◌}
+use Rattle.cal_types.specs.declared.month_info.LeapStatus.TheVariants.{Normal}
+use Rattle.cal_types.specs.declared.year.EraYear.{EraYear}
+use Rattle.cal_types.specs.declared.year.YearInfo.TheVariants.{Era}
+use Rattle.cal_days.specs.Gregorian.{gregorian_leap}
+use Rattle.cal_model.specs.CalendarList.{Date, date, month_at, is_valid_date}
+use Rattle.cal_model.specs.CalendarSystem.{CalendarSystem}
+use Rattle.cal_base.specs.GregorianList.{gregorian_list}
+use Rattle.cal_base.specs.OffsetList.{offset_list}
+use Rattle.cal_base.specs.declared.iso_year.PackedIsoYear.{PackedIsoYear}
+
+-- no month is a leap month; adding tests its limit on the ISO year
+abbrev pub offset_system : ℤ → (Date → EraYear) → CalendarSystem
+offset_system offset era_year = record {
+  list = offset_list offset;
+  is_leap_year = λ y. gregorian_leap (y +ℤ offset);
+  year_info = λ t. Era (era_year t);
+  leap_status = λ _ _. Normal;
+  formatted_month = month_at (offset_list offset);
+  year_shift = offset;
+}
+
+-- a packed date, in ISO years
+abbrev pub packed_date : PackedIsoYear → Date
+packed_date p = date p.year.number p.month p.day
+
+-- the same, in extended years
+abbrev pub offset_date : ℤ → PackedIsoYear → Date
+offset_date offset p = date (p.year.number -ℤ offset) p.month p.day
+
+-- it is a date of the ISO years, and its day number is in the valid range
+abbrev pub packed_belongs : PackedIsoYear → Bool
+packed_belongs p = is_valid_date gregorian_list (packed_date p)

@@ -1,0 +1,30 @@
+//! Pointers to calendars.
+
+ghost use Rattle.std.specs.Prelude.{◌≡◌};
+
+use crate::calendars::AsCalendar;
+use std::ops::Deref;
+
+/// A calendar that is borrowed.
+#[derive(Clone, Copy, PartialEq, Eq, Debug)]
+pub struct Ref<'a, C>(pub &'a C);
+
+impl<'a, C> Deref for Ref<'a, C> {
+    type Target = C;
+
+    ghost deref_gives = { λ r x. x ≡ r.0.now };
+
+    fn deref(&self) -> &C {
+        self.0
+    }
+}
+
+impl<'a, C: AsCalendar> AsCalendar for Ref<'a, C> {
+    type Calendar = C::Calendar;
+
+    ghost cal_of = { λ r. C.cal_of r.0.now };
+
+    fn as_calendar(&self) -> &C::Calendar {
+        self.0.as_calendar()
+    }
+}
