@@ -14,6 +14,7 @@ use Rattle.cal_days.proofs.JulianLemmas.{julian_start-next, julian_start-bounds}
 use Rattle.cal_types.specs.Month.{MonthParts, month_rank}
 use Rattle.cal_types.specs.declared.options.Overflow.TheVariants.{Constrain}
 use Rattle.cal_model.specs.CalendarList.{Entry, no_entry, days_of, Date, days_before, month_length, month_count, month_at, month_number, year_length, start_of_year, day_number, place_of, HasPlace, IsDate, IsValidDate, IsLawful}
+use Rattle.cal_model.proofs.DateTests.{same_truth}
 use Rattle.cal_model.proofs.ListLemmas.{start_of_year-unique, date-in_year, spot-own}
 use Rattle.cal_base.specs.GregorianList.{gregorian_list, gregorian_months, is_plain_month}
 use Rattle.cal_base.specs.GregorianLaws.{gregorian_list-lawful, month_at-gregorian, month_count-gregorian, place_of-kind}
@@ -28,11 +29,6 @@ pub gregorian_leap-like : (leap : Bool) → gregorian_leap (gregorian_year_like 
 unfolding floor_mod
 gregorian_leap-like true = refl
 gregorian_leap-like false = refl
-
-same_truth : (a b : Bool) → IsTrue a ↔ IsTrue b → b ≡ a
-same_truth true b h = h.0 refl
-same_truth false true h = sym (h.1 refl)
-same_truth false false h = refl
 
 -- what the test of a leap year tells
 pub leap_is : (r : Bool) (y z : ℤ) → z ≡ y → IsTrue r ↔ IsTrue (julian_leap z) → julian_leap y ≡ r

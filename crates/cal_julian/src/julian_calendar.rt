@@ -1,173 +1,224 @@
-//! The Julian calendar (Reingold and Dershowitz, Calendrical Calculations, chapter 3).
+//! The Julian calendar as a calendar, with its eras.
 
-ghost use Rattle.std.specs.Prelude.{◌≡◌, true, if◌then◌else◌, Result, Ok, Err};
-ghost use Rattle.cal_types.specs.MonthParts.{month_parts};
-ghost use Rattle.cal_base.specs.GregorianList.{is_plain_month};
+ghost use Rattle.std.specs.Prelude.{◌≡◌};
+ghost use Rattle.cal_days.specs.Day.{IsFieldYear};
+ghost use Rattle.cal_julian.specs.JulianSystem.{julian_era_year};
 
-use cal_arith::{DateFieldsResolver, PackWithMD, Steps, YearShapes, Years};
-use cal_base::gregorian_months::{days_before_month, days_in_month};
-use cal_days::{RataDie, julian};
-use cal_types::{Month, MonthError, Overflow};
+use crate::julian_years::Julian;
+use cal_arith::{ArithmeticDate, Steps};
+use cal_base::scaffold::UnstableSealed;
+use cal_base::{AsCalendar, Calendar};
+use cal_days::RataDie;
+use cal_types::{
+    CalendarAlgorithm, DateAddError, DateAddOptions, DateDifferenceOptions, DateDuration,
+    DateFields, DateFromFieldsError, DateFromFieldsOptions, DateNewError, DayOfMonth, DayOfYear,
+    EraYear, LeapStatus, Month, MonthInfo, TinyAsciiStr, YearAmbiguity, YearInput,
+};
+use std::convert::Infallible;
 use std::sync::ledger::Ledger;
 
-/// The Julian calendar, with astronomical year numbers: year 0 is 1 BCE.
-///
-/// It has the months of the Gregorian calendar, and every fourth year is a leap year, the centuries too. It
-/// is proleptic: the rule holds for the years before 8 CE as well.
-#[derive(Clone, Copy, Debug, Default, PartialEq, Eq, PartialOrd, Ord, Hash)]
-pub struct Julian;
-
-impl Julian {
-    /// The Julian calendar.
-    pub fn new() -> Julian {
-        Julian
-    }
-}
-
-/// A year of the Julian calendar, by its extended year.
+/// A date of the Julian calendar: its year, its month and its day.
 #[derive(Clone, Copy, Debug, PartialEq, Eq, PartialOrd, Ord, Hash)]
-pub struct JulianYear {
-    extended_year: i32,
-}
+pub struct JulianDateInner(ArithmeticDate<Julian>);
 
-/// A year of the Julian calendar, the place of a month in it, and a day of that month, both from 1.
-#[derive(Clone, Copy, Debug)]
-pub struct PackedJulianDate {
-    year: JulianYear,
-    month: u8,
-    day: u8,
-}
-
-/// Whether a month is a plain month from 1 to 12.
-fn is_julian_month(month: Month) -> bool
-    ensures { result ≡ is_plain_month 12 (month_parts month) }
+/// An extended year in its era: `ce`, or `bce` before year 1 (CLDR, UTS 35).
+fn era_year(year: i32) -> EraYear
+    requires { IsFieldYear year }
+    ensures { result ≡ julian_era_year year }
 {
-    !month.is_leap() && 1 <= month.number() && month.number() <= 12
-}
-
-impl PackWithMD for JulianYear {
-    type Packed = PackedJulianDate;
-
-    ghost stored = { λ y. y.extended_year };
-
-    ghost year_in = { λ p. p.year };
-
-    ghost month_in = { λ p. p.month };
-
-    ghost day_in = { λ p. p.day };
-
-    fn pack(self, month: u8, day: u8) -> PackedJulianDate {
-        PackedJulianDate {
-            year: self,
-            month,
-            day,
+    if year < 1 {
+        EraYear {
+            year: 1 - year,
+            extended_year: year,
+            era: TinyAsciiStr::of_text(b"bce"),
+            era_index: Some(0),
+            ambiguity: YearAmbiguity::EraAndCenturyRequired,
+        }
+    } else {
+        EraYear {
+            year,
+            extended_year: year,
+            era: TinyAsciiStr::of_text(b"ce"),
+            era_index: Some(1),
+            ambiguity: YearAmbiguity::CenturyRequired,
         }
     }
-
-    fn unpack_year(packed: PackedJulianDate) -> JulianYear {
-        packed.year
-    }
-
-    fn unpack_month(packed: PackedJulianDate) -> u8 {
-        packed.month
-    }
-
-    fn unpack_day(packed: PackedJulianDate) -> u8 {
-        packed.day
-    }
 }
 
-impl YearShapes for Julian {
-    ghost use Rattle.std.specs.Prelude.{refl, pos};
-    ghost use Rattle.cal_julian.specs.JulianList.{julian_list};
-    ghost use Rattle.cal_julian.specs.JulianLaws.{julian_list-lawful, stored-extended, day_number-near, years-ranged, months-apart, days-covered};
+impl UnstableSealed for Julian {}
 
-    type YearInfo = JulianYear;
+impl Calendar for Julian {
+    ghost use Rattle.std.specs.Prelude.{true, false, refl, codes, None, Some};
+    ghost use Rattle.std.proofs.Common.{ap};
+    ghost use Rattle.cal_julian.specs.JulianSystem.{julian_system, julian_date, julian_belongs};
+    ghost use Rattle.cal_julian.specs.JulianLaws.{julian_list-lawful};
+    ghost use Rattle.cal_julian.specs.JulianSystemLaws.{julian_belongs-dated, julian_year_info-named, julian_dates-equal, julian_dates-ordered};
 
-    ghost list = { λ _. julian_list };
+    type DateInner = JulianDateInner;
 
-    ghost year_of = { λ _ y. record { extended_year = y } };
+    type Year = EraYear;
 
-    ghost extended = { λ _ y. y.extended_year };
+    type DateCompatibilityError = Infallible;
 
-    ghost offset = { λ _. pos 0 };
+    ghost system = { λ _. julian_system };
 
-    fn year_counted<L: Ledger>(&self, extended_year: i32, steps: &mut Steps<L>) -> JulianYear {
-        steps.tick();
-        JulianYear { extended_year }
+    ghost date_of = { λ _ d. julian_date d };
+
+    ghost belongs = { λ _ d. julian_belongs d };
+
+    ghost compatible = { λ _ _. true };
+
+    ghost is_cheap = { λ _. false };
+
+    ghost algorithm = { λ _. None };
+
+    ghost name = { λ _. codes "Julian" };
+
+    fn owns(&self, date: &JulianDateInner) -> bool {
+        if !date.0.year().can_be_named() {
+            return false;
+        }
+        date.0.is_date_of(self)
     }
 
-    fn extended_from_year_info(&self, year: JulianYear) -> i32 {
-        year.extended_year
-    }
-
-    fn months_in_provided_year(&self, _year: JulianYear) -> u8 {
-        12
-    }
-
-    fn days_in_provided_month(&self, year: JulianYear, month: u8) -> u8 {
-        days_in_month(julian::is_leap_year(year.extended_year), month)
-    }
-
-    fn to_rata_die_inner(&self, year: JulianYear, month: u8, day: u8) -> RataDie {
-        let before = days_before_month(julian::is_leap_year(year.extended_year), month);
-        let start = julian::year_start(year.extended_year).to_i64_date();
-        RataDie::new(start + i64::from(before) + i64::from(day) - 1)
-    }
-
-    fn min_months_from(&self, _start: JulianYear, years: i32) -> i32 {
-        12 * years
-    }
-
-    fn ordinal_from_month(
+    fn new_date(
         &self,
-        _year: JulianYear,
+        year: YearInput<'_>,
         month: Month,
-        _overflow: Overflow,
-    ) -> Result<u8, MonthError> {
-        if is_julian_month(month) {
-            Ok(month.number())
-        } else {
-            Err(MonthError::NotInCalendar)
-        }
+        day: u8,
+    ) -> Result<JulianDateInner, DateNewError> {
+        Ok(JulianDateInner(ArithmeticDate::<Julian>::from_input_year_month_code_day(
+            year, month, day, self,
+        )?))
     }
 
-    fn month_from_ordinal(&self, _year: JulianYear, ordinal_month: u8) -> Month {
-        Month::new(ordinal_month)
+    fn from_fields(
+        &self,
+        fields: DateFields<'_>,
+        options: DateFromFieldsOptions,
+    ) -> Result<JulianDateInner, DateFromFieldsError> {
+        Ok(JulianDateInner(ArithmeticDate::<Julian>::from_fields(fields, options, self)?))
     }
 
-    ghost numbered = { λ s y h. refl };
+    fn has_cheap_iso_conversion(&self) -> bool {
+        false
+    }
 
-    ghost lawful = { λ s. julian_list-lawful };
+    fn from_rata_die(&self, rd: RataDie) -> JulianDateInner {
+        JulianDateInner(ArithmeticDate::<Julian>::from_rata_die(rd, self))
+    }
 
-    ghost equal = { λ a b. refl };
+    fn to_rata_die(&self, date: &JulianDateInner) -> RataDie {
+        date.0.to_rata_die(self)
+    }
 
-    ghost ordered = { λ a b. refl };
+    fn months_in_year(&self, date: &JulianDateInner) -> u8 {
+        date.0.months_in_year(self)
+    }
 
-    ghost stored_from = { λ s y h. stored-extended y.extended_year };
+    fn days_in_year(&self, date: &JulianDateInner) -> u16 {
+        date.0.days_in_year(self)
+    }
 
-    ghost near = { λ s t. day_number-near t };
+    fn days_in_month(&self, date: &JulianDateInner) -> u8 {
+        date.0.days_in_month(self)
+    }
 
-    ghost ranged = { λ s t. years-ranged t };
+    fn is_in_leap_year(&self, date: &JulianDateInner) -> bool {
+        date.0.year().is_leap()
+    }
 
-    ghost apart = { λ s t u. months-apart t u };
+    fn year_info(&self, date: &JulianDateInner) -> EraYear {
+        era_year(date.0.extended_year(self))
+    }
 
-    ghost covered = { λ s t. days-covered t };
+    fn extended_year(&self, date: &JulianDateInner) -> i32 {
+        date.0.extended_year(self)
+    }
+
+    fn month(&self, date: &JulianDateInner) -> MonthInfo {
+        let month = date.0.month_in_calendar(self);
+        MonthInfo::new(date.0.month(), month, LeapStatus::Normal, month)
+    }
+
+    fn day_of_month(&self, date: &JulianDateInner) -> DayOfMonth {
+        DayOfMonth(date.0.day())
+    }
+
+    fn day_of_year(&self, date: &JulianDateInner) -> DayOfYear {
+        DayOfYear(date.0.day_of_year(self))
+    }
+
+    fn add(
+        &self,
+        date: &JulianDateInner,
+        duration: DateDuration,
+        options: DateAddOptions,
+    ) -> Result<JulianDateInner, DateAddError> {
+        Ok(JulianDateInner(date.0.added(duration, self, options)?))
+    }
+
+    fn until(
+        &self,
+        date1: &JulianDateInner,
+        date2: &JulianDateInner,
+        options: DateDifferenceOptions,
+    ) -> DateDuration {
+        date1.0.until(&date2.0, self, options)
+    }
+
+    fn until_counted<L: Ledger>(
+        &self,
+        date1: &JulianDateInner,
+        date2: &JulianDateInner,
+        options: DateDifferenceOptions,
+        steps: &mut Steps<L>,
+    ) -> DateDuration {
+        date1.0.until_counted(&date2.0, self, options, steps)
+    }
+
+    fn check_date_compatibility(&self, _other: &Self) -> Result<(), Infallible> {
+        Ok(())
+    }
+
+    fn calendar_algorithm(&self) -> Option<CalendarAlgorithm> {
+        None
+    }
+
+    fn debug_name(&self) -> &'static str {
+        "Julian"
+    }
+
+    ghost lawful = { λ _. julian_list-lawful };
+
+    ghost dated = { λ _ d h. julian_belongs-dated d h };
+
+    ghost named = { λ _ t. julian_year_info-named t };
+
+    ghost equal_days = { λ _ a b h k. julian_dates-equal a b h k };
+
+    ghost ordered_days = { λ _ a b h k. ap Some (julian_dates-ordered a b h k) };
+
+    ghost compatible_itself = { λ _. refl };
+
+    ghost compatible_back = { λ _ _ h. h };
+
+    ghost compatible_on = { λ _ _ _ h k. k };
+
+    ghost shared = { λ _ _ _ h k. k };
+
+    ghost shared_day = { λ _ _ _ h k. refl };
 }
 
-impl Years for Julian {
-    fn year_info_from_extended(&self, extended_year: i32) -> JulianYear {
-        JulianYear { extended_year }
-    }
+impl AsCalendar for Julian {
+    type Calendar = Julian;
 
-    fn year_containing_rd(&self, rd: RataDie) -> JulianYear {
-        JulianYear {
-            extended_year: julian::year_from_fixed(rd),
-        }
+    ghost cal_of = { λ c. c };
+
+    fn as_calendar(&self) -> &Julian {
+        self
     }
 }
-
-impl DateFieldsResolver for Julian {}
 
 #[cfg(test)]
 mod tests;
