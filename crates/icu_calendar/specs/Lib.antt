@@ -4,3 +4,4 @@ pub mod AnyOrder
 pub mod AnyOrderLaws
 pub mod Spans
 pub mod SpanAnswers
+pub mod Clamping

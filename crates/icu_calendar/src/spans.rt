@@ -1,21 +1,22 @@
 //! The difference of two bags of fields.
 
-ghost use Rattle.std.specs.Prelude.{IfOk};
+ghost use Rattle.std.specs.Prelude.{IfOk, Ok};
 ghost use Rattle.cal_types.specs.Bag.{bag_of};
-ghost use Rattle.cal_model.specs.Resolving.{overflow_of};
+ghost use Rattle.cal_model.specs.Resolving.{IsPlain, overflow_of};
+ghost use Rattle.cal_model.specs.Adding.{IsSum};
 ghost use Rattle.cal_model.specs.Difference.{largest_unit_of};
-ghost use Rattle.cal_base.specs.Conditions.{IsPlain, IsRejecting, IsInDays};
-ghost use Rattle.icu_calendar.specs.AnySystem.{any_system};
+ghost use Rattle.icu_calendar.specs.AnySystem.{any_system, any_date};
 ghost use Rattle.icu_calendar.specs.Spans.{IsSpan};
 ghost use Rattle.icu_calendar.specs.SpanAnswers.{span_answer, HasCalendars};
 
 use crate::any_calendars::AnyCalendar;
 use crate::dates::Date;
 use crate::span_parts::{BagSide, Span, SpanError};
-use cal_types::{DateDifferenceOptions, DateFields, DateFromFieldsOptions};
+use cal_types::{DateDifferenceOptions, DateFields, DateFromFieldsOptions, Overflow};
 
 /// The dates that two bags of fields name in a calendar, the same days in a second calendar, and the difference
-/// from the first date to the second.
+/// from the first date to the second, which leads back: added to the first date under
+/// [`Overflow::Constrain`], it gives the second.
 ///
 /// Where a bag names no date, the error has its side and its first fault; the first bag comes first.
 pub fn span(
@@ -28,9 +29,8 @@ pub fn span(
 ) -> Result<Span, SpanError>
     requires from { IsPlain (bag_of from) }
     requires to { IsPlain (bag_of to) }
-    requires options { IsRejecting options }
-    requires unit { IsInDays difference }
     ensures calendars { IfOk result (HasCalendars calendar shown) }
+    ensures leads_back { IfOk result (λ s. IsSum (any_system calendar).list (any_system calendar).year_shift (any_date s.from.inner) s.duration Overflow.Constrain (Ok (any_date s.to.inner))) }
     ensures spans { IsSpan (any_system calendar).list (any_system shown).list (bag_of from.entry) (bag_of to.entry) (overflow_of options.overflow) (largest_unit_of difference.largest_unit) (span_answer result) }
 {
     let first = match Date::try_from_fields(from, options, calendar) {
