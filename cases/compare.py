@@ -9,6 +9,7 @@ from pathlib import Path
 
 HERE = Path(__file__).resolve().parent
 PROGRAM = [str(HERE.parent / "calspan"), "span"]
+NAMES = ["first_path", "arithmetic"]
 DATE = r"-?\d+/[a-z]+\.-?\d+/M\d\dL?/\d\d@-?\d+"
 DURATION = r"-?P(0D|(\d+Y)?(\d+M)?(\d+W)?(\d+D)?)"
 CAUSE = r"(NotEnoughFields|TooManyFields|Overflow|InvalidEra|InconsistentYear|MonthCodeInvalidSyntax|MonthNotInCalendar" \
@@ -17,6 +18,16 @@ ANSWER = re.compile(
     rf"ok {DATE} {DATE} {DATE} {DATE} {DURATION}|err (from|to) {CAUSE}|err line (\d+) (long|unbuilt)".encode()
 )
 BROKEN_INPUTS = 3000
+CALENDARS = [b"iso", b"gregorian", b"julian"]
+UNITS = [b"years", b"months", b"weeks", b"days", b"none"]
+# What may stand as a word of a request, by its place: each word of the form, and a near miss of it.
+WORDS = {
+    1: [*CALENDARS, b"julia", b"Iso"],
+    2: [*CALENDARS, b"gregory", b""],
+    3: [*UNITS, b"year", b"hours", b"Days"],
+    4: [b"reject", b"none", b"years"],
+    5: [b"reject", b"none", b"rejects"],
+}
 
 
 def answers(data: bytes) -> tuple[int, list[bytes]]:
@@ -44,12 +55,21 @@ def compare(name: str) -> int:
     return len(got)
 
 
+def request_like(chance: random.Random, request: bytes) -> bytes:
+    """The request, with some of its words exchanged for others."""
+    words = request.split(b" ")
+    for at, choices in WORDS.items():
+        if chance.random() < 0.4:
+            words[at] = chance.choice(choices)
+    return b" ".join(words)
+
+
 def broken_input(chance: random.Random, requests: list[bytes]) -> bytes:
     if chance.random() < 0.3:
         return bytes(chance.choice(b"\r\n #=-0123456789spanio\x00\xff") for _ in range(chance.randrange(120)))
     pieces = []
     for _ in range(chance.randrange(1, 4)):
-        line = bytearray(chance.choice(requests))
+        line = bytearray(request_like(chance, chance.choice(requests)))
         for _ in range(chance.randrange(3)):
             at = chance.randrange(len(line))
             kind = chance.randrange(3)
@@ -91,9 +111,9 @@ def check_broken(chance: random.Random, requests: list[bytes]) -> None:
 
 
 def main() -> int:
-    count = sum(compare(path.stem) for path in sorted(HERE.glob("*.in")))
+    count = sum(compare(name) for name in NAMES)
     chance = random.Random(20260101)
-    requests = (HERE / "first_path.in").read_bytes().split(b"\n")[:-1]
+    requests = [line for name in NAMES for line in (HERE / f"{name}.in").read_bytes().split(b"\n")[:-1]]
     for _ in range(BROKEN_INPUTS):
         check_broken(chance, requests)
     print(f"cases: {count} answers agree, and {BROKEN_INPUTS} broken inputs are answered")

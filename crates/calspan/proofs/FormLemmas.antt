@@ -12,8 +12,7 @@ use Rattle.calspan.specs.Words.{int_of, byte_of}
 use Rattle.calspan.specs.Reading.{Read, next_word, and_then, keyed}
 use Rattle.cal_types.specs.declared.options.Overflow.TheVariants as on_overflow
 use Rattle.cal_types.specs.declared.options.MissingFieldsStrategy.TheVariants as on_missing
-use Rattle.cal_types.specs.declared.duration.DateDurationUnit.TheVariants.{Days}
-use Rattle.calspan.specs.Requests.{Request, Header, calendar_named, option_word, fixed_word, bag_read, header_read, request_read, request_of, at_end, plain_bag}
+use Rattle.calspan.specs.Requests.{Request, Header, calendar_named, unit_named, option_word, fixed_word, bag_read, header_read, request_read, request_of, at_end, plain_bag}
 use Rattle.calspan.specs.Forms.{BagTexts, Texts, bag_words, request_words, SaysBag, Says, IsRequest, RequestsHaveOneForm}
 
 -- a next word was read
@@ -125,7 +124,7 @@ pub record IsHeaderRead (words : List (List ℕ)) (h : Header) (rest : List (Lis
   pub form : words ≡ codes "span" ∷ calendar ∷ shown ∷ unit ∷ overflow ∷ missing_fields ∷ codes "from" ∷ rest
   pub says_calendar : calendar_named calendar ≡ Some h.calendar
   pub says_shown : calendar_named shown ≡ Some h.shown
-  pub says_unit : option_word (codes "days") Days unit ≡ Some h.unit
+  pub says_unit : unit_named unit ≡ Some h.unit
   pub says_overflow : option_word (codes "reject") on_overflow.Reject overflow ≡ Some h.overflow
   pub says_missing : option_word (codes "reject") on_missing.Reject missing_fields ≡ Some h.missing_fields
 
@@ -135,7 +134,7 @@ header_is words h rest e =
     let a = next_is (fixed_word (codes "span")) words _ (h, rest) e in
     let b = next_is calendar_named a.rest _ (h, rest) a.then in
     let c = next_is calendar_named b.rest _ (h, rest) b.then in
-    let d = next_is (option_word (codes "days") Days) c.rest _ (h, rest) c.then in
+    let d = next_is unit_named c.rest _ (h, rest) c.then in
     let f = next_is (option_word (codes "reject") on_overflow.Reject) d.rest _ (h, rest) d.then in
     let g = next_is (option_word (codes "reject") on_missing.Reject) f.rest _ (h, rest) f.then in
     let k = next_is (fixed_word (codes "from")) g.rest _ (h, rest) g.then in
@@ -198,7 +197,7 @@ unfolding header_read
 header_reads t r rest s =
     next_reads calendar_named t.calendar (t.shown ∷ t.unit ∷ t.overflow ∷ t.missing_fields ∷ codes "from" ∷ rest) _ r.calendar s.calendar
     ∙ (next_reads calendar_named t.shown (t.unit ∷ t.overflow ∷ t.missing_fields ∷ codes "from" ∷ rest) _ r.shown s.shown
-    ∙ (next_reads (option_word (codes "days") Days) t.unit (t.overflow ∷ t.missing_fields ∷ codes "from" ∷ rest) _ r.unit s.unit
+    ∙ (next_reads unit_named t.unit (t.overflow ∷ t.missing_fields ∷ codes "from" ∷ rest) _ r.unit s.unit
     ∙ (next_reads (option_word (codes "reject") on_overflow.Reject) t.overflow (t.missing_fields ∷ codes "from" ∷ rest) _ r.overflow s.overflow
     ∙ (next_reads (option_word (codes "reject") on_missing.Reject) t.missing_fields (codes "from" ∷ rest) _ r.missing_fields s.missing_fields))))
 

@@ -4,9 +4,8 @@ use Rattle.cal_types.specs.Month.{MonthParts, month_read}
 use Rattle.cal_types.specs.Bag.{Bag}
 use Rattle.cal_types.specs.declared.options.Overflow.TheVariants as overflow
 use Rattle.cal_types.specs.declared.options.MissingFieldsStrategy.TheVariants as missing
-use Rattle.cal_types.specs.declared.duration.DateDurationUnit.TheVariants.{Days}
 use Rattle.calspan.specs.Words.{int_of, byte_of}
-use Rattle.calspan.specs.Requests.{Request, plain_bag, calendar_named, option_word, request_read}
+use Rattle.calspan.specs.Requests.{Request, plain_bag, calendar_named, unit_named, option_word, request_read}
 
 -- what stands for a bag's fields
 pub record BagTexts : Type 0 where
@@ -46,7 +45,7 @@ pub record SaysBag (t : BagTexts) (bag : Bag) : Type 0 where
 pub record Says (t : Texts) (r : Request) : Type 0 where
   pub calendar : calendar_named t.calendar ≡ Some r.calendar
   pub shown : calendar_named t.shown ≡ Some r.shown
-  pub unit : option_word (codes "days") Days t.unit ≡ Some r.unit
+  pub unit : unit_named t.unit ≡ Some r.unit
   pub overflow : option_word (codes "reject") overflow.Reject t.overflow ≡ Some r.overflow
   pub missing_fields : option_word (codes "reject") missing.Reject t.missing_fields ≡ Some r.missing_fields
   pub from : SaysBag t.from r.from

@@ -1,6 +1,6 @@
 -- What the program reads of a request.
 use Rattle.cal_types.specs.Bag.{bag_of}
-use Rattle.cal_base.specs.Conditions.{IsPlain, IsRejecting, IsInDays}
+use Rattle.cal_model.specs.Resolving.{IsPlain}
 use Rattle.calspan.specs.Requests as requests
 use Rattle.calspan.specs.declared.request.Header.{Header}
 use Rattle.calspan.specs.declared.request.Request.{Request}
@@ -13,13 +13,7 @@ header_said h = record { calendar = h.calendar; shown = h.shown; unit = h.differ
 abbrev pub request_said : Request → requests.Request
 request_said r = requests.request_of (header_said r.header) (bag_of r.from) (bag_of r.to)
 
--- both options are Reject or left out, and the largest unit is Days or left out
-pub record IsHeld (h : Header) : Type 0 where
-  pub options : IsRejecting h.options
-  pub unit : IsInDays h.difference
-
 -- a request that can be answered
 pub record IsAnswerable (r : Request) : Type 0 where
-  pub header : IsHeld r.header
   pub from : IsPlain (bag_of r.from)
   pub to : IsPlain (bag_of r.to)

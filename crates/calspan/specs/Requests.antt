@@ -7,7 +7,7 @@ use Rattle.cal_types.specs.declared.options.Overflow.TheVariants as overflow
 use Rattle.cal_types.specs.declared.options.MissingFieldsStrategy.{MissingFieldsStrategy}
 use Rattle.cal_types.specs.declared.options.MissingFieldsStrategy.TheVariants as missing
 use Rattle.cal_types.specs.declared.duration.DateDurationUnit.{DateDurationUnit}
-use Rattle.cal_types.specs.declared.duration.DateDurationUnit.TheVariants.{Days}
+use Rattle.cal_types.specs.declared.duration.DateDurationUnit.TheVariants.{Years, Months, Weeks, Days}
 use Rattle.icu_calendar.specs.declared.any_calendars.AnyCalendar.{AnyCalendar}
 use Rattle.icu_calendar.specs.declared.any_calendars.AnyCalendar.TheVariants as calendar
 use Rattle.calspan.specs.Command.{is_text}
@@ -27,7 +27,17 @@ pub record Request : Type 0 where
 abbrev pub calendar_named : List ℕ → Option AnyCalendar
 calendar_named word =
     if is_text word (codes "iso") then Some (calendar.Iso (record {}))
-    else (if is_text word (codes "gregorian") then Some (calendar.Gregorian (record {})) else None)
+    else (if is_text word (codes "gregorian") then Some (calendar.Gregorian (record {}))
+    else (if is_text word (codes "julian") then Some (calendar.Julian (record {})) else None))
+
+-- the largest unit of a word; `none` where it is left out
+abbrev pub unit_named : List ℕ → Option (Option DateDurationUnit)
+unit_named word =
+    if is_text word (codes "years") then Some (Some Years)
+    else (if is_text word (codes "months") then Some (Some Months)
+    else (if is_text word (codes "weeks") then Some (Some Weeks)
+    else (if is_text word (codes "days") then Some (Some Days)
+    else (if is_text word (codes "none") then Some None else None))))
 
 -- a word for an option's value, or `none` where the option is left out
 abbrev pub option_word : {T : Type 0} → List ℕ → T → List ℕ → Option (Option T)
@@ -68,7 +78,7 @@ header_read words =
     and_then (next_word (fixed_word (codes "span")) words) (λ _ words.
     and_then (next_word calendar_named words) (λ calendar words.
     and_then (next_word calendar_named words) (λ shown words.
-    and_then (next_word (option_word (codes "days") Days) words) (λ unit words.
+    and_then (next_word unit_named words) (λ unit words.
     and_then (next_word (option_word (codes "reject") overflow.Reject) words) (λ overflow words.
     and_then (next_word (option_word (codes "reject") missing.Reject) words) (λ missing_fields words.
     and_then (next_word (fixed_word (codes "from")) words) (λ _ words.

@@ -1,20 +1,20 @@
 //! What a request line asks.
-ghost use Rattle.std.specs.Prelude.{◌≡◌, ℕ, List, true, false, codes, drop, length, nat_eq, Some, IfSome, OnSome, MatchOption};
+ghost use Rattle.std.specs.Prelude.{◌≡◌, ℕ, List, true, false, codes, drop, length, nat_eq, Some, IfSome, MatchOption};
 ghost use Rattle.std.specs.List.{starts_with};
 ghost use Rattle.std.specs.Option.{option_map};
 ghost use Rattle.cal_types.specs.Month.{month_read};
 ghost use Rattle.cal_types.specs.MonthParts.{month_parts};
 ghost use Rattle.cal_types.specs.Bag.{bag_of};
-ghost use Rattle.cal_types.specs.declared.duration.DateDurationUnit.TheVariants.{Days};
-ghost use Rattle.cal_base.specs.Conditions.{IsPlain};
+ghost use Rattle.cal_model.specs.Resolving.{IsPlain};
 ghost use Rattle.calspan.specs.Words.{int_of, byte_of, words_of};
 ghost use Rattle.calspan.specs.WordsLeft.{words_left};
 ghost use Rattle.calspan.specs.Reading.{IsReading, next_word, keyed};
-ghost use Rattle.calspan.specs.Requests.{calendar_named, option_word, fixed_word, bag_read, header_read, request_read};
+ghost use Rattle.calspan.specs.Requests.{calendar_named, unit_named, option_word, fixed_word, bag_read, header_read, request_read};
 
 use crate::words::{Words, byte, int};
 use cal_base::Iso;
 use cal_gregory::Gregorian;
+use cal_julian::Julian;
 use cal_types::{
     DateDifferenceOptions, DateDurationUnit, DateFields, DateFromFieldsOptions,
     MissingFieldsStrategy, Month, Overflow,
@@ -45,7 +45,7 @@ pub struct Request<'a> {
     pub to: DateFields<'a>,
 }
 
-ghost use Rattle.calspan.specs.RequestSaid.{header_said, request_said, IsHeld, IsAnswerable};
+ghost use Rattle.calspan.specs.RequestSaid.{header_said, request_said, IsAnswerable};
 
 // What follows a key.
 fn after_key<'a>(word: &'a [u8], key: &[u8]) -> Option<&'a [u8]>
@@ -134,15 +134,18 @@ fn next_calendar(words: &mut Words) -> Option<AnyCalendar>
     match words.next() {
         Some(word) if word == b"iso".as_slice() => Some(AnyCalendar::Iso(Iso)),
         Some(word) if word == b"gregorian".as_slice() => Some(AnyCalendar::Gregorian(Gregorian)),
+        Some(word) if word == b"julian".as_slice() => Some(AnyCalendar::Julian(Julian)),
         _ => None,
     }
 }
 
 fn next_unit(words: &mut Words) -> Option<Option<DateDurationUnit>>
-    ensures reads { IsReading (next_word (option_word (codes "days") Days) (words_left words.old)) result (words_left words.new) }
-    ensures days { IfSome result (λ unit. OnSome unit (unit ≡ Some Days)) }
+    ensures { IsReading (next_word unit_named (words_left words.old)) result (words_left words.new) }
 {
     match words.next() {
+        Some(word) if word == b"years".as_slice() => Some(Some(DateDurationUnit::Years)),
+        Some(word) if word == b"months".as_slice() => Some(Some(DateDurationUnit::Months)),
+        Some(word) if word == b"weeks".as_slice() => Some(Some(DateDurationUnit::Weeks)),
         Some(word) if word == b"days".as_slice() => Some(Some(DateDurationUnit::Days)),
         Some(word) if word == b"none".as_slice() => Some(None),
         _ => None,
@@ -150,8 +153,7 @@ fn next_unit(words: &mut Words) -> Option<Option<DateDurationUnit>>
 }
 
 fn next_overflow(words: &mut Words) -> Option<Option<Overflow>>
-    ensures reads { IsReading (next_word (option_word (codes "reject") Overflow.Reject) (words_left words.old)) result (words_left words.new) }
-    ensures rejects { IfSome result (λ overflow. OnSome overflow (overflow ≡ Some Overflow.Reject)) }
+    ensures { IsReading (next_word (option_word (codes "reject") Overflow.Reject) (words_left words.old)) result (words_left words.new) }
 {
     match words.next() {
         Some(word) if word == b"reject".as_slice() => Some(Some(Overflow::Reject)),
@@ -161,8 +163,7 @@ fn next_overflow(words: &mut Words) -> Option<Option<Overflow>>
 }
 
 fn next_missing_fields(words: &mut Words) -> Option<Option<MissingFieldsStrategy>>
-    ensures reads { IsReading (next_word (option_word (codes "reject") MissingFieldsStrategy.Reject) (words_left words.old)) result (words_left words.new) }
-    ensures rejects { IfSome result (λ missing. OnSome missing (missing ≡ Some MissingFieldsStrategy.Reject)) }
+    ensures { IsReading (next_word (option_word (codes "reject") MissingFieldsStrategy.Reject) (words_left words.old)) result (words_left words.new) }
 {
     match words.next() {
         Some(word) if word == b"reject".as_slice() => Some(Some(MissingFieldsStrategy::Reject)),
@@ -172,8 +173,7 @@ fn next_missing_fields(words: &mut Words) -> Option<Option<MissingFieldsStrategy
 }
 
 fn read_header(words: &mut Words) -> Option<Header>
-    ensures reads { IsReading (header_read (words_left words.old)) (option_map header_said result) (words_left words.new) }
-    ensures held { IfSome result IsHeld }
+    ensures { IsReading (header_read (words_left words.old)) (option_map header_said result) (words_left words.new) }
 {
     let Some(()) = next_is(words, b"span") else {
         return None;

@@ -2,40 +2,34 @@ use Rattle.std.proofs.Common.{refl}
 use Rattle.calspan.specs.Requests.{header_read}
 use Rattle.calspan.proofs.request.read_header.Goals as goal
 
-pub returns-in_default-clause-reads : goal.returns-in_default-clause-reads
+pub returns-in_default : goal.returns-in_default
 unfolding header_read
-returns-in_default-clause-reads c = rw (c.in_default.ensures) refl
+returns-in_default c = rw (c.in_default.ensures) refl
 
-pub returns-in_default-next_calendar-clause-reads : goal.returns-in_default-next_calendar-clause-reads
+pub returns-in_default-next_calendar : goal.returns-in_default-next_calendar
 unfolding header_read
-returns-in_default-next_calendar-clause-reads c = rw (c.in-Some.ensures, c.in_default-next_calendar.ensures) refl
+returns-in_default-next_calendar c = rw (c.in-Some.ensures, c.in_default-next_calendar.ensures) refl
 
-pub returns-in_default-next_calendar-2-clause-reads : goal.returns-in_default-next_calendar-2-clause-reads
+pub returns-in_default-next_calendar-2 : goal.returns-in_default-next_calendar-2
 unfolding header_read
-returns-in_default-next_calendar-2-clause-reads c = rw (c.in-Some.ensures, c.in-Some-next_calendar.ensures, c.in_default-next_calendar-2.ensures) refl
+returns-in_default-next_calendar-2 c = rw (c.in-Some.ensures, c.in-Some-next_calendar.ensures, c.in_default-next_calendar-2.ensures) refl
 
-pub returns-in_default-next_unit-clause-reads : goal.returns-in_default-next_unit-clause-reads
+pub returns-in_default-next_unit : goal.returns-in_default-next_unit
 unfolding header_read
-returns-in_default-next_unit-clause-reads c = rw (c.in-Some.ensures, c.in-Some-next_calendar.ensures, c.in-Some-next_calendar-2.ensures, c.in_default-next_unit.ensures.reads) refl
+returns-in_default-next_unit c = rw (c.in-Some.ensures, c.in-Some-next_calendar.ensures, c.in-Some-next_calendar-2.ensures, c.in_default-next_unit.ensures) refl
 
-pub returns-in_default-next_overflow-clause-reads : goal.returns-in_default-next_overflow-clause-reads
+pub returns-in_default-next_overflow : goal.returns-in_default-next_overflow
 unfolding header_read
-returns-in_default-next_overflow-clause-reads c = rw (c.in-Some.ensures, c.in-Some-next_calendar.ensures, c.in-Some-next_calendar-2.ensures, c.in-Some-next_unit.ensures.reads, c.in_default-next_overflow.ensures.reads) refl
+returns-in_default-next_overflow c = rw (c.in-Some.ensures, c.in-Some-next_calendar.ensures, c.in-Some-next_calendar-2.ensures, c.in-Some-next_unit.ensures, c.in_default-next_overflow.ensures) refl
 
-pub returns-in_default-next_missing_fields-clause-reads : goal.returns-in_default-next_missing_fields-clause-reads
+pub returns-in_default-next_missing_fields : goal.returns-in_default-next_missing_fields
 unfolding header_read
-returns-in_default-next_missing_fields-clause-reads c = rw (c.in-Some.ensures, c.in-Some-next_calendar.ensures, c.in-Some-next_calendar-2.ensures, c.in-Some-next_unit.ensures.reads, c.in-Some-next_overflow.ensures.reads, c.in_default-next_missing_fields.ensures.reads) refl
+returns-in_default-next_missing_fields c = rw (c.in-Some.ensures, c.in-Some-next_calendar.ensures, c.in-Some-next_calendar-2.ensures, c.in-Some-next_unit.ensures, c.in-Some-next_overflow.ensures, c.in_default-next_missing_fields.ensures) refl
 
-pub returns-in_default-next_is-clause-reads : goal.returns-in_default-next_is-clause-reads
+pub returns-in_default-next_is : goal.returns-in_default-next_is
 unfolding header_read
-returns-in_default-next_is-clause-reads c = rw (c.in-Some.ensures, c.in-Some-next_calendar.ensures, c.in-Some-next_calendar-2.ensures, c.in-Some-next_unit.ensures.reads, c.in-Some-next_overflow.ensures.reads, c.in-Some-next_missing_fields.ensures.reads, c.in_default-next_is.ensures) refl
+returns-in_default-next_is c = rw (c.in-Some.ensures, c.in-Some-next_calendar.ensures, c.in-Some-next_calendar-2.ensures, c.in-Some-next_unit.ensures, c.in-Some-next_overflow.ensures, c.in-Some-next_missing_fields.ensures, c.in_default-next_is.ensures) refl
 
-pub returns-clause-reads : goal.returns-clause-reads
+pub returns : goal.returns
 unfolding header_read
-returns-clause-reads c = rw (c.in-Some.ensures, c.in-Some-next_calendar.ensures, c.in-Some-next_calendar-2.ensures, c.in-Some-next_unit.ensures.reads, c.in-Some-next_overflow.ensures.reads, c.in-Some-next_missing_fields.ensures.reads, c.in-Some-next_is.ensures) refl
-
-pub returns-clause-held : goal.returns-clause-held
-returns-clause-held c = record {
-  options = record { overflow = c.in-Some-next_overflow.ensures.rejects; missing_fields = c.in-Some-next_missing_fields.ensures.rejects };
-  unit = c.in-Some-next_unit.ensures.days;
-}
+returns c = rw (c.in-Some.ensures, c.in-Some-next_calendar.ensures, c.in-Some-next_calendar-2.ensures, c.in-Some-next_unit.ensures, c.in-Some-next_overflow.ensures, c.in-Some-next_missing_fields.ensures, c.in-Some-next_is.ensures) refl
