@@ -1,0 +1,85 @@
+//! What the words of the command line ask for.
+
+/// What is done to each date.
+#[derive(Clone, Copy, Debug, PartialEq, Eq)]
+pub enum Operation {
+    /// From the day number to the year, the month and the day, and back to the day number.
+    Day,
+    /// The addition of a year.
+    AddYear,
+    /// The addition of a month.
+    AddMonth,
+    /// The addition of a day.
+    AddDay,
+    /// The difference in years to a date some centuries away.
+    Difference,
+}
+
+/// A calendar's name.
+#[derive(Clone, Copy, Debug, PartialEq, Eq)]
+pub enum CalendarName {
+    /// The ISO calendar.
+    Iso,
+    /// The Gregorian calendar.
+    Gregorian,
+    /// The Julian calendar.
+    Julian,
+}
+
+/// An operation, the calendar of its dates, and how often it is done.
+#[derive(Clone, Copy, Debug, PartialEq, Eq)]
+pub struct Work {
+    /// What is done to each date.
+    pub operation: Operation,
+    /// The calendar of the dates.
+    pub calendar: CalendarName,
+    /// How often it is done.
+    pub count: u32,
+}
+
+fn read_operation(word: &str) -> Option<Operation> {
+    match word {
+        "day" => Some(Operation::Day),
+        "year" => Some(Operation::AddYear),
+        "month" => Some(Operation::AddMonth),
+        "add-day" => Some(Operation::AddDay),
+        "difference" => Some(Operation::Difference),
+        _ => None,
+    }
+}
+
+fn read_calendar(word: &str) -> Option<CalendarName> {
+    match word {
+        "iso" => Some(CalendarName::Iso),
+        "gregorian" => Some(CalendarName::Gregorian),
+        "julian" => Some(CalendarName::Julian),
+        _ => None,
+    }
+}
+
+/// The number that a word of one to nine decimal digits spells.
+fn read_count(word: &[u8]) -> Option<u32> {
+    if word.is_empty() || word.len() > 9 {
+        return None;
+    }
+    let mut value = 0u32;
+    for byte in word {
+        if !byte.is_ascii_digit() {
+            return None;
+        }
+        value = value.wrapping_mul(10).wrapping_add(u32::from(*byte - b'0'));
+    }
+    Some(value)
+}
+
+/// The work that the words name: an operation, a calendar, and a count of one to nine digits.
+pub fn read_words(words: &[String]) -> Option<Work> {
+    match words {
+        [first, second, third] => Some(Work {
+            operation: read_operation(first.as_str())?,
+            calendar: read_calendar(second.as_str())?,
+            count: read_count(third.as_bytes())?,
+        }),
+        _ => None,
+    }
+}
