@@ -2,7 +2,7 @@
 
 ghost use Rattle.std.specs.Prelude.{◌≡◌, ◌+◌, ◌*◌, ◌≤◌, ◌+ℤ◌, ◌-ℤ◌, ◌≤ℤ◌, pos, neg_ℤ, true, false, IfSome, IfNone, IfOk};
 ghost use Rattle.cal_days.specs.Day.{IsBetween, IsFieldYear, is_field_year, is_valid_day};
-ghost use Rattle.cal_model.specs.CalendarList.{HasPlace, IsDate, day_number, date};
+ghost use Rattle.cal_model.specs.CalendarList.{HasPlace, IsDate, day_number, month_length, date};
 ghost use Rattle.cal_model.specs.Difference.{toward};
 ghost use Rattle.cal_model.specs.Adding.{is_addable, is_reject, IsValidOn, IsSumFromMonth, IsSum};
 ghost use Rattle.cal_arith.specs.Given.{IsGiven};
@@ -71,22 +71,49 @@ fn date_in_range<C: YearShapes>(
     }
 }
 
-/// The date so many days later, or earlier, where its day number is valid.
+/// The day of a month so many days later, or earlier, where the month has it.
+fn day_in_month(day: u8, last: u8, days: u32, back: bool) -> Option<u8>
+    requires { (1 ≤ day) × (day ≤ last) }
+    ensures { IfSome result (λ d. (1 ≤ d) × (d ≤ last) × (pos d ≡ pos day +ℤ toward back days)) }
+{
+    if days > 30 {
+        return None;
+    }
+    let count = days as u8;
+    if back {
+        if count < day { Some(day - count) } else { None }
+    } else if count <= last - day {
+        Some(day + count)
+    } else {
+        None
+    }
+}
+
+/// The date so many days later, or earlier, where its day number is valid. The length of the date's month is given.
 fn date_days_away<C: Years>(
     date: Ymd<C::YearInfo>,
+    last: u8,
     days: u32,
     back: bool,
     cal: &C,
 ) -> Result<Ymd<C::YearInfo>, DateAddError>
     requires year { IsGiven (C.extended cal.now) (C.year_of cal.now) date.year }
     requires date { IsDate (C.list cal.now) (date_of (C.extended cal.now) date) }
+    requires last { last ≡ month_length (C.list cal.now) (C.extended cal.now date.year) date.month }
     ensures on { IsValidOn (C.list cal.now) (day_number (C.list cal.now) (date_of (C.extended cal.now) date) +ℤ toward back days) (answer_of (C.extended cal.now) result) }
     ensures belongs { IfOk result (λ d. Belongs (C.list cal.now) (C.extended cal.now) (C.year_of cal.now) d) }
 {
-    if days == 0 {
-        return date_in_range(date, cal);
+    match day_in_month(date.day, last, days, back) {
+        Some(day) => {
+            let there = Ymd {
+                year: date.year,
+                month: date.month,
+                day,
+            };
+            date_in_range(there, cal)
+        }
+        None => valid_date(days_away(to_rata_die(date, cal), days, back), cal),
     }
-    valid_date(days_away(to_rata_die(date, cal), days, back), cal)
 }
 
 /// The year so many years later, or earlier.
@@ -184,6 +211,7 @@ fn sum_from_month<C: Years>(
     };
     date_days_away(
         there,
+        last,
         7 * duration.weeks + duration.days,
         duration.is_negative,
         cal,

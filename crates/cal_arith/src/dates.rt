@@ -57,8 +57,7 @@ pub(crate) fn from_rata_die<C: Years>(rd: RataDie, cal: &C) -> Ymd<C::YearInfo>
     ensures on { IsOn (C.list cal.now) rd (date_of (C.extended cal.now) result) }
     ensures belongs { Belongs (C.list cal.now) (C.extended cal.now) (C.year_of cal.now) result }
 {
-    let year = cal.year_containing_rd(rd);
-    let day_of_year = rd.since(cal.to_rata_die_inner(year, 1, 1)) as u16;
+    let (year, day_of_year) = cal.year_and_day(rd);
     let (month, day) = cal.month_and_day(year, day_of_year);
     Ymd { year, month, day }
 }

@@ -174,6 +174,18 @@ pub trait Years: YearShapes {
         ensures first { start_of_year (Self.list self.now) (Self.extended self.now result) ≤ℤ rd }
         ensures last { rd <ℤ (start_of_year (Self.list self.now) (Self.extended self.now result) +ℤ pos (year_length (Self.list self.now) (Self.extended self.now result))) };
 
+    /// The year that contains a valid day, and the day of that year, counted from 0.
+    fn year_and_day(&self, rd: RataDie) -> (Self::YearInfo, u16)
+        requires { IsValidDay rd }
+        ensures year { IsGiven (Self.extended self.now) (Self.year_of self.now) result.0 }
+        ensures within { result.1 < year_length (Self.list self.now) (Self.extended self.now result.0) }
+        ensures day { start_of_year (Self.list self.now) (Self.extended self.now result.0) +ℤ pos result.1 ≡ rd }
+    {
+        let year = self.year_containing_rd(rd);
+        let since = rd.since(self.to_rata_die_inner(year, 1, 1));
+        (year, since as u16)
+    }
+
     /// The place of the month and the day of the month of a day of a given year, which is counted from 0.
     fn month_and_day(&self, year: Self::YearInfo, day_of_year: u16) -> (u8, u8)
         requires year { IsGiven (Self.extended self.now) (Self.year_of self.now) year }

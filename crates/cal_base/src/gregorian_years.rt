@@ -148,6 +148,11 @@ impl<Y: GregorianYears> Years for AbstractGregorian<Y> {
         }
     }
 
+    fn year_and_day(&self, rd: RataDie) -> (IsoYear, u16) {
+        let (number, day_of_year) = gregorian::year_and_day_from_fixed(rd);
+        (IsoYear { number }, day_of_year)
+    }
+
     fn month_and_day(&self, year: IsoYear, day_of_year: u16) -> (u8, u8) {
         let leap = year.is_leap();
         let month = month_of_day(leap, day_of_year);

@@ -1,5 +1,5 @@
 -- The Gregorian rule: years join by the closed formula, and the formula is nearly linear.
-use Rattle.std.proofs.Common.{◌≡◌, ℕ, ◌+◌, ◌*◌, ◌≤◌, cond, nat_eq, arith, ℤ, pos, neg_ℤ, ◌+ℤ◌, ◌-ℤ◌, ◌*ℤ◌, ◌<ℤ◌, ◌≤ℤ◌}
+use Rattle.std.proofs.Common.{◌≡◌, ℕ, ◌+◌, ◌-◌, ◌*◌, ◌/◌, ◌<◌, ◌≤◌, cond, nat_eq, subst, arith, ℤ, pos, neg_ℤ, ◌+ℤ◌, ◌-ℤ◌, ◌*ℤ◌, ◌<ℤ◌, ◌≤ℤ◌}
 use Rattle.std.proofs.lemmas.Bool.Decides.{nat_tests}
 use Rattle.cal_days.specs.Day.{IsBetween, IsValidDay}
 use Rattle.cal_days.specs.Division.{floor_div, floor_mod}
@@ -65,3 +65,25 @@ gregorian_start-near rd y e =
 pub year_of_valid_day : (rd y : ℤ) → IsValidDay rd → gregorian_start y ≤ℤ rd → rd <ℤ gregorian_start (y +ℤ pos 1) → IsBetween (neg_ℤ (pos 999999)) (pos 999999) y
 year_of_valid_day rd y valid first last =
     (omega (arith, signed, gregorian_start-bounds (y +ℤ pos 1)), omega (arith, signed, gregorian_start-bounds y))
+
+-- the leap days, counted from 2500000000 cycles of 400 years before
+pub leap_days_through-counted : (y : ℤ) (n : ℕ) → pos n ≡ y +ℤ pos 1000000000000 → leap_days_through y ≡ pos (n / 4 - n / 100 + n / 100 / 4) -ℤ pos 242500000000
+unfolding leap_days_through
+leap_days_through-counted y n e = omega (arith, signed, floor_parts y 4, floor_parts y 100, floor_parts y 400)
+
+-- the linear estimate, counted from 1000000 years before
+pub floor_div-counted : (z : ℤ) (n : ℕ) → pos n ≡ z +ℤ pos 146097000000 → floor_div z 146097 ≡ pos (n / 146097) -ℤ pos 1000000
+floor_div-counted z n e = omega (arith, signed, floor_parts z 146097)
+
+-- a year's first day, by the year before
+pub gregorian_start-before : (later year : ℤ) → year ≡ later -ℤ pos 1 → gregorian_start later ≡ gregorian_start year +ℤ pos (gregorian_year_length year)
+gregorian_start-before later year e =
+    let again : year +ℤ pos 1 ≡ later = omega (arith, signed) in
+    subst (λ (z : ℤ). gregorian_start z ≡ gregorian_start year +ℤ pos (gregorian_year_length year)) again (gregorian_start-next year)
+
+pub gregorian_year_length-most : (y : ℤ) → gregorian_year_length y ≤ 366
+gregorian_year_length-most y = grind (arith, nat_tests)
+
+-- the year of a valid day, by the day of the year
+pub year_of_day : (rd y : ℤ) (p : ℕ) → IsValidDay rd → gregorian_start y +ℤ pos p ≡ rd → p < gregorian_year_length y → IsBetween (neg_ℤ (pos 999999)) (pos 999999) y
+year_of_day rd y p valid day within = year_of_valid_day rd y valid (omega (arith, signed)) (omega (arith, signed, gregorian_start-next y))

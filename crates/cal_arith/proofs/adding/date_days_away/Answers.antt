@@ -1,27 +1,26 @@
-use Rattle.std.proofs.Common.{pos, neg_ℤ, ℕ, ℤ, ◌+ℤ◌, ◌≡◌, subst, sym, ap, ◌∙◌, arith}
+use Rattle.std.proofs.Common.{pos, neg_ℤ, ℤ, ◌+ℤ◌, ◌≡◌, subst, sym, ap, ◌∙◌, arith}
 use Rattle.cal_days.specs.Day.{IsBetween}
 use Rattle.cal_days.proofs.Signed.{signed}
-use Rattle.cal_model.specs.CalendarList.{day_number}
+use Rattle.cal_model.specs.CalendarList.{date, day_number}
 use Rattle.cal_model.specs.Adding.{IsValidOn}
 use Rattle.cal_model.specs.Difference.{toward}
-use Rattle.cal_model.proofs.DifferenceLemmas.{toward-zero}
 use Rattle.cal_arith.specs.Dates.{date_of, answer_of}
 use Rattle.cal_arith.proofs.adding.date_days_away.Goals as goal
-
-pub returns-then-days-eq0-clause-on : goal.returns-then-days-eq0-clause-on
-returns-then-days-eq0-clause-on g c =
-    let list = g.C.YearShapes.list c.args.cal.now in let extended = g.C.YearShapes.extended c.args.cal.now in
-    let here = day_number list (date_of extended c.args.date) in
-    let same : here +ℤ toward c.args.back c.args.days ≡ here = ap (λ (k : ℕ). here +ℤ toward c.args.back k) c.if-days-eq0.true ∙ toward-zero c.args.back here in
-    subst (λ (n : ℤ). IsValidOn list n (answer_of extended c.date_in_range.result)) (sym same) c.date_in_range.ensures.on
 
 pub days_away-requires : goal.days_away-requires
 days_away-requires g c =
     let close = subst (IsBetween (neg_ℤ (pos 4000000000)) (pos 4000000000)) (sym c.to_rata_die.ensures) (g.met.C.YearShapes.near c.args.cal.now (date_of (g.C.YearShapes.extended c.args.cal.now) c.args.date) c.requires.year.range c.requires.date) in
     (omega (arith, signed, close), omega (arith, signed, close))
 
-pub returns-clause-on : goal.returns-clause-on
-returns-clause-on g c =
+pub returns-in-None-clause-on : goal.returns-in-None-clause-on
+returns-in-None-clause-on g c =
     let list = g.C.YearShapes.list c.args.cal.now in let extended = g.C.YearShapes.extended c.args.cal.now in
     let away = c.days_away.ensures ∙ ap (λ (n : ℤ). n +ℤ toward c.args.back c.args.days) c.to_rata_die.ensures in
     subst (λ (n : ℤ). IsValidOn list n (answer_of extended c.valid_date.result)) away c.valid_date.ensures.on
+
+pub returns-in-Some-clause-on : goal.returns-in-Some-clause-on
+returns-in-Some-clause-on g c =
+    let list = g.C.YearShapes.list c.args.cal.now in let extended = g.C.YearShapes.extended c.args.cal.now in
+    let y = extended c.args.date.year in let month = c.args.date.month in
+    let same : day_number list (date y month c.in-Some.day) ≡ day_number list (date y month c.args.date.day) +ℤ toward c.args.back c.args.days = omega (arith, signed, c.in-Some.ensures, c.requires.date.day) in
+    subst (λ (n : ℤ). IsValidOn list n (answer_of extended c.date_in_range.result)) same c.date_in_range.ensures.on
