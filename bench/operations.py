@@ -1,6 +1,9 @@
 #!/usr/bin/env python3
 """Measures the calendars' operations one by one: nanoseconds for each operation and calendar.
 
+A sum is measured on the date of a day number, and turned back into one, so what `day` takes is taken off; a difference is
+measured between the dates of two day numbers, so what `pair` takes is taken off.
+
 The program is run with two counts, and the difference of the times is divided by the difference of the counts, so that what
 it takes to start doesn't count. It takes an operation, a calendar and a count, and prints a checksum.
 """
@@ -13,11 +16,12 @@ from pathlib import Path
 
 PROGRAM = Path(__file__).resolve().parent.parent / "crates/dates_bench/out/dates_bench"
 OPERATIONS = {
-    "day": "day number to fields and back",
-    "year": "addition of one year",
-    "month": "addition of one month",
-    "add-day": "addition of one day",
-    "difference": "difference in years, some centuries apart",
+    "day": ("day number to fields and back", None),
+    "year": ("addition of one year, less `day`", "day"),
+    "month": ("addition of one month, less `day`", "day"),
+    "add-day": ("addition of one day, less `day`", "day"),
+    "pair": ("two day numbers to fields", None),
+    "difference": ("difference in years, some centuries apart, less `pair`", "pair"),
 }
 CALENDARS = ["iso", "gregorian", "julian"]
 FEW = 1_000_000
@@ -63,10 +67,13 @@ def main() -> int:
     print()
     print("| Operation | " + " | ".join(CALENDARS) + " | What is done |")
     print("|---|" + "---:|" * len(CALENDARS) + "---|")
-    for operation, meaning in OPERATIONS.items():
-        figures = [
-            f"{nanoseconds(given.program, operation, calendar, given.few, given.many, given.rounds):.1f}" for calendar in CALENDARS
+    taken: dict[str, list[float]] = {}
+    for operation, (meaning, less) in OPERATIONS.items():
+        taken[operation] = [
+            nanoseconds(given.program, operation, calendar, given.few, given.many, given.rounds) for calendar in CALENDARS
         ]
+        off = taken[less] if less else [0.0] * len(CALENDARS)
+        figures = [f"{all_in - part:.1f}" for all_in, part in zip(taken[operation], off)]
         print(f"| `{operation}` | " + " | ".join(figures) + f" | {meaning} |", flush=True)
     return 0
 

@@ -37,7 +37,7 @@ fn run(rt: &HostRuntime) -> Result<u8> {
         }
         None => {
             eprintln!(rt;
-                "usage: dates_bench day|year|month|add-day|difference iso|gregorian|julian COUNT"
+                "usage: dates_bench day|year|month|add-day|pair|difference iso|gregorian|julian COUNT"
             )?;
             Ok(2)
         }

@@ -94,6 +94,22 @@ where
     }
 }
 
+/// The sum of the days of the month of two dates.
+fn days_of_both<A: AsCalendar + Copy>(first: &Date<A>, second: &Date<A>) -> i64
+where
+    A::Calendar: Calendar,
+{
+    i64::from(first.day_of_month().0) + i64::from(second.day_of_month().0)
+}
+
+/// The day number of the other date of a pair, 547 to 821 years before.
+fn other_day(day: u64) -> u64
+    requires { day < 900000 }
+    ensures { result < 900000 }
+{
+    day * 2 / 3
+}
+
 /// The result of the operation on the date of a day number.
 fn result_on<A: AsCalendar + Copy>(operation: Operation, day: u64, calendar: A) -> i64
 where
@@ -106,9 +122,12 @@ where
         Operation::AddYear => day_of_sum(date_on(day, calendar), ONE_YEAR),
         Operation::AddMonth => day_of_sum(date_on(day, calendar), ONE_MONTH),
         Operation::AddDay => day_of_sum(date_on(day, calendar), ONE_DAY),
-        // From a date that lies 547 to 821 years before.
+        Operation::Pair => days_of_both(
+            &date_on(other_day(day), calendar),
+            &date_on(day, calendar),
+        ),
         Operation::Difference => {
-            parts_between(&date_on(day * 2 / 3, calendar), &date_on(day, calendar))
+            parts_between(&date_on(other_day(day), calendar), &date_on(day, calendar))
         }
     }
 }

@@ -11,7 +11,9 @@ pub enum Operation {
     AddMonth,
     /// The addition of a day.
     AddDay,
-    /// The difference in years to a date some centuries away.
+    /// The dates of two day numbers, some centuries apart.
+    Pair,
+    /// The difference in years between two such dates.
     Difference,
 }
 
@@ -43,6 +45,7 @@ fn read_operation(word: &str) -> Option<Operation> {
         "year" => Some(Operation::AddYear),
         "month" => Some(Operation::AddMonth),
         "add-day" => Some(Operation::AddDay),
+        "pair" => Some(Operation::Pair),
         "difference" => Some(Operation::Difference),
         _ => None,
     }
