@@ -58,7 +58,8 @@ impl<'a> Source for MemorySource<'a> {
 
         // It fails exactly at the calls that were listed, and else gives all that it may.
         ensures fails { IsErr result ↔ SourceFails self.old }
-        ensures count { IfOk result (λ n. n ≡ min (min (length (source_rest self.old)) (length buf.new)) (source_cut self.old)) }
+        ensures count { IfOk result (λ n. n
+            ≡ min (min (length (source_rest self.old)) (length buf.new)) (source_cut self.old)) }
         ensures counts { CountsFault (source_faults self.old) (source_faults self.new) result }
         ensures goes_on { SourceGoesOn self.old self.new }
     {

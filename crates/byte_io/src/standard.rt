@@ -41,7 +41,8 @@ impl<R: Read> Source for StdSource<R> {
         ensures counts { CountsFault (std_source_faults self.old) (std_source_faults self.new) result }
 
         // The bytes are the reader's.
-        ensures inner { ReadConsumes (R.remaining (std_source_inner self.old)) (R.remaining (std_source_inner self.new)) result buf.new }
+        ensures inner { ReadConsumes (R.remaining (std_source_inner self.old))
+            (R.remaining (std_source_inner self.new)) result buf.new }
     {
         match self.inner.read(buf) {
             Ok(count) => Ok(count),
@@ -92,7 +93,8 @@ impl<W: Write> Sink for StdSink<W> {
         ensures counts { CountsFault (std_sink_faults self.old) (std_sink_faults self.new) result }
 
         // The bytes go to the writer.
-        ensures inner { WriteAppends (W.contents (std_sink_inner self.old)) (W.contents (std_sink_inner self.new)) result piece.now }
+        ensures inner { WriteAppends (W.contents (std_sink_inner self.old))
+            (W.contents (std_sink_inner self.new)) result piece.now }
     {
         match self.inner.write(piece) {
             Ok(count) if count > 0 || piece.is_empty() => Ok(count),

@@ -1,9 +1,10 @@
 -- The Gregorian rule: years join by the closed formula, and the formula is nearly linear.
-use Rattle.std.proofs.Common.{◌≡◌, ℕ, ◌+◌, ◌-◌, ◌*◌, ◌/◌, ◌<◌, ◌≤◌, cond, nat_eq, subst, arith, ℤ, pos, neg_ℤ, ◌+ℤ◌, ◌-ℤ◌, ◌*ℤ◌, ◌<ℤ◌, ◌≤ℤ◌}
+use Rattle.std.proofs.Common.{◌≡◌, ℕ, ◌+◌, ◌*◌, ◌<◌, ◌≤◌, cond, nat_eq, ap, arith, ℤ, pos, neg_ℤ, ◌+ℤ◌, ◌-ℤ◌, ◌*ℤ◌, ◌<ℤ◌, ◌≤ℤ◌}
 use Rattle.std.proofs.lemmas.Bool.Decides.{nat_tests}
 use Rattle.cal_days.specs.Day.{IsBetween, IsValidDay}
 use Rattle.cal_days.specs.Division.{floor_div, floor_mod}
-use Rattle.cal_days.specs.Gregorian.{gregorian_leap, gregorian_year_length, leap_days_through, gregorian_start}
+use Rattle.cal_days.specs.Gregorian.{gregorian_leap, gregorian_year_length, leap_days_through, gregorian_start, first_of_march}
+use Rattle.cal_days.specs.March.{march_days}
 use Rattle.cal_days.proofs.Signed.{signed}
 use Rattle.cal_days.proofs.DivisionLemmas.{floor_parts}
 use borrow.Author.Differences.{up, down}
@@ -55,35 +56,49 @@ pub gregorian_start-bounds : (y : ℤ) → (up (gregorian_start y) * 400 + down 
 unfolding gregorian_start
 gregorian_start-bounds y = omega (arith, signed, leap_days_through-bounds (y -ℤ pos 1))
 
--- the year that the linear estimate gives is that of the day, or the next one
-pub gregorian_start-near : (rd y : ℤ) → y ≡ floor_div (pos 400 *ℤ rd +ℤ pos 300) 146097 +ℤ pos 1 → (gregorian_start (y -ℤ pos 1) ≤ℤ rd) × (rd <ℤ gregorian_start (y +ℤ pos 1))
-gregorian_start-near rd y e =
-    let parts = floor_parts (pos 400 *ℤ rd +ℤ pos 300) 146097 (omega arith) in
-    (omega (arith, signed, parts, gregorian_start-bounds (y -ℤ pos 1)), omega (arith, signed, parts, gregorian_start-bounds (y +ℤ pos 1)))
-
 -- a valid day lies in a year from -999999 to 999999
 pub year_of_valid_day : (rd y : ℤ) → IsValidDay rd → gregorian_start y ≤ℤ rd → rd <ℤ gregorian_start (y +ℤ pos 1) → IsBetween (neg_ℤ (pos 999999)) (pos 999999) y
 year_of_valid_day rd y valid first last =
     (omega (arith, signed, gregorian_start-bounds (y +ℤ pos 1)), omega (arith, signed, gregorian_start-bounds y))
 
--- the leap days, counted from 2500000000 cycles of 400 years before
-pub leap_days_through-counted : (y : ℤ) (n : ℕ) → pos n ≡ y +ℤ pos 1000000000000 → leap_days_through y ≡ pos (n / 4 - n / 100 + n / 100 / 4) -ℤ pos 242500000000
+-- a year's March 1 by its formula
+first_of_march-formula : (y : ℤ) → first_of_march y ≡ pos 365 *ℤ y +ℤ leap_days_through y -ℤ pos 305
+unfolding gregorian_start
+first_of_march-formula y =
+    let same : y +ℤ pos 1 -ℤ pos 1 ≡ y = omega (arith, signed) in
+    rw same (omega (arith, signed))
+
+-- the same, counted in years that begin there from so many cycles of 400 years before year 0
+pub march_days-counted : (y : ℤ) (n k : ℕ) → pos n ≡ y +ℤ pos (400 * k) → pos (march_days n) ≡ first_of_march y +ℤ pos 305 +ℤ pos (146097 * k)
 unfolding leap_days_through
-leap_days_through-counted y n e = omega (arith, signed, floor_parts y 4, floor_parts y 100, floor_parts y 400)
+march_days-counted y n k e = omega (arith, signed, first_of_march-formula y, floor_parts y 4, floor_parts y 100, floor_parts y 400)
 
--- the linear estimate, counted from 1000000 years before
-pub floor_div-counted : (z : ℤ) (n : ℕ) → pos n ≡ z +ℤ pos 146097000000 → floor_div z 146097 ≡ pos (n / 146097) -ℤ pos 1000000
-floor_div-counted z n e = omega (arith, signed, floor_parts z 146097)
+-- January and February go before it
+pub first_of_march-year : (y : ℤ) → first_of_march y ≡ gregorian_start y +ℤ pos (gregorian_year_length y) -ℤ pos 306
+first_of_march-year y = omega (arith, signed, gregorian_start-next y)
 
--- a year's first day, by the year before
-pub gregorian_start-before : (later year : ℤ) → year ≡ later -ℤ pos 1 → gregorian_start later ≡ gregorian_start year +ℤ pos (gregorian_year_length year)
-gregorian_start-before later year e =
-    let again : year +ℤ pos 1 ≡ later = omega (arith, signed) in
-    subst (λ (z : ℤ). gregorian_start z ≡ gregorian_start year +ℤ pos (gregorian_year_length year)) again (gregorian_start-next year)
+-- the days of a year before its March 1
+pub days_before_march-bounds : (y : ℤ) → (gregorian_start y ≤ℤ first_of_march y) × (first_of_march y +ℤ pos 306 ≡ gregorian_start (y +ℤ pos 1))
+days_before_march-bounds y = (omega (arith, signed, first_of_march-year y, gregorian_year_length-parts y), omega (arith, signed))
 
-pub gregorian_year_length-most : (y : ℤ) → gregorian_year_length y ≤ 366
-gregorian_year_length-most y = grind (arith, nat_tests)
+-- a year starts 306 days after March 1 of the year before
+pub gregorian_start-after_march : (y z m : ℤ) → z ≡ y -ℤ pos 1 → m ≡ first_of_march z → m +ℤ pos 306 ≡ gregorian_start y
+gregorian_start-after_march y z m e is =
+    let next : z +ℤ pos 1 ≡ y = omega (arith, signed) in
+    omega (arith, signed, ap gregorian_start next)
 
--- the year of a valid day, by the day of the year
-pub year_of_day : (rd y : ℤ) (p : ℕ) → IsValidDay rd → gregorian_start y +ℤ pos p ≡ rd → p < gregorian_year_length y → IsBetween (neg_ℤ (pos 999999)) (pos 999999) y
-year_of_day rd y p valid day within = year_of_valid_day rd y valid (omega (arith, signed)) (omega (arith, signed, gregorian_start-next y))
+-- the year of a valid day, by its place after a March 1: from 306 days on it is the next one
+pub year_of_march_day : (rd y : ℤ) (p : ℕ) → IsValidDay rd → first_of_march y +ℤ pos p ≡ rd → p < 306 → (gregorian_start y ≤ℤ rd) × (rd <ℤ gregorian_start (y +ℤ pos 1)) × IsBetween (neg_ℤ (pos 999999)) (pos 999999) y
+year_of_march_day rd y p valid day early =
+    let bounds = days_before_march-bounds y in
+    let first : gregorian_start y ≤ℤ rd = omega (arith, signed, bounds) in
+    let last : rd <ℤ gregorian_start (y +ℤ pos 1) = omega (arith, signed, bounds) in
+    (first, last, year_of_valid_day rd y valid first last)
+
+pub year_after_march_day : (rd y z : ℤ) (p : ℕ) → z ≡ y +ℤ pos 1 → IsValidDay rd → first_of_march y +ℤ pos p ≡ rd → rd <ℤ first_of_march z → 306 ≤ p → (gregorian_start z ≤ℤ rd) × (rd <ℤ gregorian_start (z +ℤ pos 1)) × IsBetween (neg_ℤ (pos 999999)) (pos 999999) z
+year_after_march_day rd y z p next valid day within late =
+    let same = ap gregorian_start next in
+    let bounds = days_before_march-bounds y in let after = days_before_march-bounds z in
+    let first : gregorian_start z ≤ℤ rd = omega (arith, signed, bounds, same) in
+    let last : rd <ℤ gregorian_start (z +ℤ pos 1) = omega (arith, signed, after) in
+    (first, last, year_of_valid_day rd z valid first last)

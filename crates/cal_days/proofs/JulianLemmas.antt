@@ -1,5 +1,5 @@
 -- The Julian rule: years join by the closed formula, and the formula is nearly linear.
-use Rattle.std.proofs.Common.{◌≡◌, ◌+◌, ◌*◌, ◌≤◌, arith, ℤ, pos, neg_ℤ, ◌+ℤ◌, ◌-ℤ◌, ◌*ℤ◌, ◌<ℤ◌, ◌≤ℤ◌}
+use Rattle.std.proofs.Common.{◌≡◌, ℕ, ◌+◌, ◌*◌, ◌/◌, ◌≤◌, arith, ℤ, pos, neg_ℤ, ◌+ℤ◌, ◌-ℤ◌, ◌*ℤ◌, ◌<ℤ◌, ◌≤ℤ◌}
 use Rattle.cal_days.specs.Day.{IsBetween, IsValidDay}
 use Rattle.cal_days.specs.Division.{floor_div}
 use Rattle.cal_days.specs.Julian.{julian_year_length, julian_start}
@@ -29,6 +29,10 @@ pub julian_start-finds : (rd y : ℤ) → y ≡ floor_div (pos 4 *ℤ (rd +ℤ p
 julian_start-finds rd y e =
     let parts = floor_parts (pos 4 *ℤ (rd +ℤ pos 1) +ℤ pos 3) 1461 (omega arith) in
     (omega (arith, signed, parts, julian_start-bounds y), omega (arith, signed, parts, julian_start-bounds (y +ℤ pos 1)))
+
+-- the linear formula, counted from 1000000 years before
+pub julian_years-counted : (rd : ℤ) (n : ℕ) → pos n ≡ rd +ℤ pos 365250001 → floor_div (pos 4 *ℤ (rd +ℤ pos 1) +ℤ pos 3) 1461 ≡ pos ((4 * n + 3) / 1461) -ℤ pos 1000000
+julian_years-counted rd n e = omega (arith, signed, floor_parts (pos 4 *ℤ (rd +ℤ pos 1) +ℤ pos 3) 1461 (omega arith))
 
 -- a valid day lies in a year from -999999 to 999999
 pub julian_year_of_valid_day : (rd y : ℤ) → IsValidDay rd → julian_start y ≤ℤ rd → rd <ℤ julian_start (y +ℤ pos 1) → IsBetween (neg_ℤ (pos 999999)) (pos 999999) y

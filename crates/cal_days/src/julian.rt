@@ -10,7 +10,14 @@ use crate::rata_die::RataDie;
 const FIRST_DAY_OF_YEAR_1: i64 = -1;
 
 /// The days of 4 years, after which the leap years repeat.
-const DAYS_IN_4_YEARS: i64 = 1461;
+const DAYS_IN_4_YEARS: u32 = 1461;
+
+/// A number of years, in which the leap years repeat. Counted from so long before year 1, no valid day is
+/// negative, and unsigned division rounds down.
+const YEARS_BEFORE: i32 = 1000000;
+
+/// The days of these years.
+const DAYS_BEFORE: i64 = 365250000;
 
 /// The first day of a year from -8000000 to 8000000.
 #[tactic(auto, using(crate::proofs::Signed::signed))]
@@ -32,7 +39,7 @@ pub fn is_leap_year(year: i32) -> bool
 }
 
 /// The year that contains a valid day, -365242499 to 365242134.
-#[tactic(auto, using(crate::proofs::Signed::signed))]
+#[tactic(auto, using(crate::proofs::Signed::signed_casts))]
 pub fn year_from_fixed(rd: RataDie) -> i32
     requires { IsValidDay rd }
     ensures first { julian_start result ≤ℤ rd }
@@ -40,7 +47,7 @@ pub fn year_from_fixed(rd: RataDie) -> i32
     ensures range { IsBetween (neg_ℤ (pos 999999)) (pos 999999) result }
 {
     // 4 times the days before a year is 1461 times the years before it, less at most 3.
-    let days = rd.to_i64_date() - FIRST_DAY_OF_YEAR_1;
-    let years = (4 * days + 3).div_euclid(DAYS_IN_4_YEARS);
-    years as i32 + 1
+    let days = (rd.to_i64_date() - FIRST_DAY_OF_YEAR_1 + DAYS_BEFORE) as u32;
+    let years = (4 * days + 3) / DAYS_IN_4_YEARS;
+    years as i32 - YEARS_BEFORE + 1
 }

@@ -8,6 +8,7 @@
 
 pub mod gregorian;
 pub mod julian;
+pub mod ranges;
 pub mod rata_die;
 #[cfg(test)]
 mod tests;

@@ -5,4 +5,5 @@ pub mod MonthParts
 pub mod MonthInfo
 pub mod MonthInfoParts
 pub mod Text
+pub mod Weekday
 pub mod Year

@@ -14,6 +14,7 @@ pub mod month_code;
 pub mod month_info;
 pub mod options;
 pub mod tiny;
+pub mod weekday;
 pub mod year;
 
 pub use algorithm::{CalendarAlgorithm, HijriCalendarAlgorithm};
@@ -32,4 +33,5 @@ pub use options::{
     DateAddOptions, DateDifferenceOptions, DateFromFieldsOptions, MissingFieldsStrategy, Overflow,
 };
 pub use tiny::TinyAsciiStr;
+pub use weekday::Weekday;
 pub use year::{CyclicYear, EraYear, IntoYearInfo, YearAmbiguity, YearInfo, YearInput};

@@ -42,7 +42,8 @@ impl MonthInfo {
         leap_status: LeapStatus,
         formatting_month: Month,
     ) -> MonthInfo
-        ensures { month_info_parts result ≡ month_info ordinal (month_parts month) leap_status (month_parts formatting_month) }
+        ensures { month_info_parts result
+            ≡ month_info ordinal (month_parts month) leap_status (month_parts formatting_month) }
     {
         MonthInfo {
             ordinal,

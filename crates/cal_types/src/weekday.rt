@@ -1,0 +1,76 @@
+//! Days of the week.
+
+ghost use Rattle.std.specs.Prelude.{◌≡◌, pos};
+ghost use Rattle.std.specs.Int.{int_rem_euclid};
+ghost use Rattle.cal_types.specs.Weekday.{days_since_sunday};
+
+use cal_days::RataDie;
+
+/// A day of the week, by its number in ISO 8601: Monday is 1, Sunday is 7.
+#[derive(Clone, Copy, Debug, PartialEq, Eq)]
+pub enum Weekday {
+    /// The first day of an ISO week.
+    Monday = 1,
+    /// The day after Monday.
+    Tuesday,
+    /// The day after Tuesday.
+    Wednesday,
+    /// The day after Wednesday.
+    Thursday,
+    /// The day after Thursday.
+    Friday,
+    /// The day after Friday.
+    Saturday,
+    /// The last day of an ISO week.
+    Sunday,
+}
+
+impl Weekday {
+    /// The weekday of a day that lies so many days after a Sunday, or before it where the number is negative.
+    pub fn from_days_since_sunday(input: isize) -> Weekday
+        ensures { pos (days_since_sunday result) ≡ int_rem_euclid input (pos 7) }
+    {
+        match input.rem_euclid(7) {
+            0 => Weekday::Sunday,
+            1 => Weekday::Monday,
+            2 => Weekday::Tuesday,
+            3 => Weekday::Wednesday,
+            4 => Weekday::Thursday,
+            5 => Weekday::Friday,
+            _ => Weekday::Saturday,
+        }
+    }
+}
+
+/// The weekday of a day number, where day 0 is a Sunday (Reingold and Dershowitz, Calendrical Calculations).
+impl From<RataDie> for Weekday {
+    ghost from_gives = { λ rd day. pos (days_since_sunday day) ≡ int_rem_euclid rd (pos 7) };
+
+    fn from(rd: RataDie) -> Weekday {
+        Weekday::from_days_since_sunday(rd.to_i64_date() as isize)
+    }
+}
+
+#[cfg(test)]
+mod tests {
+    use super::*;
+
+    #[test]
+    fn known_days_have_known_weekdays(rt: HostRuntime) {
+        for (number, want) in [
+            // 1992-09-02, 2000-01-01, 1969-12-31 and 0001-01-01.
+            (727443, Weekday::Wednesday),
+            (730120, Weekday::Saturday),
+            (719162, Weekday::Wednesday),
+            (1, Weekday::Monday),
+            (0, Weekday::Sunday),
+            (-1, Weekday::Saturday),
+            (-6, Weekday::Monday),
+        ] {
+            assert!(rt; -1000000 <= number && number <= 1000000);
+            assert_eq!(rt; Weekday::from(RataDie::new(number)), want, "on {number}");
+            assert_eq!(rt; Weekday::from_days_since_sunday(number as isize), want);
+        }
+        assert_eq!(rt; (Weekday::Monday as u8, Weekday::Sunday as u8), (1, 7));
+    }
+}
