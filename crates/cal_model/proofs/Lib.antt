@@ -2,10 +2,14 @@ pub mod ListLemmas
 pub mod DifferenceLemmas
 pub mod DifferenceLaws
 pub mod AddingLemmas
-pub mod ResolvingSteps
+pub mod SumLaws
 pub mod ResolvingLemmas
+pub mod YearNameLemmas
+pub mod EraLemmas
 pub mod DateTests
 pub mod ListedLemmas
 pub mod RenumberedLemmas
 pub mod OrderLemmas
 pub mod MonthCases
+pub mod PlainMonthLemmas
+pub mod RenumberedBoundLemmas

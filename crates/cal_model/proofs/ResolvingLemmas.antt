@@ -1,15 +1,17 @@
 -- What is resolved is a date.
-use Rattle.std.proofs.Common.{◌≡◌, ℕ, ◌≤◌, Bool, true, false, cond, ◌&&◌, nat_le, min, max, Option, Some, None, Ok, Err, refl, subst, arith, ℤ}
+use Rattle.std.proofs.Common.{◌≡◌, ℕ, ◌≤◌, Bool, true, false, cond, ◌&&◌, nat_le, nat_eq, min, max, Option, Some, None, Ok, Err, refl, subst, arith, ℤ}
 use Rattle.std.proofs.lemmas.Bool.Decides.{nat_tests}
-use Rattle.cal_days.specs.Day.{IsFieldYear, IsValidDay, is_field_year, is_valid_day}
+use Rattle.cal_days.specs.Day.{IsValidDay, is_valid_day}
 use Rattle.cal_types.specs.Month.{MonthParts}
 use Rattle.cal_types.specs.Bag.{Bag}
 use Rattle.cal_types.specs.declared.options.Overflow.{Overflow}
 use Rattle.cal_types.specs.declared.options.Overflow.TheVariants.{Constrain, Reject}
 use Rattle.cal_types.specs.declared.errors.DateFromFieldsError.{DateFromFieldsError}
-use Rattle.cal_types.specs.declared.errors.DateFromFieldsError.TheVariants.{Overflow as OutOfRange, InvalidDay}
-use Rattle.cal_model.specs.CalendarList.{CalendarList, Date, date, month_length, day_number, spot, HasPlace, IsDate, IsLawful}
-use Rattle.cal_model.specs.Resolving.{Resolved, after, required, field_year, month_of_kind, resolved_place, resolved_day, valid_date, resolve}
+use Rattle.cal_types.specs.declared.options.MissingFieldsStrategy.{MissingFieldsStrategy}
+use Rattle.cal_types.specs.declared.errors.DateFromFieldsError.TheVariants.{Overflow as OutOfRange, MonthNotInYear, InconsistentMonth, InvalidOrdinalMonth, InvalidDay}
+use Rattle.cal_model.specs.CalendarList.{CalendarList, Date, date, month_count, month_length, day_number, spot, HasPlace, IsDate, IsLawful}
+use Rattle.cal_model.specs.YearNames.{YearNames}
+use Rattle.cal_model.specs.Resolving.{Resolved, after, or_fault, MonthName, ByMonth, ByCode, ByOrdinal, YearAndMonth, month_known, resolved_place, same_place, resolved_ordinal, place_in_year, resolved_day, valid_date, resolved_in_month, resolved_in_year, day_asked, month_named, year_named, in_year, resolve}
 use Rattle.cal_days.proofs.RangeLemmas.{is_between-true}
 use Rattle.cal_model.proofs.ListLemmas.{spot-place}
 
@@ -23,67 +25,75 @@ if_ok : {T : Type 0} (b : Bool) (x y : T) (f : DateFromFieldsError) → cond b (
 if_ok true x y f e = (refl, cc)
 if_ok false x y f e = cc
 
--- a year that passes its step
-pub field_year-ok : (y z : ℤ) → field_year y ≡ Ok z → (y ≡ z) × IsFieldYear y
-field_year-ok y z e =
-    let test = if_ok (is_field_year y) y z OutOfRange e in (test.1, is_between-true _ _ y test.0)
-
 -- a date that passes its step
 pub valid_date-ok : (c : CalendarList) (t u : Date) → valid_date c t ≡ Ok u → (t ≡ u) × IsValidDay (day_number c t)
 valid_date-ok c t u e =
     let test = if_ok (is_valid_day (day_number c t)) t u OutOfRange e in (test.1, is_between-true _ _ (day_number c t) test.0)
 
--- a place that passes its step
-pub resolved_place-ok : (r : Option ℕ) (i : ℕ) → resolved_place r ≡ Ok i → r ≡ Some i
-resolved_place-ok None i e = cc
-resolved_place-ok (Some j) i e = cc
+-- what is there
+or_fault-ok : {T : Type 0} (e : DateFromFieldsError) (r : Option T) (x : T) → or_fault e r ≡ Ok x → r ≡ Some x
+or_fault-ok e None x h = cc
+or_fault-ok e (Some y) x h = cc
+
+-- a number that is tested, or clamped, lies from 1 to the last one
+clamped-within : (last i j : ℕ) → 1 ≤ last → max 1 (min i last) ≡ j → (1 ≤ j) × (j ≤ last)
+clamped-within last i j some same = (omega arith, omega arith)
+
+tested-within : (last i j : ℕ) → (nat_le 1 i && nat_le i last) ≡ true → i ≡ j → (1 ≤ j) × (j ≤ last)
+tested-within last i j passed same = (grind (arith, nat_tests), grind (arith, nat_tests))
+
+same_ok : {T : Type 0} (x y : T) → ◌≡◌ {A = Resolved T} (Ok x) (Ok y) → x ≡ y
+same_ok x y e = cc
 
 -- a resolved day is one of its month
 pub resolved_day-ok : (last : ℕ) (o : Overflow) (d e : ℕ) → 1 ≤ last → resolved_day last o d ≡ Ok e → (1 ≤ e) × (e ≤ last)
-resolved_day-ok last Reject d e some h =
-    let test = if_ok (nat_le 1 d && nat_le d last) d e (InvalidDay last) h in
-    let passed = test.0 in
-    let same : d ≡ e = test.1 in
-    (grind (arith, nat_tests), grind (arith, nat_tests))
-resolved_day-ok last Constrain d e some h =
-    let same : max 1 (min d last) ≡ e = cc in
-    (omega arith, omega arith)
+resolved_day-ok last Reject d e some h = let test = if_ok (nat_le 1 d && nat_le d last) d e (InvalidDay last) h in tested-within last d e test.0 test.1
+resolved_day-ok last Constrain d e some h = clamped-within last d e some (same_ok _ e h)
 
--- what is known of resolved fields
-pub record IsResolved (c : CalendarList) (t : Date) : Type 0 where
-  pub date : IsDate c t
-  pub field_year : IsFieldYear t.year
-  pub valid_day : IsValidDay (day_number c t)
+-- a resolved place is one of the year
+pub resolved_ordinal-ok : (count : ℕ) (o : Overflow) (i j : ℕ) → 1 ≤ count → resolved_ordinal count o i ≡ Ok j → (1 ≤ j) × (j ≤ count)
+resolved_ordinal-ok count Reject i j some h = let test = if_ok (nat_le 1 i && nat_le i count) i j (InvalidOrdinalMonth count) h in tested-within count i j test.0 test.1
+resolved_ordinal-ok count Constrain i j some h = clamped-within count i j some (same_ok _ j h)
 
--- from a place of a year on
-day_of_place : (c : CalendarList) → IsLawful c → (o : Overflow) (y : ℤ) (i d : ℕ) (t : Date) → IsFieldYear y → HasPlace c y i → after (resolved_day (month_length c y i) o d) (λ (day : ℕ). valid_date c (date y i day)) ≡ Ok t → IsResolved c t
-day_of_place c law o y i d t field place e =
-    let step = after-ok (resolved_day (month_length c y i) o d) (λ (day : ℕ). valid_date c (date y i day)) t e in
-    let valid = valid_date-ok c (date y i step.0) t step.2 in
-    subst (IsResolved c) valid.0 record {
-      date = record { place = place; day = resolved_day-ok (month_length c y i) o d step.0 (law.lengths y i place).0 step.1 };
-      field_year = field;
-      valid_day = valid.1;
-    }
+-- a place beside an ordinal month is itself
+same_place-ok : (ordinal : Option ℕ) (i j : ℕ) → same_place ordinal i ≡ Ok j → i ≡ j
+same_place-ok None i j h = same_ok i j h
+same_place-ok (Some given) i j h = (if_ok (nat_eq given i) i j InconsistentMonth h).1
 
--- from a year on
-day_of_year : (c : CalendarList) → IsLawful c → (o : Overflow) (y : ℤ) (m : MonthParts) (d : ℕ) (t : Date) → IsFieldYear y → after (resolved_place (spot c y m o)) (λ (i : ℕ). after (resolved_day (month_length c y i) o d) (λ (day : ℕ). valid_date c (date y i day))) ≡ Ok t → IsResolved c t
-day_of_year c law o y m d t field e =
-    let step = after-ok (resolved_place (spot c y m o)) (λ (i : ℕ). after (resolved_day (month_length c y i) o d) (λ (day : ℕ). valid_date c (date y i day))) t e in
-    day_of_place c law o y step.0 d t field (spot-place c y m o step.0 (resolved_place-ok (spot c y m o) step.0 step.1)) step.2
+module _ (c : CalendarList) (law : IsLawful c) where
+  -- the place of a month that is named by itself or by its code
+  place_of_month : (y : ℤ) (o : Overflow) (m : MonthName) (ordinal : Option ℕ) (i : ℕ) → after (month_known c m) (λ (known : MonthParts). after (resolved_place (spot c y known o)) (λ (j : ℕ). same_place ordinal j)) ≡ Ok i → HasPlace c y i
+  place_of_month y o m ordinal i e =
+      let known = after-ok (month_known c m) _ i e in
+      let found = after-ok (resolved_place (spot c y known.0 o)) (λ (j : ℕ). same_place ordinal j) i known.2 in
+      subst (HasPlace c y) (same_place-ok ordinal found.0 i found.2) (spot-place c y known.0 o found.0 (or_fault-ok MonthNotInYear (spot c y known.0 o) found.0 found.1))
 
--- resolved fields are a date of a year that fields may name, in the valid range
-pub resolve-is_resolved : (c : CalendarList) → IsLawful c → (bag : Bag) (o : Overflow) (t : Date) → resolve c bag o ≡ Ok t → IsResolved c t
-unfolding resolve
-resolve-is_resolved c law bag o t e =
-    let of_day = after-ok (required bag.day) _ t e in
-    let of_month = after-ok (required bag.month) _ t of_day.2 in
-    let of_year = after-ok (required bag.extended_year) _ t of_month.2 in
-    let in_range = after-ok (field_year of_year.0) _ t of_year.2 in
-    let of_kind = after-ok (month_of_kind c of_month.0) _ t in_range.2 in
-    let year = field_year-ok of_year.0 in_range.0 in_range.1 in
-    day_of_year c law o in_range.0 of_kind.0 of_day.0 t (subst IsFieldYear year.0 year.1) of_kind.2
+  -- the year has the place that is resolved
+  pub place_in_year-ok : (y : ℤ) (o : Overflow) (m : MonthName) (ordinal : Option ℕ) (i : ℕ) → place_in_year c y o m ordinal ≡ Ok i → HasPlace c y i
+  place_in_year-ok y o (ByMonth m) ordinal i e = place_of_month y o (ByMonth m) ordinal i e
+  place_in_year-ok y o (ByCode code) ordinal i e = place_of_month y o (ByCode code) ordinal i e
+  place_in_year-ok y o (ByOrdinal n) ordinal i e = resolved_ordinal-ok (month_count c y) o n i (omega (arith, law.count y)) e
 
--- resolved fields are a date in the valid range
-pub resolve-date : (c : CalendarList) → IsLawful c → (bag : Bag) (o : Overflow) (t : Date) → resolve c bag o ≡ Ok t → IsDate c t × IsValidDay (day_number c t)
-resolve-date c law bag o t e = let known = resolve-is_resolved c law bag o t e in (known.date, known.valid_day)
+  -- from a place of a year on
+  pub resolved_in_month-date : (y : ℤ) (i : ℕ) (o : Overflow) (d : ℕ) (t : Date) → HasPlace c y i → resolved_in_month c y i o d ≡ Ok t → IsDate c t × IsValidDay (day_number c t)
+  resolved_in_month-date y i o d t place e =
+      let step = after-ok (resolved_day (month_length c y i) o d) (λ (day : ℕ). valid_date c (date y i day)) t e in
+      let valid = valid_date-ok c (date y i step.0) t step.2 in
+      let day = resolved_day-ok (month_length c y i) o d step.0 (law.lengths y i place).0 step.1 in
+      (subst (IsDate c) valid.0 record { place = place; day = day }, subst (λ (u : Date). IsValidDay (day_number c u)) valid.0 valid.1)
+
+  -- from a year on
+  resolved_in_year-date : (there : YearAndMonth) (o : Overflow) (ordinal : Option ℕ) (d : ℕ) (t : Date) → resolved_in_year c there o ordinal d ≡ Ok t → IsDate c t × IsValidDay (day_number c t)
+  resolved_in_year-date there o ordinal d t e =
+      let step = after-ok (place_in_year c there.year o there.month ordinal) (λ (i : ℕ). resolved_in_month c there.year i o d) t e in
+      resolved_in_month-date there.year step.0 o d t (place_in_year-ok there.year o there.month ordinal step.0 step.1) step.2
+
+  -- resolved fields are a date in the valid range
+  pub resolve-date : (names : YearNames) (bag : Bag) (o : Overflow) (strategy : MissingFieldsStrategy) (t : Date) → resolve c names bag o strategy ≡ Ok t → IsDate c t × IsValidDay (day_number c t)
+  unfolding resolve
+  resolve-date names bag o strategy t e =
+      let of_day = after-ok (day_asked strategy bag) _ t e in
+      let of_name = after-ok (month_named bag.month bag.month_code bag.ordinal_month) _ t of_day.2 in
+      let of_year = after-ok (year_named names bag.era bag.era_year bag.extended_year) _ t of_name.2 in
+      let there = after-ok (in_year c names strategy o of_name.0 bag.ordinal_month of_day.0 of_year.0) _ t of_year.2 in
+      resolved_in_year-date there.0 o bag.ordinal_month of_day.0 t there.2

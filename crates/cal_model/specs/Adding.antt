@@ -7,13 +7,14 @@ use Rattle.cal_types.specs.declared.options.Overflow.TheVariants.{Constrain, Rej
 use Rattle.cal_types.specs.declared.duration.DateDuration.{DateDuration}
 use Rattle.cal_types.specs.declared.errors.DateAddError.{DateAddError}
 use Rattle.cal_types.specs.declared.errors.DateAddError.TheVariants as fault
+use Rattle.cal_days.specs.declared.ranges.TheConstants.{MAX_ADDED_YEARS, MAX_ADDED_MONTHS, MAX_ADDED_DAYS}
 use Rattle.cal_days.specs.Day.{is_valid_day, is_field_year}
 use Rattle.cal_model.specs.CalendarList.{spot, CalendarList, Date, date, month_at, month_length, day_number, IsOn, IsMonthsAfter}
 use Rattle.cal_model.specs.Difference.{toward}
 
 -- a duration that is small enough to be added
 abbrev pub is_addable : DateDuration → Bool
-is_addable u = nat_le u.years 2080000 && nat_le u.months 27040000 && nat_le (7 * u.weeks + u.days) 838240000
+is_addable u = nat_le u.years MAX_ADDED_YEARS && nat_le u.months MAX_ADDED_MONTHS && nat_le (7 * u.weeks + u.days) MAX_ADDED_DAYS
 
 -- whether a day that the month lacks is refused
 abbrev pub is_reject : Overflow → Bool

@@ -1,7 +1,7 @@
 -- Making a date of a year, a month and a day, of which none is changed: the date, or the first fault.
--- Source: `Date::try_new` of icu_calendar. No era is read, so far.
+-- Source: `Date::try_new` of icu_calendar.
 use Rattle.std.specs.Prelude.{ℕ, ℤ, pos, neg_ℤ, Bool, ◌&&◌, nat_le, Option, Some, None, Result, Ok, Err, if◌then◌else◌}
-use Rattle.cal_days.specs.Day.{is_between}
+use Rattle.cal_days.specs.Day.{is_constructor_year}
 use Rattle.cal_types.specs.Month.{MonthParts}
 use Rattle.cal_types.specs.declared.year.YearInput.{YearInput}
 use Rattle.cal_types.specs.declared.year.YearInput.TheVariants.{Extended, EraYear}
@@ -9,15 +9,12 @@ use Rattle.cal_types.specs.declared.options.Overflow.TheVariants.{Reject}
 use Rattle.cal_types.specs.declared.errors.DateNewError.{DateNewError}
 use Rattle.cal_types.specs.declared.errors.DateNewError.TheVariants.{InvalidYear, InvalidEra, MonthNotInCalendar, MonthNotInYear, InvalidDay}
 use Rattle.cal_model.specs.CalendarList.{CalendarList, Date, date, month_length, spot}
+use Rattle.cal_model.specs.YearNames.{YearNames}
 
 -- the number of the year, in its era or without one
 abbrev pub year_given : YearInput → ℤ
 year_given (Extended y) = y
 year_given (EraYear era y) = y
-
--- the years that constructors take
-abbrev pub is_constructor_year : ℤ → Bool
-is_constructor_year y = is_between (neg_ℤ (pos 9999)) (pos 9999) y
 
 -- a day of a month in its place
 abbrev pub made_day : CalendarList → ℤ → ℕ → ℕ → Result Date DateNewError
@@ -32,11 +29,16 @@ made_month c y (Some i) d = made_day c y i d
 abbrev pub made_in_year : CalendarList → ℤ → MonthParts → ℕ → Result Date DateNewError
 made_in_year c y m d = if c.is_of_kind m then made_month c y (spot c y m Reject) d else Err MonthNotInCalendar
 
--- the year is read first
-abbrev pub made_of_input : CalendarList → YearInput → MonthParts → ℕ → Result Date DateNewError
-made_of_input c (Extended y) m d = made_in_year c y m d
-made_of_input c (EraYear era y) m d = Err InvalidEra
+-- the extended year of the input, where its era is read
+abbrev pub year_read : YearNames → YearInput → Option ℤ
+year_read names (Extended y) = Some y
+year_read names (EraYear era y) = names.reads era.now y
+
+-- a month and a day of a year, where the year is read
+abbrev pub made_of_year : CalendarList → Option ℤ → MonthParts → ℕ → Result Date DateNewError
+made_of_year c None m d = Err InvalidEra
+made_of_year c (Some y) m d = made_in_year c y m d
 
 -- in the order of the steps: the range of the given year, its era, the month, its place, and the day
-unfoldable pub made_date : CalendarList → YearInput → MonthParts → ℕ → Result Date DateNewError
-made_date c input m d = if is_constructor_year (year_given input) then made_of_input c input m d else Err InvalidYear
+unfoldable pub made_date : CalendarList → YearNames → YearInput → MonthParts → ℕ → Result Date DateNewError
+made_date c names input m d = if is_constructor_year (year_given input) then made_of_year c (year_read names input) m d else Err InvalidYear

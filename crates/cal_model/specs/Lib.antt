@@ -1,7 +1,9 @@
 pub mod CalendarList
 pub mod Renumbered
-pub mod CalendarSystem
+pub mod YearNames
+pub mod Eras
 pub mod Resolving
+pub mod CalendarSystem
 pub mod Difference
 pub mod WithinYear
 pub mod YearList
@@ -9,3 +11,5 @@ pub mod ListedYears
 pub mod Adding
 pub mod Constructing
 pub mod DateOrder
+pub mod PlainMonths
+pub mod RenumberedBounds

@@ -75,7 +75,8 @@ impl<'a> ListedYears<'a> {
 
     /// Where a year stands in the list, from 0.
     fn index_of(&self, year: i32) -> Option<usize>
-        ensures { MatchOption result (IsListed self.now year → ⊥) (λ k. (k < length self.now.years.now) × (year ≡ self.now.first_year +ℤ pos k)) }
+        ensures { MatchOption result (IsListed self.now year → ⊥)
+            (λ k. (k < length self.now.years.now) × (year ≡ self.now.first_year +ℤ pos k)) }
     {
         let after = i64::from(year) - i64::from(self.first_year);
         let index = usize::try_from(after).ok()?;
