@@ -4,3 +4,4 @@ pub mod DifferenceSteps
 pub mod OrderLemmas
 pub mod YearLemmas
 pub mod FieldLemmas
+pub mod MonthSteps

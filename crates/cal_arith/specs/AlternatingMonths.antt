@@ -10,8 +10,14 @@ use Rattle.cal_types.specs.declared.options.Overflow.{Overflow}
 use Rattle.cal_types.specs.declared.errors.MonthError.TheVariants.{NotInCalendar}
 use Rattle.cal_types.specs.declared.options.Overflow.TheVariants.{Constrain}
 use Rattle.cal_model.specs.CalendarList.{CalendarList, Date, Entry, IsDate, IsLawful, IsValidDate, day_number, days_before, month_at, month_count, month_length, month_number, place_of, spot, start_of_year, year_length}
+use Rattle.cal_arith.specs.Given.{CalendarYears}
 use Rattle.cal_arith.specs.Places.{ordinal_month}
+use Rattle.cal_model.specs.Eras.{only_era_reads}
+use Rattle.cal_model.specs.YearNames.{YearNames, reference_of_known}
 use Rattle.cal_model.proofs.MonthCases.{by_month}
+use Rattle.cal_model.proofs.YearNameLemmas.{reference_of_known-kind}
+use Rattle.cal_types.specs.declared.errors.EcmaReferenceYearError.TheVariants.{MonthNotInCalendar}
+use Rattle.std.specs.Prelude.{◌↔◌, codes}
 use Rattle.cal_model.proofs.ListLemmas.{date-in_year, month_number-next, month_number-place, spot-own, start_of_year-unique}
 
 -- the plain month of a number, with its days
@@ -35,6 +41,10 @@ alternating = record {
   is_of_kind = is_plain;
   stand_in = λ m. m;
 }
+
+-- the years are their numbers
+abbrev pub alternating_years : CalendarYears ℤ
+alternating_years = record { list = alternating; year_of = λ y. y; extended = λ y. y; offset = pos 0 }
 
 -- each year has twelve months
 pub month_count-alternating : (y : ℤ) → month_count alternating y ≡ 12
@@ -162,3 +172,14 @@ alternating-covered t y h =
 
 pub stored-year : (y : ℤ) → y ≡ y +ℤ pos 0
 stored-year y = omega (arith, signed)
+
+-- one era, `am`, whose years are the extended years; each plain month has year 1 as its reference year
+abbrev pub alternating_names : YearNames
+alternating_names = record {
+  reads = only_era_reads (codes "am");
+  reference = λ m _. reference_of_known (is_plain m) (pos 1);
+}
+
+pub alternating_reference-kind : (m : MonthParts) (d : ℕ) → (alternating_names.reference m d ≡ Err MonthNotInCalendar) ↔ (alternating.is_of_kind m ≡ false)
+unfolding alternating
+alternating_reference-kind m d = reference_of_known-kind (is_plain m) (pos 1)

@@ -1,56 +1,61 @@
 //! Adding a duration to a date, as ECMAScript Temporal's NonISODateAdd.
 
-ghost use Rattle.std.specs.Prelude.{◌≡◌, ◌+◌, ◌*◌, ◌≤◌, ◌+ℤ◌, ◌-ℤ◌, ◌≤ℤ◌, pos, neg_ℤ, true, false, IfSome, IfNone, IfOk};
-ghost use Rattle.cal_days.specs.Day.{IsBetween, IsFieldYear, is_field_year, is_valid_day};
-ghost use Rattle.cal_model.specs.CalendarList.{HasPlace, IsDate, day_number, month_length, date};
+ghost use Rattle.std.specs.Prelude.{◌≡◌, ◌+◌, ◌*◌, ◌≤◌, ◌+ℤ◌, pos, neg_ℤ, true, false, IfSome, IfNone, IfOk};
+ghost use Rattle.cal_days.specs.Day.{IsBetween, IsFieldYear, is_field_year};
+ghost use Rattle.cal_model.specs.CalendarList.{day_number, month_length, date};
 ghost use Rattle.cal_model.specs.Difference.{toward};
-ghost use Rattle.cal_model.specs.Adding.{is_addable, is_reject, IsValidOn, IsSumFromMonth, IsSum};
-ghost use Rattle.cal_arith.specs.Given.{IsGiven};
-ghost use Rattle.cal_arith.specs.Dates.{date_of, answer_of, Belongs};
+ghost use Rattle.cal_model.specs.Adding.{is_addable, IsValidOn, IsSumFromMonth, IsSum};
+ghost use Rattle.cal_arith.specs.Given.{HasMonth};
+ghost use Rattle.cal_arith.specs.Dates.{answer_of, date_of, Belongs, IsGivenDate};
+ghost use Rattle.cal_arith.specs.Directions.{is_backward};
 
 use crate::dates::{Ymd, from_rata_die, to_rata_die};
-use crate::getters::is_in_range;
+use crate::direction::Direction;
+use crate::getters::has_valid_day;
 use crate::months::{YearMonth, months_away};
 use crate::places::place_in;
 use crate::years::{YearShapes, Years};
 use cal_days::RataDie;
+use cal_days::ranges::{
+    FIRST_VALID_DAY, LAST_VALID_DAY, MAX_ADDED_DAYS, MAX_ADDED_MONTHS, MAX_ADDED_YEARS,
+    MAX_FIELD_YEAR,
+};
 use cal_types::{DateAddError, DateDuration, Overflow};
 
 /// Whether a duration is small enough to be added.
 fn can_be_added(duration: DateDuration) -> bool
     ensures { result ≡ is_addable duration }
 {
-    duration.years <= 2080000
-        && duration.months <= 27040000
+    duration.years <= MAX_ADDED_YEARS
+        && duration.months <= MAX_ADDED_MONTHS
         && duration
             .weeks
             .saturating_mul(7)
             .saturating_add(duration.days)
-            <= 838240000
+            <= MAX_ADDED_DAYS
 }
 
 /// The date of a day number, where it is valid.
 fn valid_date<C: Years>(day: RataDie, cal: &C) -> Result<Ymd<C::YearInfo>, DateAddError>
-    ensures on { IsValidOn (C.list cal.now) day (answer_of (C.extended cal.now) result) }
-    ensures belongs { IfOk result (λ d. Belongs (C.list cal.now) (C.extended cal.now) (C.year_of cal.now) d) }
+    ensures on { let y = C.years cal.now in IsValidOn y.list day (answer_of y result) }
+    ensures belongs { IfOk result (λ d. Belongs (C.years cal.now) d) }
 {
     let number = day.to_i64_date();
-    if number < -365242499 || number > 365242134 {
+    if number < FIRST_VALID_DAY || number > LAST_VALID_DAY {
         return Err(DateAddError::Overflow);
     }
     Ok(from_rata_die(day, cal))
 }
 
 /// The day so many days later, or earlier.
-fn days_away(day: RataDie, days: u32, back: bool) -> RataDie
+fn days_away(day: RataDie, days: u32, direction: Direction) -> RataDie
     requires { IsBetween (neg_ℤ (pos 36028000000000000)) (pos 36028000000000000) day }
-    ensures { result ≡ day +ℤ toward back days }
+    ensures { result ≡ day +ℤ toward (is_backward direction) days }
 {
     let count = i64::from(days);
-    if back {
-        RataDie::new(day.to_i64_date() - count)
-    } else {
-        RataDie::new(day.to_i64_date() + count)
+    match direction {
+        Direction::Forward => RataDie::new(day.to_i64_date() + count),
+        Direction::Backward => RataDie::new(day.to_i64_date() - count),
     }
 }
 
@@ -59,12 +64,12 @@ fn date_in_range<C: YearShapes>(
     date: Ymd<C::YearInfo>,
     cal: &C,
 ) -> Result<Ymd<C::YearInfo>, DateAddError>
-    requires year { IsGiven (C.extended cal.now) (C.year_of cal.now) date.year }
-    requires date { IsDate (C.list cal.now) (date_of (C.extended cal.now) date) }
-    ensures on { IsValidOn (C.list cal.now) (day_number (C.list cal.now) (date_of (C.extended cal.now) date)) (answer_of (C.extended cal.now) result) }
-    ensures belongs { IfOk result (λ d. Belongs (C.list cal.now) (C.extended cal.now) (C.year_of cal.now) d) }
+    requires { IsGivenDate (C.years cal.now) date }
+    ensures on { let y = C.years cal.now in
+        IsValidOn y.list (day_number y.list (date_of y date)) (answer_of y result) }
+    ensures belongs { IfOk result (λ d. Belongs (C.years cal.now) d) }
 {
-    if is_in_range(to_rata_die(date, cal)) {
+    if has_valid_day(date, cal) {
         Ok(date)
     } else {
         Err(DateAddError::Overflow)
@@ -72,20 +77,19 @@ fn date_in_range<C: YearShapes>(
 }
 
 /// The day of a month so many days later, or earlier, where the month has it.
-fn day_in_month(day: u8, last: u8, days: u32, back: bool) -> Option<u8>
+fn day_in_month(day: u8, last: u8, days: u32, direction: Direction) -> Option<u8>
     requires { (1 ≤ day) × (day ≤ last) }
-    ensures { IfSome result (λ d. (1 ≤ d) × (d ≤ last) × (pos d ≡ pos day +ℤ toward back days)) }
+    ensures { IfSome result
+        (λ d. (1 ≤ d) × (d ≤ last) × (pos d ≡ pos day +ℤ toward (is_backward direction) days)) }
 {
     if days > 30 {
         return None;
     }
     let count = days as u8;
-    if back {
-        if count < day { Some(day - count) } else { None }
-    } else if count <= last - day {
-        Some(day + count)
-    } else {
-        None
+    match direction {
+        Direction::Forward if count <= last - day => Some(day + count),
+        Direction::Backward if count < day => Some(day - count),
+        _ => None,
     }
 }
 
@@ -94,16 +98,17 @@ fn date_days_away<C: Years>(
     date: Ymd<C::YearInfo>,
     last: u8,
     days: u32,
-    back: bool,
+    direction: Direction,
     cal: &C,
 ) -> Result<Ymd<C::YearInfo>, DateAddError>
-    requires year { IsGiven (C.extended cal.now) (C.year_of cal.now) date.year }
-    requires date { IsDate (C.list cal.now) (date_of (C.extended cal.now) date) }
-    requires last { last ≡ month_length (C.list cal.now) (C.extended cal.now date.year) date.month }
-    ensures on { IsValidOn (C.list cal.now) (day_number (C.list cal.now) (date_of (C.extended cal.now) date) +ℤ toward back days) (answer_of (C.extended cal.now) result) }
-    ensures belongs { IfOk result (λ d. Belongs (C.list cal.now) (C.extended cal.now) (C.year_of cal.now) d) }
+    requires date { IsGivenDate (C.years cal.now) date }
+    requires last { let y = C.years cal.now in last ≡ month_length y.list (y.extended date.year) date.month }
+    ensures on { let y = C.years cal.now in
+        IsValidOn y.list (day_number y.list (date_of y date) +ℤ toward (is_backward direction) days)
+        (answer_of y result) }
+    ensures belongs { IfOk result (λ d. Belongs (C.years cal.now) d) }
 {
-    match day_in_month(date.day, last, days, back) {
+    match day_in_month(date.day, last, days, direction) {
         Some(day) => {
             let there = Ymd {
                 year: date.year,
@@ -112,20 +117,19 @@ fn date_days_away<C: Years>(
             };
             date_in_range(there, cal)
         }
-        None => valid_date(days_away(to_rata_die(date, cal), days, back), cal),
+        None => valid_date(days_away(to_rata_die(date, cal), days, direction), cal),
     }
 }
 
 /// The year so many years later, or earlier.
-fn moved_year(year: i32, years: u32, back: bool) -> i32
+fn moved_year(year: i32, years: u32, direction: Direction) -> i32
     requires year { IsFieldYear year }
     requires years { years ≤ 2080000 }
-    ensures { result ≡ year +ℤ toward back years }
+    ensures { result ≡ year +ℤ toward (is_backward direction) years }
 {
-    if back {
-        year - years as i32
-    } else {
-        year + years as i32
+    match direction {
+        Direction::Forward => year + years as i32,
+        Direction::Backward => year - years as i32,
     }
 }
 
@@ -133,18 +137,19 @@ fn moved_year(year: i32, years: u32, back: bool) -> i32
 pub fn can_be_named(year: i32) -> bool
     ensures { result ≡ is_field_year year }
 {
-    -1040000 <= year && year <= 1040000
+    -MAX_FIELD_YEAR <= year && year <= MAX_FIELD_YEAR
 }
 
 /// The year so many years later, or earlier, where with the shift it is one that fields may name.
-fn field_year(year: i32, years: u32, back: bool, shift: i32) -> Option<i32>
+fn field_year(year: i32, years: u32, direction: Direction, shift: i32) -> Option<i32>
     requires year { IsFieldYear year }
     requires years { years ≤ 2080000 }
     requires shift { IsFieldYear shift }
-    ensures some { IfSome result (λ y. (y ≡ year +ℤ toward back years) × (is_field_year (year +ℤ toward back years +ℤ shift) ≡ true)) }
-    ensures none { IfNone result (is_field_year (year +ℤ toward back years +ℤ shift) ≡ false) }
+    ensures some { let moved = year +ℤ toward (is_backward direction) years in
+        IfSome result (λ y. (y ≡ moved) × (is_field_year (moved +ℤ shift) ≡ true)) }
+    ensures none { IfNone result (is_field_year (year +ℤ toward (is_backward direction) years +ℤ shift) ≡ false) }
 {
-    let number = moved_year(year, years, back);
+    let number = moved_year(year, years, direction);
     if can_be_named(number + shift) {
         Some(number)
     } else {
@@ -161,25 +166,26 @@ pub(crate) fn added<C: Years>(
     shift: i32,
     cal: &C,
 ) -> Result<Ymd<C::YearInfo>, DateAddError>
-    requires year { IsGiven (C.extended cal.now) (C.year_of cal.now) from.year }
-    requires from { IsDate (C.list cal.now) (date_of (C.extended cal.now) from) }
-    requires range { IsFieldYear (C.extended cal.now from.year) }
+    requires from { IsGivenDate (C.years cal.now) from }
+    requires range { IsFieldYear ((C.years cal.now).extended from.year) }
     requires shift { IsFieldYear shift }
-    ensures sum { IsSum (C.list cal.now) shift (date_of (C.extended cal.now) from) duration overflow (answer_of (C.extended cal.now) result) }
-    ensures belongs { IfOk result (λ d. Belongs (C.list cal.now) (C.extended cal.now) (C.year_of cal.now) d) }
+    ensures sum { let y = C.years cal.now in
+        IsSum y.list shift (date_of y from) duration overflow (answer_of y result) }
+    ensures belongs { IfOk result (λ d. Belongs (C.years cal.now) d) }
 {
     if !can_be_added(duration) {
         return Err(DateAddError::Overflow);
     }
+    let direction = Direction::from_sign(duration.is_negative);
     let year = cal.extended_from_year_info(from.year);
-    let reached = match field_year(year, duration.years, duration.is_negative, shift) {
+    let reached = match field_year(year, duration.years, direction, shift) {
         None => return Err(DateAddError::Overflow),
         Some(number) => cal.year_info_from_extended(number),
     };
     match place_in(from.year, from.month, reached, overflow, cal) {
         None => Err(DateAddError::MonthNotInYear),
         Some(place) => {
-            let there = months_away(reached, place, duration.months, duration.is_negative, cal);
+            let there = months_away(reached, place, duration.months, direction, cal);
             sum_from_month(there, from.day, duration, overflow, cal)
         }
     }
@@ -193,12 +199,12 @@ fn sum_from_month<C: Years>(
     overflow: Overflow,
     cal: &C,
 ) -> Result<Ymd<C::YearInfo>, DateAddError>
-    requires year { IsGiven (C.extended cal.now) (C.year_of cal.now) reached.year }
-    requires place { HasPlace (C.list cal.now) (C.extended cal.now reached.year) reached.month }
+    requires month { HasMonth (C.years cal.now) reached.year reached.month }
     requires day { 1 ≤ day }
     requires days { 7 * duration.weeks + duration.days ≤ 838240000 }
-    ensures sum { IsSumFromMonth (C.list cal.now) (C.extended cal.now reached.year) reached.month day duration overflow (answer_of (C.extended cal.now) result) }
-    ensures belongs { IfOk result (λ d. Belongs (C.list cal.now) (C.extended cal.now) (C.year_of cal.now) d) }
+    ensures sum { let y = C.years cal.now in
+        IsSumFromMonth y.list (y.extended reached.year) reached.month day duration overflow (answer_of y result) }
+    ensures belongs { IfOk result (λ d. Belongs (C.years cal.now) d) }
 {
     let last = cal.days_in_provided_month(reached.year, reached.month);
     if matches!(overflow, Overflow::Reject) && day > last {
@@ -213,7 +219,7 @@ fn sum_from_month<C: Years>(
         there,
         last,
         7 * duration.weeks + duration.days,
-        duration.is_negative,
+        Direction::from_sign(duration.is_negative),
         cal,
     )
 }

@@ -1,6 +1,6 @@
 //! Packed dates of any calendar.
 
-ghost use Rattle.std.specs.Prelude.{◌≡◌, ℕ, ℤ, pos, ◌+◌, ◌≤◌, ◌<◌, ◌-ℤ◌, ◌++◌, ◌==◌, unsigned_abs, Ok, IfOk};
+ghost use Rattle.std.specs.Prelude.{◌≡◌, ⊤, pos, ◌+◌, ◌≤◌, ◌<◌, ◌-ℤ◌, ◌++◌, ◌==◌, unsigned_abs, Ok, IfOk};
 ghost use Rattle.std.proofs.Common.{rules};
 ghost use Rattle.std.specs.Cmp.{partial_order_from_own_ties, partial_order_from_total, then_total, on_total};
 ghost use Rattle.std.specs.Cmp.Rules.{comparing, hashing};
@@ -11,7 +11,7 @@ ghost use Rattle.cal_days.specs.Day.{IsFieldYear, IsValidDay};
 ghost use Rattle.cal_model.specs.CalendarList.{IsOn, day_number};
 ghost use Rattle.cal_model.specs.Adding.{add_overflow_of, IsSum};
 ghost use Rattle.cal_model.specs.Difference.{IsDifference, largest_unit_of};
-ghost use Rattle.cal_arith.specs.Dates.{answer_by, date_of, parts_of, Belongs};
+ghost use Rattle.cal_arith.specs.Dates.{answer_by, date_of, Belongs};
 ghost use Rattle.cal_arith.specs.Ticks.{most_ticks};
 
 use crate::adding::added;
@@ -41,11 +41,28 @@ pub struct ArithmeticDate<C, P = <<C as YearShapes>::YearInfo as PackWithMD>::Pa
 impl<C, P: Copy> Copy for ArithmeticDate<C, P> {}
 
 impl<C, P: Copy> Clone for ArithmeticDate<C, P> {
+    ghost is_clone = { λ a b. b ≡ a };
+
+    ghost is_infallible = { λ _. ⊤ };
+
     fn clone(&self) -> Result<Self, AllocError> {
-        Ok(ArithmeticDate {
+        let same: Self = ArithmeticDate {
             packed: self.packed,
             of: PhantomData,
-        })
+        };
+        Ok(same)
+    }
+}
+
+impl<C, P: Copy> ArithmeticDate<C, P> {
+    /// The same parts as a date of another calendar that packs its dates alike.
+    pub fn cast<D>(self) -> ArithmeticDate<D, P>
+        ensures { result.packed ≡ self.packed }
+    {
+        ArithmeticDate {
+            packed: self.packed,
+            of: PhantomData,
+        }
     }
 }
 
@@ -53,37 +70,37 @@ impl<C: DateFieldsResolver> ArithmeticDate<C> {
     /// The date of a valid day.
     pub fn from_rata_die(rd: RataDie, cal: &C) -> Self
         requires { IsValidDay rd }
-        ensures on { IsOn (C.list cal.now) rd (date_of (C.extended cal.now) (parts_of C.YearInfo.year_in C.YearInfo.month_in C.YearInfo.day_in result.packed)) }
-        ensures belongs { Belongs (C.list cal.now) (C.extended cal.now) (C.year_of cal.now) (parts_of C.YearInfo.year_in C.YearInfo.month_in C.YearInfo.day_in result.packed) }
+        ensures on { let y = C.years cal.now in IsOn y.list rd (date_of y (C.YearInfo.parts result.packed)) }
+        ensures belongs { Belongs (C.years cal.now) (C.YearInfo.parts result.packed) }
     {
-        ArithmeticDate::of_parts(from_rata_die(rd, cal), cal)
+        ArithmeticDate::from_parts(from_rata_die(rd, cal), cal)
     }
 
     /// The day number of a date that belongs to the calendar.
     pub fn to_rata_die(self, cal: &C) -> RataDie
-        requires { Belongs (C.list cal.now) (C.extended cal.now) (C.year_of cal.now) (parts_of C.YearInfo.year_in C.YearInfo.month_in C.YearInfo.day_in self.packed) }
-        ensures { result ≡ day_number (C.list cal.now) (date_of (C.extended cal.now) (parts_of C.YearInfo.year_in C.YearInfo.month_in C.YearInfo.day_in self.packed)) }
+        requires { Belongs (C.years cal.now) (C.YearInfo.parts self.packed) }
+        ensures { let y = C.years cal.now in result ≡ day_number y.list (date_of y (C.YearInfo.parts self.packed)) }
     {
         to_rata_die(parts::<C>(self.packed), cal)
     }
 
     /// The year.
     pub fn year(self) -> C::YearInfo
-        ensures { result ≡ C.YearInfo.year_in self.packed }
+        ensures { result ≡ (C.YearInfo.parts self.packed).year }
     {
         <C::YearInfo as PackWithMD>::unpack_year(self.packed)
     }
 
     /// The place of the month in its year, from 1.
     pub fn month(self) -> u8
-        ensures { result ≡ C.YearInfo.month_in self.packed }
+        ensures { result ≡ (C.YearInfo.parts self.packed).month }
     {
         <C::YearInfo as PackWithMD>::unpack_month(self.packed)
     }
 
     /// The day of the month, from 1.
     pub fn day(self) -> u8
-        ensures { result ≡ C.YearInfo.day_in self.packed }
+        ensures { result ≡ (C.YearInfo.parts self.packed).day }
     {
         <C::YearInfo as PackWithMD>::unpack_day(self.packed)
     }
@@ -102,9 +119,11 @@ impl<C: DateFieldsResolver> ArithmeticDate<C> {
         cal: &C,
         options: DateAddOptions,
     ) -> Result<Self, DateAddError>
-        requires { Belongs (C.list cal.now) (C.extended cal.now) (C.year_of cal.now) (parts_of C.YearInfo.year_in C.YearInfo.month_in C.YearInfo.day_in self.now.packed) }
-        ensures sum { IsSum (C.list cal.now) (pos 0) (date_of (C.extended cal.now) (parts_of C.YearInfo.year_in C.YearInfo.month_in C.YearInfo.day_in self.now.packed)) duration (add_overflow_of options.overflow) (answer_by (λ a. date_of (C.extended cal.now) (parts_of C.YearInfo.year_in C.YearInfo.month_in C.YearInfo.day_in a.packed)) result) }
-        ensures belongs { IfOk result (λ a. Belongs (C.list cal.now) (C.extended cal.now) (C.year_of cal.now) (parts_of C.YearInfo.year_in C.YearInfo.month_in C.YearInfo.day_in a.packed)) }
+        requires { Belongs (C.years cal.now) (C.YearInfo.parts self.now.packed) }
+        ensures sum { let y = C.years cal.now in let parts = C.YearInfo.parts in
+            IsSum y.list (pos 0) (date_of y (parts self.now.packed)) duration (add_overflow_of options.overflow)
+            (answer_by (λ a. date_of y (parts a.packed)) result) }
+        ensures belongs { IfOk result (λ a. Belongs (C.years cal.now) (C.YearInfo.parts a.packed)) }
     {
         self.added_shifted(duration, cal, options, 0)
     }
@@ -119,14 +138,16 @@ impl<C: DateFieldsResolver> ArithmeticDate<C> {
         options: DateAddOptions,
         shift: i32,
     ) -> Result<Self, DateAddError>
-        requires date { Belongs (C.list cal.now) (C.extended cal.now) (C.year_of cal.now) (parts_of C.YearInfo.year_in C.YearInfo.month_in C.YearInfo.day_in self.now.packed) }
+        requires date { Belongs (C.years cal.now) (C.YearInfo.parts self.now.packed) }
         requires shift { IsFieldYear shift }
-        ensures sum { IsSum (C.list cal.now) shift (date_of (C.extended cal.now) (parts_of C.YearInfo.year_in C.YearInfo.month_in C.YearInfo.day_in self.now.packed)) duration (add_overflow_of options.overflow) (answer_by (λ a. date_of (C.extended cal.now) (parts_of C.YearInfo.year_in C.YearInfo.month_in C.YearInfo.day_in a.packed)) result) }
-        ensures belongs { IfOk result (λ a. Belongs (C.list cal.now) (C.extended cal.now) (C.year_of cal.now) (parts_of C.YearInfo.year_in C.YearInfo.month_in C.YearInfo.day_in a.packed)) }
+        ensures sum { let y = C.years cal.now in let parts = C.YearInfo.parts in
+            IsSum y.list shift (date_of y (parts self.now.packed)) duration (add_overflow_of options.overflow)
+            (answer_by (λ a. date_of y (parts a.packed)) result) }
+        ensures belongs { IfOk result (λ a. Belongs (C.years cal.now) (C.YearInfo.parts a.packed)) }
     {
         let from = parts::<C>(self.packed);
         match added(from, duration, add_overflow(options), shift, cal) {
-            Ok(sum) => Ok(ArithmeticDate::of_parts(sum, cal)),
+            Ok(sum) => Ok(ArithmeticDate::from_parts(sum, cal)),
             Err(e) => Err(e),
         }
     }
@@ -135,16 +156,20 @@ impl<C: DateFieldsResolver> ArithmeticDate<C> {
     /// weeks and days, each as many as do not surpass the other date. The default of the option
     /// `largest_unit` is days. Added to this date under [`Overflow::Constrain`], it gives the other date.
     pub fn until(&self, other: &Self, cal: &C, options: DateDifferenceOptions) -> DateDuration
-        requires from { Belongs (C.list cal.now) (C.extended cal.now) (C.year_of cal.now) (parts_of C.YearInfo.year_in C.YearInfo.month_in C.YearInfo.day_in self.now.packed) }
-        requires to { Belongs (C.list cal.now) (C.extended cal.now) (C.year_of cal.now) (parts_of C.YearInfo.year_in C.YearInfo.month_in C.YearInfo.day_in other.now.packed) }
-        ensures difference { IsDifference (C.list cal.now) (date_of (C.extended cal.now) (parts_of C.YearInfo.year_in C.YearInfo.month_in C.YearInfo.day_in self.now.packed)) (date_of (C.extended cal.now) (parts_of C.YearInfo.year_in C.YearInfo.month_in C.YearInfo.day_in other.now.packed)) (largest_unit_of options.largest_unit) result }
-        ensures leads_back { IsSum (C.list cal.now) (C.offset cal.now) (date_of (C.extended cal.now) (parts_of C.YearInfo.year_in C.YearInfo.month_in C.YearInfo.day_in self.now.packed)) result Overflow.Constrain (Ok (date_of (C.extended cal.now) (parts_of C.YearInfo.year_in C.YearInfo.month_in C.YearInfo.day_in other.now.packed))) }
+        requires from { Belongs (C.years cal.now) (C.YearInfo.parts self.now.packed) }
+        requires to { Belongs (C.years cal.now) (C.YearInfo.parts other.now.packed) }
+        ensures difference { let y = C.years cal.now in let parts = C.YearInfo.parts in
+            IsDifference y.list (date_of y (parts self.now.packed)) (date_of y (parts other.now.packed))
+            (largest_unit_of options.largest_unit) result }
+        ensures leads_back { let y = C.years cal.now in let parts = C.YearInfo.parts in
+            IsSum y.list y.offset (date_of y (parts self.now.packed)) result Overflow.Constrain
+            (Ok (date_of y (parts other.now.packed))) }
     {
         ArithmeticDate::<C>::until_with_blank::<Brand>(self, other, cal, options, Blank::new(1))
     }
 
-    /// The duration of [`ArithmeticDate::until`] within at most 8 look-ups of years; where months are the
-    /// largest unit, at most 8 and one more for each year between the dates.
+    /// The duration of [`ArithmeticDate::until`]. It adds at most 8 ticks to the counter that is handed in; where
+    /// months are the largest unit, at most 8 and one more for each year between the dates.
     pub fn until_counted<L: Ledger>(
         &self,
         other: &Self,
@@ -152,11 +177,17 @@ impl<C: DateFieldsResolver> ArithmeticDate<C> {
         options: DateDifferenceOptions,
         steps: &mut Steps<L>,
     ) -> DateDuration
-        requires from { Belongs (C.list cal.now) (C.extended cal.now) (C.year_of cal.now) (parts_of C.YearInfo.year_in C.YearInfo.month_in C.YearInfo.day_in self.now.packed) }
-        requires to { Belongs (C.list cal.now) (C.extended cal.now) (C.year_of cal.now) (parts_of C.YearInfo.year_in C.YearInfo.month_in C.YearInfo.day_in other.now.packed) }
-        ensures difference { IsDifference (C.list cal.now) (date_of (C.extended cal.now) (parts_of C.YearInfo.year_in C.YearInfo.month_in C.YearInfo.day_in self.now.packed)) (date_of (C.extended cal.now) (parts_of C.YearInfo.year_in C.YearInfo.month_in C.YearInfo.day_in other.now.packed)) (largest_unit_of options.largest_unit) result }
-        ensures leads_back { IsSum (C.list cal.now) (C.offset cal.now) (date_of (C.extended cal.now) (parts_of C.YearInfo.year_in C.YearInfo.month_in C.YearInfo.day_in self.now.packed)) result Overflow.Constrain (Ok (date_of (C.extended cal.now) (parts_of C.YearInfo.year_in C.YearInfo.month_in C.YearInfo.day_in other.now.packed))) }
-        ensures ticks { steps.new ≤ steps.old + most_ticks (largest_unit_of options.largest_unit) (unsigned_abs (C.extended cal.now (C.YearInfo.year_in other.now.packed) -ℤ C.extended cal.now (C.YearInfo.year_in self.now.packed))) }
+        requires from { Belongs (C.years cal.now) (C.YearInfo.parts self.now.packed) }
+        requires to { Belongs (C.years cal.now) (C.YearInfo.parts other.now.packed) }
+        ensures difference { let y = C.years cal.now in let parts = C.YearInfo.parts in
+            IsDifference y.list (date_of y (parts self.now.packed)) (date_of y (parts other.now.packed))
+            (largest_unit_of options.largest_unit) result }
+        ensures leads_back { let y = C.years cal.now in let parts = C.YearInfo.parts in
+            IsSum y.list y.offset (date_of y (parts self.now.packed)) result Overflow.Constrain
+            (Ok (date_of y (parts other.now.packed))) }
+        ensures ticks { let y = C.years cal.now in let parts = C.YearInfo.parts in
+            steps.new ≤ steps.old + most_ticks (largest_unit_of options.largest_unit)
+            (unsigned_abs (y.extended (parts other.now.packed).year -ℤ y.extended (parts self.now.packed).year)) }
     {
         let from = parts::<C>(self.packed);
         let to = parts::<C>(other.packed);
@@ -171,22 +202,26 @@ impl<C: DateFieldsResolver> ArithmeticDate<C> {
         options: DateDifferenceOptions,
         blank: Blank,
     ) -> DateDuration
-        requires from { Belongs (C.list cal.now) (C.extended cal.now) (C.year_of cal.now) (parts_of C.YearInfo.year_in C.YearInfo.month_in C.YearInfo.day_in self.now.packed) }
-        requires to { Belongs (C.list cal.now) (C.extended cal.now) (C.year_of cal.now) (parts_of C.YearInfo.year_in C.YearInfo.month_in C.YearInfo.day_in other.now.packed) }
+        requires from { Belongs (C.years cal.now) (C.YearInfo.parts self.now.packed) }
+        requires to { Belongs (C.years cal.now) (C.YearInfo.parts other.now.packed) }
         requires name { blank.name ≡ L.name }
         requires parts { blank.parts ≡ L.parts }
         requires some { 0 < blank.parts }
-        ensures difference { IsDifference (C.list cal.now) (date_of (C.extended cal.now) (parts_of C.YearInfo.year_in C.YearInfo.month_in C.YearInfo.day_in self.now.packed)) (date_of (C.extended cal.now) (parts_of C.YearInfo.year_in C.YearInfo.month_in C.YearInfo.day_in other.now.packed)) (largest_unit_of options.largest_unit) result }
-        ensures leads_back { IsSum (C.list cal.now) (C.offset cal.now) (date_of (C.extended cal.now) (parts_of C.YearInfo.year_in C.YearInfo.month_in C.YearInfo.day_in self.now.packed)) result Overflow.Constrain (Ok (date_of (C.extended cal.now) (parts_of C.YearInfo.year_in C.YearInfo.month_in C.YearInfo.day_in other.now.packed))) }
+        ensures difference { let y = C.years cal.now in let parts = C.YearInfo.parts in
+            IsDifference y.list (date_of y (parts self.now.packed)) (date_of y (parts other.now.packed))
+            (largest_unit_of options.largest_unit) result }
+        ensures leads_back { let y = C.years cal.now in let parts = C.YearInfo.parts in
+            IsSum y.list y.offset (date_of y (parts self.now.packed)) result Overflow.Constrain
+            (Ok (date_of y (parts other.now.packed))) }
     {
         let mut steps = Steps::<L>::new(blank);
         self.until_counted(other, cal, options, &mut steps)
     }
 
     /// The date of these parts, which belong to a calendar.
-    pub(crate) fn of_parts(date: Ymd<C::YearInfo>, cal: &C) -> Self
-        requires { Belongs (C.list cal.now) (C.extended cal.now) (C.year_of cal.now) date }
-        ensures { parts_of C.YearInfo.year_in C.YearInfo.month_in C.YearInfo.day_in result.packed ≡ date }
+    pub(crate) fn from_parts(date: Ymd<C::YearInfo>, cal: &C) -> Self
+        requires { Belongs (C.years cal.now) date }
+        ensures { C.YearInfo.parts result.packed ≡ date }
     {
         ArithmeticDate {
             packed: date.year.pack(date.month, date.day),
@@ -197,7 +232,7 @@ impl<C: DateFieldsResolver> ArithmeticDate<C> {
 
 /// The parts of a packed date.
 pub(crate) fn parts<C: YearShapes>(packed: <C::YearInfo as PackWithMD>::Packed) -> Ymd<C::YearInfo>
-    ensures { result ≡ parts_of C.YearInfo.year_in C.YearInfo.month_in C.YearInfo.day_in packed }
+    ensures { result ≡ C.YearInfo.parts packed }
 {
     Ymd {
         year: <C::YearInfo as PackWithMD>::unpack_year(packed),
@@ -218,7 +253,9 @@ fn add_overflow(options: DateAddOptions) -> Overflow
 
 /// By year, month's place and day.
 impl<C: DateFieldsResolver> PartialEq for ArithmeticDate<C> {
-    ghost eq = { eq_of_both (on (λ a. C.YearInfo.year_in a.packed) C.YearInfo.eq) (eq_of_both (on (λ a. C.YearInfo.month_in a.packed) ◌==◌) (on (λ a. C.YearInfo.day_in a.packed) ◌==◌)) };
+    ghost eq = { eq_of_both (on (λ a. (C.YearInfo.parts a.packed).year) C.YearInfo.eq)
+        (eq_of_both (on (λ a. (C.YearInfo.parts a.packed).month) ◌==◌)
+        (on (λ a. (C.YearInfo.parts a.packed).day) ◌==◌)) };
 
     ghost laws = { Prim.search (comparing, rules, C.YearInfo.PartialEq.laws) };
 
@@ -238,9 +275,13 @@ impl<C: DateFieldsResolver> Eq for ArithmeticDate<C> {
 
 /// By year, then month's place, then day.
 impl<C: DateFieldsResolver> Ord for ArithmeticDate<C> {
-    ghost cmp = { then_cmp (on (λ a. C.YearInfo.year_in a.packed) C.YearInfo.cmp) (then_cmp (on (λ a. C.YearInfo.month_in a.packed) nat_cmp) (on (λ a. C.YearInfo.day_in a.packed) nat_cmp)) };
+    ghost cmp = { then_cmp (on (λ a. (C.YearInfo.parts a.packed).year) C.YearInfo.cmp)
+        (then_cmp (on (λ a. (C.YearInfo.parts a.packed).month) nat_cmp)
+        (on (λ a. (C.YearInfo.parts a.packed).day) nat_cmp)) };
 
-    ghost total = { (then_total (on_total (λ a. C.YearInfo.year_in a.packed) C.YearInfo.total) (then_total (on_total (λ a. C.YearInfo.month_in a.packed) nat_cmp_total) (on_total (λ a. C.YearInfo.day_in a.packed) nat_cmp_total))) };
+    ghost total = { (then_total (on_total (λ a. (C.YearInfo.parts a.packed).year) C.YearInfo.total)
+        (then_total (on_total (λ a. (C.YearInfo.parts a.packed).month) nat_cmp_total)
+        (on_total (λ a. (C.YearInfo.parts a.packed).day) nat_cmp_total))) };
 
     ghost matches_partial_cmp = { Prim.search (comparing, rules) };
 
@@ -259,9 +300,17 @@ impl<C: DateFieldsResolver> Ord for ArithmeticDate<C> {
 }
 
 impl<C: DateFieldsResolver> PartialOrd for ArithmeticDate<C> {
-    ghost partial_cmp = { as_partial_cmp (then_cmp (on (λ a. C.YearInfo.year_in a.packed) C.YearInfo.cmp) (then_cmp (on (λ a. C.YearInfo.month_in a.packed) nat_cmp) (on (λ a. C.YearInfo.day_in a.packed) nat_cmp))) };
+    ghost partial_cmp = { as_partial_cmp
+        (then_cmp (on (λ a. (C.YearInfo.parts a.packed).year) C.YearInfo.cmp)
+        (then_cmp (on (λ a. (C.YearInfo.parts a.packed).month) nat_cmp)
+        (on (λ a. (C.YearInfo.parts a.packed).day) nat_cmp))) };
 
-    ghost laws = { partial_order_from_own_ties (partial_order_from_total (then_total (on_total (λ a. C.YearInfo.year_in a.packed) C.YearInfo.total) (then_total (on_total (λ a. C.YearInfo.month_in a.packed) nat_cmp_total) (on_total (λ a. C.YearInfo.day_in a.packed) nat_cmp_total)))) (Prim.search (comparing, rules, C.YearInfo.matches_eq)) };
+    ghost laws = { partial_order_from_own_ties
+        (partial_order_from_total
+        (then_total (on_total (λ a. (C.YearInfo.parts a.packed).year) C.YearInfo.total)
+        (then_total (on_total (λ a. (C.YearInfo.parts a.packed).month) nat_cmp_total)
+        (on_total (λ a. (C.YearInfo.parts a.packed).day) nat_cmp_total))))
+        (Prim.search (comparing, rules, C.YearInfo.matches_eq)) };
 
     fn partial_cmp(&self, other: &Self) -> Option<Ordering> {
         Some(self.cmp(other))
@@ -269,7 +318,8 @@ impl<C: DateFieldsResolver> PartialOrd for ArithmeticDate<C> {
 }
 
 impl<C: DateFieldsResolver> Hash for ArithmeticDate<C> {
-    ghost hash_input = { λ a. C.YearInfo.hash_input (C.YearInfo.year_in a.packed) ++ fed.u8 (C.YearInfo.month_in a.packed) ++ fed.u8 (C.YearInfo.day_in a.packed) };
+    ghost hash_input = { λ a. C.YearInfo.hash_input (C.YearInfo.parts a.packed).year
+        ++ fed.u8 (C.YearInfo.parts a.packed).month ++ fed.u8 (C.YearInfo.parts a.packed).day };
 
     ghost respects_eq = { Prim.search (hashing, rules, C.YearInfo.respects_eq) };
 

@@ -1,10 +1,10 @@
 //! Dates as a year, the place of a month and a day.
 
 ghost use Rattle.std.specs.Prelude.{◌≡◌, ◌<◌, ◌+ℤ◌, pos};
-ghost use Rattle.cal_model.specs.CalendarList.{IsDate, IsOn, date, day_number, start_of_year, year_length};
+ghost use Rattle.cal_model.specs.CalendarList.{IsOn, date, day_number, start_of_year, year_length};
 ghost use Rattle.cal_days.specs.Day.{IsValidDay};
 ghost use Rattle.cal_arith.specs.Given.{IsGiven};
-ghost use Rattle.cal_arith.specs.Dates.{date_of, Belongs};
+ghost use Rattle.cal_arith.specs.Dates.{date_of, ymd, Belongs, IsGivenDate};
 
 use crate::years::{YearShapes, Years};
 use cal_days::RataDie;
@@ -22,9 +22,8 @@ pub struct Ymd<Y> {
 
 /// The day number of a date.
 pub(crate) fn to_rata_die<C: YearShapes>(date: Ymd<C::YearInfo>, cal: &C) -> RataDie
-    requires year { IsGiven (C.extended cal.now) (C.year_of cal.now) date.year }
-    requires date { IsDate (C.list cal.now) (date_of (C.extended cal.now) date) }
-    ensures { result ≡ day_number (C.list cal.now) (date_of (C.extended cal.now) date) }
+    requires { IsGivenDate (C.years cal.now) date }
+    ensures { let y = C.years cal.now in result ≡ day_number y.list (date_of y date) }
 {
     cal.to_rata_die_inner(date.year, date.month, date.day)
 }
@@ -36,9 +35,10 @@ pub(crate) fn month_by_month<C: YearShapes>(
     day_of_year: u16,
     cal: &C,
 ) -> (u8, u8)
-    requires year { IsGiven (C.extended cal.now) (C.year_of cal.now) year }
-    requires within { day_of_year < year_length (C.list cal.now) (C.extended cal.now year) }
-    ensures { IsOn (C.list cal.now) (start_of_year (C.list cal.now) (C.extended cal.now year) +ℤ pos day_of_year) (date (C.extended cal.now year) result.0 result.1) }
+    requires year { IsGiven (C.years cal.now) year }
+    requires within { let y = C.years cal.now in day_of_year < year_length y.list (y.extended year) }
+    ensures { let y = C.years cal.now in let day = start_of_year y.list (y.extended year) +ℤ pos day_of_year in
+        IsOn y.list day (date_of y (ymd year result.0 result.1)) }
 {
     let mut month = 1;
     let mut rest = day_of_year;
@@ -54,10 +54,9 @@ pub(crate) fn month_by_month<C: YearShapes>(
 /// The date of a day number.
 pub(crate) fn from_rata_die<C: Years>(rd: RataDie, cal: &C) -> Ymd<C::YearInfo>
     requires { IsValidDay rd }
-    ensures on { IsOn (C.list cal.now) rd (date_of (C.extended cal.now) result) }
-    ensures belongs { Belongs (C.list cal.now) (C.extended cal.now) (C.year_of cal.now) result }
+    ensures on { let y = C.years cal.now in IsOn y.list rd (date_of y result) }
+    ensures belongs { Belongs (C.years cal.now) result }
 {
-    let (year, day_of_year) = cal.year_and_day(rd);
-    let (month, day) = cal.month_and_day(year, day_of_year);
+    let (year, month, day) = cal.year_month_day(rd);
     Ymd { year, month, day }
 }

@@ -5,9 +5,11 @@ ghost use Rattle.cal_model.specs.CalendarList.{date};
 ghost use Rattle.cal_model.specs.Adding.{IsSum};
 ghost use Rattle.cal_model.specs.Difference.{IsDifference, admits_weeks, largest_unit_of};
 ghost use Rattle.cal_arith.specs.Dates.{date_of, ymd, Belongs};
+ghost use Rattle.cal_arith.specs.Directions.{is_backward};
 ghost use Rattle.cal_arith.specs.Ticks.{most_ticks};
 
 use crate::dates::{Ymd, to_rata_die};
+use crate::direction::Direction;
 use crate::months_between::admitted_months;
 use crate::steps::Steps;
 use crate::years::YearShapes;
@@ -16,11 +18,11 @@ use cal_days::RataDie;
 use cal_types::{DateDifferenceOptions, DateDuration, DateDurationUnit, Overflow};
 use std::sync::ledger::Ledger;
 
-/// Whether the second day lies before the first.
-fn is_back(first: RataDie, second: RataDie) -> bool
-    ensures { IsTrue result ↔ (second <ℤ first) }
+/// The direction in which the second day lies from the first: backward where it lies before it.
+fn direction_between(first: RataDie, second: RataDie) -> Direction
+    ensures { IsTrue (is_backward result) ↔ (second <ℤ first) }
 {
-    second < first
+    Direction::from_sign(second < first)
 }
 
 /// How many days lie between two days.
@@ -51,23 +53,26 @@ pub(crate) fn difference<C: YearShapes, L: Ledger>(
     cal: &C,
     steps: &mut Steps<L>,
 ) -> DateDuration
-    requires from { Belongs (C.list cal.now) (C.extended cal.now) (C.year_of cal.now) from }
-    requires to { Belongs (C.list cal.now) (C.extended cal.now) (C.year_of cal.now) to }
-    ensures difference { IsDifference (C.list cal.now) (date_of (C.extended cal.now) from) (date_of (C.extended cal.now) to) unit result }
-    ensures leads_back { IsSum (C.list cal.now) (C.offset cal.now) (date_of (C.extended cal.now) from) result Overflow.Constrain (Ok (date_of (C.extended cal.now) to)) }
-    ensures ticks { steps.new ≤ steps.old + most_ticks unit (unsigned_abs (C.extended cal.now to.year -ℤ C.extended cal.now from.year)) }
+    requires from { Belongs (C.years cal.now) from }
+    requires to { Belongs (C.years cal.now) to }
+    ensures difference { let y = C.years cal.now in
+        IsDifference y.list (date_of y from) (date_of y to) unit result }
+    ensures leads_back { let y = C.years cal.now in
+        IsSum y.list y.offset (date_of y from) result Overflow.Constrain (Ok (date_of y to)) }
+    ensures ticks { let y = C.years cal.now in
+        steps.new ≤ steps.old + most_ticks unit (unsigned_abs (y.extended to.year -ℤ y.extended from.year)) }
 {
     let second = to_rata_die(to, cal);
-    let back = is_back(to_rata_die(from, cal), second);
-    let years = admitted_years(from, to, unit, back, cal);
-    let start = month_after_years(from, to, years, back, cal, steps);
-    let reached = admitted_months(from, to, start, years, unit, back, cal, steps);
+    let direction = direction_between(to_rata_die(from, cal), second);
+    let years = admitted_years(from, to, unit, direction, cal);
+    let start = month_after_years(from, to, years, direction, cal, steps);
+    let reached = admitted_months(from, to, start, years, unit, direction, cal, steps);
     let length = cal.days_in_provided_month(reached.year, reached.month);
     let base = cal.to_rata_die_inner(reached.year, reached.month, from.day.min(length));
     let left = days_apart(base, second);
     let weeks = admitted_weeks(left, unit);
     DateDuration {
-        is_negative: back,
+        is_negative: direction.is_backward(),
         years,
         months: reached.months,
         weeks,
@@ -76,7 +81,8 @@ pub(crate) fn difference<C: YearShapes, L: Ledger>(
 }
 
 /// The duration of [`crate::ArithmeticDate::until`] between two dates, each a year, the place of a month and a
-/// day, within the look-ups of [`crate::ArithmeticDate::until_counted`].
+/// day. It looks up at most 8 years; where months are the largest unit, at most 8 and one more for each year
+/// between the dates. Each look-up is a tick: [`YearShapes`] offers no other.
 pub fn difference_counted<C: YearShapes, L: Ledger>(
     from: (C::YearInfo, u8, u8),
     to: (C::YearInfo, u8, u8),
@@ -84,11 +90,17 @@ pub fn difference_counted<C: YearShapes, L: Ledger>(
     options: DateDifferenceOptions,
     steps: &mut Steps<L>,
 ) -> DateDuration
-    requires from { Belongs (C.list calendar.now) (C.extended calendar.now) (C.year_of calendar.now) (ymd from.0 from.1 from.2) }
-    requires to { Belongs (C.list calendar.now) (C.extended calendar.now) (C.year_of calendar.now) (ymd to.0 to.1 to.2) }
-    ensures difference { IsDifference (C.list calendar.now) (date (C.extended calendar.now from.0) from.1 from.2) (date (C.extended calendar.now to.0) to.1 to.2) (largest_unit_of options.largest_unit) result }
-    ensures leads_back { IsSum (C.list calendar.now) (C.offset calendar.now) (date (C.extended calendar.now from.0) from.1 from.2) result Overflow.Constrain (Ok (date (C.extended calendar.now to.0) to.1 to.2)) }
-    ensures ticks { steps.new ≤ steps.old + most_ticks (largest_unit_of options.largest_unit) (unsigned_abs (C.extended calendar.now to.0 -ℤ C.extended calendar.now from.0)) }
+    requires from { Belongs (C.years calendar.now) (ymd from.0 from.1 from.2) }
+    requires to { Belongs (C.years calendar.now) (ymd to.0 to.1 to.2) }
+    ensures difference { let y = C.years calendar.now in
+        IsDifference y.list (date (y.extended from.0) from.1 from.2) (date (y.extended to.0) to.1 to.2)
+        (largest_unit_of options.largest_unit) result }
+    ensures leads_back { let y = C.years calendar.now in
+        IsSum y.list y.offset (date (y.extended from.0) from.1 from.2) result Overflow.Constrain
+        (Ok (date (y.extended to.0) to.1 to.2)) }
+    ensures ticks { let y = C.years calendar.now in
+        steps.new ≤ steps.old + most_ticks (largest_unit_of options.largest_unit)
+        (unsigned_abs (y.extended to.0 -ℤ y.extended from.0)) }
 {
     let first = Ymd {
         year: from.0,

@@ -1,67 +1,26 @@
-//! Dates of plain fields: an extended year, a month and a day. The steps are those of ECMAScript Temporal's
-//! CalendarResolveFields.
+//! Dates of bags of fields. The steps are those of ECMAScript Temporal's CalendarResolveFields and
+//! NonISOCalendarDateToISO.
 
-ghost use Rattle.std.specs.Prelude.{◌≡◌, ◌≤◌, IfOk};
-ghost use Rattle.cal_types.specs.Bag.{Bag, bag_of};
+ghost use Rattle.std.specs.Prelude.{◌≡◌, ◌≤◌, ◌&&◌, IfOk, IfSome, option_map};
+ghost use Rattle.cal_days.specs.Day.{IsRuleYear};
+ghost use Rattle.cal_types.specs.Bag.{bag_of};
 ghost use Rattle.cal_types.specs.MonthParts.{month_parts};
-ghost use Rattle.cal_model.specs.CalendarList.{HasPlace, IsDate};
-ghost use Rattle.cal_model.specs.Resolving.{IsPlain, Names, overflow_of, resolve, resolved_day, valid_date};
-ghost use Rattle.cal_arith.specs.Dates.{answer_by, answer_of, date_of, parts_of, Belongs};
-ghost use Rattle.cal_arith.specs.FieldSteps.{resolved_in_month, resolved_in_year};
-ghost use Rattle.cal_arith.specs.Given.{IsGiven};
+ghost use Rattle.cal_model.specs.CalendarList.{spot};
+ghost use Rattle.cal_model.specs.Resolving.{after, day_or_first, in_reference_year, in_year, is_ecma, missing_fields_of, month_of_kind, month_said, or_plain_month, overflow_of, place_in_year, resolve, resolved_day, resolved_in_month, resolved_in_year, resolved_ordinal, resolved_place, same_place, same_year, valid_date, without_year, year_and_month, year_named, year_of_era};
+ghost use Rattle.cal_arith.specs.Dates.{answer_by, answer_of, date_of, Belongs, IsGivenDate};
+ghost use Rattle.cal_arith.specs.FieldNames.{month_name, month_of_year, seen};
+ghost use Rattle.cal_arith.specs.Given.{HasMonth, IsGiven};
 
 use crate::adding::can_be_named;
 use crate::arithmetic_date::ArithmeticDate;
-use crate::dates::{Ymd, to_rata_die};
-use crate::getters::{is_in_range, is_up_to};
+use crate::dates::Ymd;
+use crate::getters::{has_valid_day, is_up_to};
+use crate::month_names::{MonthOfYear, NamedMonth, named_month};
 use crate::years::{DateFieldsResolver, YearShapes, Years};
-use cal_types::{DateFields, DateFromFieldsError, DateFromFieldsOptions, Month, Overflow};
-
-impl<C: DateFieldsResolver> ArithmeticDate<C> {
-    /// The date of an extended year, a month and a day, which are the fields that are given. The steps are
-    /// those of ECMAScript Temporal's CalendarResolveFields; the default of the option `overflow` is
-    /// [`Overflow::Reject`].
-    ///
-    /// [`DateFromFieldsError::Overflow`] comes for a year that isn't from -1040000 to 1040000, and for a date
-    /// whose day number is out of the valid range; [`DateFromFieldsError::MonthNotInCalendar`] for a month
-    /// that no year has, and [`DateFromFieldsError::MonthNotInYear`] where this year lacks it and, under
-    /// [`Overflow::Constrain`], none stands in for it; and [`DateFromFieldsError::InvalidDay`] for a day that
-    /// isn't from 1 to the month's length, under [`Overflow::Reject`]. Under [`Overflow::Constrain`] the day
-    /// becomes the nearest one of the month.
-    pub fn from_fields(
-        fields: DateFields<'_>,
-        options: DateFromFieldsOptions,
-        calendar: &C,
-    ) -> Result<Self, DateFromFieldsError>
-        requires fields { IsPlain (bag_of fields) }
-        ensures resolved { answer_by (λ a. date_of (C.extended calendar.now) (parts_of C.YearInfo.year_in C.YearInfo.month_in C.YearInfo.day_in a.packed)) result ≡ resolve (C.list calendar.now) (bag_of fields.entry) (overflow_of options.overflow) }
-        ensures belongs { IfOk result (λ a. Belongs (C.list calendar.now) (C.extended calendar.now) (C.year_of calendar.now) (parts_of C.YearInfo.year_in C.YearInfo.month_in C.YearInfo.day_in a.packed)) }
-    {
-        match (fields.extended_year, fields.month, fields.day) {
-            (Some(year), Some(month), Some(day)) => {
-                ArithmeticDate::of_fields(year, month, day, fields_overflow(options), calendar)
-            }
-            _ => Err(DateFromFieldsError::NotEnoughFields),
-        }
-    }
-
-    /// The date of an extended year, a month and a day, or the first fault.
-    fn of_fields(
-        year: i32,
-        month: Month,
-        day: u8,
-        overflow: Overflow,
-        cal: &C,
-    ) -> Result<Self, DateFromFieldsError>
-        ensures resolved { (b : Bag) → Names b year (month_parts month) day → answer_by (λ a. date_of (C.extended cal.now) (parts_of C.YearInfo.year_in C.YearInfo.month_in C.YearInfo.day_in a.packed)) result ≡ resolve (C.list cal.now) b overflow }
-        ensures belongs { IfOk result (λ a. Belongs (C.list cal.now) (C.extended cal.now) (C.year_of cal.now) (parts_of C.YearInfo.year_in C.YearInfo.month_in C.YearInfo.day_in a.packed)) }
-    {
-        match date_of_fields(year, month, day, overflow, cal) {
-            Ok(date) => Ok(ArithmeticDate::of_parts(date, cal)),
-            Err(e) => Err(e),
-        }
-    }
-}
+use cal_types::{
+    DateFields, DateFromFieldsError, DateFromFieldsOptions, EcmaReferenceYearError,
+    MissingFieldsStrategy, Month, Overflow,
+};
 
 /// Which overflow the options of fields ask for.
 fn fields_overflow(options: DateFromFieldsOptions) -> Overflow
@@ -73,39 +32,264 @@ fn fields_overflow(options: DateFromFieldsOptions) -> Overflow
     }
 }
 
-/// The date of an extended year, a month and a day, or the first fault.
-fn date_of_fields<C: Years>(
-    year: i32,
-    month: Month,
-    day: u8,
-    overflow: Overflow,
-    cal: &C,
-) -> Result<Ymd<C::YearInfo>, DateFromFieldsError>
-    ensures resolved { (b : Bag) → Names b year (month_parts month) day → answer_of (C.extended cal.now) result ≡ resolve (C.list cal.now) b overflow }
-    ensures belongs { IfOk result (λ d. Belongs (C.list cal.now) (C.extended cal.now) (C.year_of cal.now) d) }
+/// What becomes of missing fields by the options of fields.
+fn missing_fields(options: DateFromFieldsOptions) -> MissingFieldsStrategy
+    ensures { result ≡ missing_fields_of options.missing_fields_strategy }
 {
-    if !can_be_named(year) {
-        return Err(DateFromFieldsError::Overflow);
+    match options.missing_fields_strategy {
+        Some(strategy) => strategy,
+        None => MissingFieldsStrategy::Reject,
     }
-    let given = cal.year_info_from_extended(year);
-    date_in_year(given, month, day, overflow, cal)
 }
 
-/// The date of a month and a day of a given year, or the first fault.
-fn date_in_year<C: Years>(
-    year: C::YearInfo,
+/// Whether missing fields are supplied.
+fn is_supplied(strategy: MissingFieldsStrategy) -> bool
+    ensures { result ≡ is_ecma strategy }
+{
+    match strategy {
+        MissingFieldsStrategy::Ecma => true,
+        MissingFieldsStrategy::Reject => false,
+    }
+}
+
+/// The day that is asked for: the given one, or the first where a missing one is supplied.
+fn day_or_first(day: Option<u8>, supplied: bool) -> Result<u8, DateFromFieldsError>
+    ensures { result ≡ day_or_first day supplied }
+{
+    match day {
+        Some(day) => Ok(day),
+        None if supplied => Ok(1),
+        None => Err(DateFromFieldsError::NotEnoughFields),
+    }
+}
+
+/// An extended year beside an era's year has to be the same.
+fn same_year(given: Option<i32>, year: i32) -> Result<i32, DateFromFieldsError>
+    ensures { result ≡ same_year given year }
+{
+    match given {
+        Some(given) if given != year => Err(DateFromFieldsError::InconsistentYear),
+        _ => Ok(year),
+    }
+}
+
+/// The extended year of an era and a year in it.
+fn year_of_era<C: DateFieldsResolver>(
+    era: &[u8],
+    era_year: i32,
+    given: Option<i32>,
+    cal: &C,
+) -> Result<i32, DateFromFieldsError>
+    ensures year { result ≡ year_of_era (C.names cal.now) era.now era_year given }
+    ensures range { IfOk result (λ y. IsRuleYear y) }
+{
+    if !can_be_named(era_year) {
+        return Err(DateFromFieldsError::Overflow);
+    }
+    match cal.extended_year_from_era_year_unchecked(era, era_year) {
+        Ok(year) => same_year(given, year),
+        Err(_) => Err(DateFromFieldsError::InvalidEra),
+    }
+}
+
+/// The year that a bag names, if it names one.
+fn named_year<C: DateFieldsResolver>(
+    era: Option<&[u8]>,
+    era_year: Option<i32>,
+    extended_year: Option<i32>,
+    cal: &C,
+) -> Result<Option<i32>, DateFromFieldsError>
+    ensures year { let code = option_map (λ bytes. bytes.now) era.entry in
+        result ≡ year_named (C.names cal.now) code era_year extended_year }
+    ensures range { IfOk result (λ year. IfSome year (λ y. IsRuleYear y)) }
+{
+    match (era, era_year, extended_year) {
+        (Some(era), Some(number), given) => match year_of_era(era, number, given, cal) {
+            Ok(year) => Ok(Some(year)),
+            Err(e) => Err(e),
+        },
+        (None, None, Some(year)) => {
+            if can_be_named(year) {
+                Ok(Some(year))
+            } else {
+                Err(DateFromFieldsError::Overflow)
+            }
+        }
+        (None, None, None) => Ok(None),
+        _ => Err(DateFromFieldsError::NotEnoughFields),
+    }
+}
+
+/// The month that a name says, where it isn't an ordinal month.
+fn month_said(name: NamedMonth<'_>) -> Result<Month, DateFromFieldsError>
+    ensures { seen month_parts result ≡ month_said (month_name name.entry) }
+{
+    match name {
+        NamedMonth::Month(month) => Ok(month),
+        NamedMonth::Code(code) => match Month::try_from_utf8(code) {
+            Ok(month) => Ok(month),
+            Err(e) => Err(DateFromFieldsError::from(e)),
+        },
+        NamedMonth::Ordinal(_) => Err(DateFromFieldsError::NotEnoughFields),
+    }
+}
+
+/// A month in its reference year.
+fn month_in_reference_year<'a, C: DateFieldsResolver>(
+    month: Month,
+    day: u8,
+    cal: &C,
+) -> Result<MonthOfYear<'a, C::YearInfo>, DateFromFieldsError>
+    ensures there { let m = month_parts month in
+        seen (month_of_year (C.years cal.now)) result ≡ in_reference_year m ((C.names cal.now).reference m day) }
+    ensures given { IfOk result (λ there. IsGiven (C.years cal.now) there.year) }
+{
+    match cal.reference_year_from_month_day(month, day) {
+        Ok(year) => Ok(MonthOfYear {
+            year,
+            month: NamedMonth::Month(month),
+        }),
+        Err(e) => Err(DateFromFieldsError::from(e)),
+    }
+}
+
+/// A month in its reference year. Under [`Overflow::Constrain`] the plain month of its number takes the place of
+/// a leap month that has none.
+fn month_or_plain_month<'a, C: DateFieldsResolver>(
     month: Month,
     day: u8,
     overflow: Overflow,
     cal: &C,
-) -> Result<Ymd<C::YearInfo>, DateFromFieldsError>
-    requires { IsGiven (C.extended cal.now) (C.year_of cal.now) year }
-    ensures resolved { answer_of (C.extended cal.now) result ≡ resolved_in_year (C.list cal.now) (C.extended cal.now year) (month_parts month) day overflow }
-    ensures belongs { IfOk result (λ d. Belongs (C.list cal.now) (C.extended cal.now) (C.year_of cal.now) d) }
+) -> Result<MonthOfYear<'a, C::YearInfo>, DateFromFieldsError>
+    ensures there { let m = month_parts month in let names = C.names cal.now in let y = C.years cal.now in
+        seen (month_of_year y) result ≡ after (month_of_kind y.list m)
+        (λ known. or_plain_month names overflow known day (names.reference known day)) }
+    ensures given { IfOk result (λ there. IsGiven (C.years cal.now) there.year) }
+{
+    match (cal.reference_year_from_month_day(month, day), overflow) {
+        (Ok(year), _) => Ok(MonthOfYear {
+            year,
+            month: NamedMonth::Month(month),
+        }),
+        (Err(EcmaReferenceYearError::UseRegularIfConstrain), Overflow::Constrain) => {
+            month_in_reference_year(Month::new(month.number()), day, cal)
+        }
+        (Err(e), _) => Err(DateFromFieldsError::from(e)),
+    }
+}
+
+/// The reference year of a month and a day, where fields are supplied and no ordinal month is given.
+fn without_year<'a, C: DateFieldsResolver>(
+    month: NamedMonth<'a>,
+    ordinal_month: Option<u8>,
+    day: u8,
+    overflow: Overflow,
+    strategy: MissingFieldsStrategy,
+    cal: &C,
+) -> Result<MonthOfYear<'a, C::YearInfo>, DateFromFieldsError>
+    ensures there { let y = C.years cal.now in let name = month_name month.entry in
+        seen (month_of_year y) result ≡ without_year y.list (C.names cal.now) strategy overflow name ordinal_month day }
+    ensures given { IfOk result (λ there. IsGiven (C.years cal.now) there.year) }
+{
+    if ordinal_month.is_some() || !is_supplied(strategy) {
+        return Err(DateFromFieldsError::NotEnoughFields);
+    }
+    match month_said(month) {
+        Ok(said) => month_or_plain_month(said, day, overflow, cal),
+        Err(e) => Err(e),
+    }
+}
+
+/// The year that a bag names, or a reference year.
+fn month_of_year<'a, C: DateFieldsResolver>(
+    year: Option<i32>,
+    month: NamedMonth<'a>,
+    ordinal_month: Option<u8>,
+    day: u8,
+    overflow: Overflow,
+    strategy: MissingFieldsStrategy,
+    cal: &C,
+) -> Result<MonthOfYear<'a, C::YearInfo>, DateFromFieldsError>
+    requires { IfSome year (λ y. IsRuleYear y) }
+    ensures there { let y = C.years cal.now in let name = month_name month.entry in
+        seen (month_of_year y) result ≡ in_year y.list (C.names cal.now) strategy overflow name ordinal_month day year }
+    ensures given { IfOk result (λ there. IsGiven (C.years cal.now) there.year) }
+{
+    match year {
+        Some(year) => Ok(MonthOfYear {
+            year: cal.year_info_from_extended(year),
+            month,
+        }),
+        None => without_year(month, ordinal_month, day, overflow, strategy, cal),
+    }
+}
+
+/// An ordinal month beside a month has to be its place.
+fn same_place(given: Option<u8>, place: u8) -> Result<u8, DateFromFieldsError>
+    ensures { result ≡ same_place given place }
+{
+    match given {
+        Some(given) if given != place => Err(DateFromFieldsError::InconsistentMonth),
+        _ => Ok(place),
+    }
+}
+
+/// A place in a year with so many months; under [`Overflow::Constrain`] the nearest one.
+fn ordinal_within(place: u8, count: u8, overflow: Overflow) -> Result<u8, DateFromFieldsError>
+    ensures { result ≡ resolved_ordinal count overflow place }
+{
+    match overflow {
+        Overflow::Constrain => Ok(place.min(count).max(1)),
+        Overflow::Reject => {
+            if is_up_to(place, count) {
+                Ok(place)
+            } else {
+                Err(DateFromFieldsError::InvalidOrdinalMonth { max: count })
+            }
+        }
+    }
+}
+
+/// The place of a month in a given year.
+fn place_of_month<C: YearShapes>(
+    year: C::YearInfo,
+    month: Month,
+    ordinal_month: Option<u8>,
+    overflow: Overflow,
+    cal: &C,
+) -> Result<u8, DateFromFieldsError>
+    requires { IsGiven (C.years cal.now) year }
+    ensures { let y = C.years cal.now in
+        result ≡ after (month_of_kind y.list (month_parts month))
+        (λ known. after (resolved_place (spot y.list (y.extended year) known overflow))
+        (λ i. same_place ordinal_month i)) }
 {
     match cal.ordinal_from_month(year, month, overflow) {
-        Ok(place) => date_in_month(year, place, day, overflow, cal),
+        Ok(place) => same_place(ordinal_month, place),
         Err(e) => Err(DateFromFieldsError::from(e)),
+    }
+}
+
+/// The place in its year of the month that a bag names.
+fn place_in_year<C: YearShapes>(
+    year: C::YearInfo,
+    month: NamedMonth<'_>,
+    ordinal_month: Option<u8>,
+    overflow: Overflow,
+    cal: &C,
+) -> Result<u8, DateFromFieldsError>
+    requires { IsGiven (C.years cal.now) year }
+    ensures { let y = C.years cal.now in
+        result ≡ place_in_year y.list (y.extended year) overflow (month_name month.entry) ordinal_month }
+{
+    match month {
+        NamedMonth::Ordinal(place) => {
+            ordinal_within(place, cal.months_in_provided_year(year), overflow)
+        }
+        name => match month_said(name) {
+            Ok(said) => place_of_month(year, said, ordinal_month, overflow, cal),
+            Err(e) => Err(e),
+        },
     }
 }
 
@@ -117,10 +301,10 @@ fn date_in_month<C: Years>(
     overflow: Overflow,
     cal: &C,
 ) -> Result<Ymd<C::YearInfo>, DateFromFieldsError>
-    requires year { IsGiven (C.extended cal.now) (C.year_of cal.now) year }
-    requires place { HasPlace (C.list cal.now) (C.extended cal.now year) month }
-    ensures resolved { answer_of (C.extended cal.now) result ≡ resolved_in_month (C.list cal.now) (C.extended cal.now year) month day overflow }
-    ensures belongs { IfOk result (λ d. Belongs (C.list cal.now) (C.extended cal.now) (C.year_of cal.now) d) }
+    requires { HasMonth (C.years cal.now) year month }
+    ensures resolved { let y = C.years cal.now in
+        answer_of y result ≡ resolved_in_month y.list (y.extended year) month overflow day }
+    ensures belongs { IfOk result (λ d. Belongs (C.years cal.now) d) }
 {
     let last = cal.days_in_provided_month(year, month);
     match day_within(day, last, overflow) {
@@ -152,14 +336,93 @@ fn date_in_range<C: YearShapes>(
     date: Ymd<C::YearInfo>,
     cal: &C,
 ) -> Result<Ymd<C::YearInfo>, DateFromFieldsError>
-    requires year { IsGiven (C.extended cal.now) (C.year_of cal.now) date.year }
-    requires date { IsDate (C.list cal.now) (date_of (C.extended cal.now) date) }
-    ensures resolved { answer_of (C.extended cal.now) result ≡ valid_date (C.list cal.now) (date_of (C.extended cal.now) date) }
-    ensures belongs { IfOk result (λ d. Belongs (C.list cal.now) (C.extended cal.now) (C.year_of cal.now) d) }
+    requires { IsGivenDate (C.years cal.now) date }
+    ensures resolved { let y = C.years cal.now in answer_of y result ≡ valid_date y.list (date_of y date) }
+    ensures belongs { IfOk result (λ d. Belongs (C.years cal.now) d) }
 {
-    if is_in_range(to_rata_die(date, cal)) {
+    if has_valid_day(date, cal) {
         Ok(date)
     } else {
         Err(DateFromFieldsError::Overflow)
+    }
+}
+
+/// The date of the month that is named in a given year, and of a day.
+fn date_in_year<C: Years>(
+    year: C::YearInfo,
+    month: NamedMonth<'_>,
+    ordinal_month: Option<u8>,
+    day: u8,
+    overflow: Overflow,
+    cal: &C,
+) -> Result<Ymd<C::YearInfo>, DateFromFieldsError>
+    requires { IsGiven (C.years cal.now) year }
+    ensures resolved { let y = C.years cal.now in
+        let there = year_and_month (y.extended year) (month_name month.entry) in
+        answer_of y result ≡ resolved_in_year y.list there overflow ordinal_month day }
+    ensures belongs { IfOk result (λ d. Belongs (C.years cal.now) d) }
+{
+    match place_in_year(year, month, ordinal_month, overflow, cal) {
+        Ok(place) => date_in_month(year, place, day, overflow, cal),
+        Err(e) => Err(e),
+    }
+}
+
+/// The date of a bag, or the first fault.
+#[tactic(auto, unfolding(cal_model::specs::Resolving::resolve))]
+fn date_of_fields<C: DateFieldsResolver>(
+    fields: DateFields<'_>,
+    overflow: Overflow,
+    strategy: MissingFieldsStrategy,
+    cal: &C,
+) -> Result<Ymd<C::YearInfo>, DateFromFieldsError>
+    ensures resolved { let y = C.years cal.now in
+        answer_of y result ≡ resolve y.list (C.names cal.now) (bag_of fields.entry) overflow strategy }
+    ensures belongs { IfOk result (λ d. Belongs (C.years cal.now) d) }
+{
+    let DateFields {
+        era,
+        era_year,
+        extended_year,
+        month,
+        month_code,
+        ordinal_month,
+        day,
+    } = fields;
+    let supplied = is_supplied(strategy) && (extended_year.is_some() || era_year.is_some());
+    let day = day_or_first(day, supplied)?;
+    let name = named_month(month, month_code, ordinal_month)?;
+    let year = named_year(era, era_year, extended_year, cal)?;
+    let MonthOfYear { year, month } = month_of_year(
+        year,
+        name,
+        ordinal_month,
+        day,
+        overflow,
+        strategy,
+        cal,
+    )?;
+    date_in_year(year, month, ordinal_month, day, overflow, cal)
+}
+
+impl<C: DateFieldsResolver> ArithmeticDate<C> {
+    /// The date that a bag of fields names, or the first fault. The steps are those of ECMAScript Temporal's
+    /// CalendarResolveFields; the default of the option `overflow` is [`Overflow::Reject`], and that of
+    /// `missing_fields_strategy` [`MissingFieldsStrategy::Reject`].
+    pub fn from_fields(
+        fields: DateFields<'_>,
+        options: DateFromFieldsOptions,
+        calendar: &C,
+    ) -> Result<Self, DateFromFieldsError>
+        ensures resolved { let y = C.years calendar.now in
+            answer_by (λ a. date_of y (C.YearInfo.parts a.packed)) result ≡ resolve y.list (C.names calendar.now)
+            (bag_of fields.entry) (overflow_of options.overflow) (missing_fields_of options.missing_fields_strategy) }
+        ensures belongs { IfOk result (λ a. Belongs (C.years calendar.now) (C.YearInfo.parts a.packed)) }
+    {
+        let (overflow, strategy) = (fields_overflow(options), missing_fields(options));
+        match date_of_fields(fields, overflow, strategy, calendar) {
+            Ok(date) => Ok(ArithmeticDate::from_parts(date, calendar)),
+            Err(e) => Err(e),
+        }
     }
 }

@@ -1,22 +1,31 @@
 //! Laws of the answers, each proved as the contract of a function that does nothing, or compares two dates.
 
-ghost use Rattle.std.specs.Prelude.{◌≡◌, pos, Ok};
+ghost use Rattle.std.specs.Prelude.{◌≡◌, ℤ, pos, Ok, Result, MatchResult};
 ghost use Rattle.std.specs.Ordering.{int_cmp, int_eq};
 ghost use Rattle.cal_model.specs.CalendarList.{Date, IsValidDate, day_number};
+ghost use Rattle.cal_types.specs.declared.errors.DateAddError.{DateAddError};
 ghost use Rattle.cal_model.specs.Adding.{IsSum};
 ghost use Rattle.cal_model.specs.Difference.{IsDifference};
-ghost use Rattle.cal_arith.specs.Dates.{date_of, parts_of, Belongs};
+ghost use Rattle.cal_arith.specs.Dates.{date_of, Belongs};
 
 use crate::arithmetic_date::ArithmeticDate;
 use crate::years::{DateFieldsResolver, YearShapes};
-use cal_types::{DateDuration, DateDurationUnit, Overflow};
+use cal_types::{
+    DateAddError, DateAddOptions, DateDifferenceOptions, DateDuration, DateDurationUnit, Overflow,
+};
 use std::cmp::Ordering;
 
 /// The difference of two valid dates, added to the first under [`Overflow::Constrain`], is the second,
 /// whether the limit on years is tested on the calendar's own years or on the stored ones.
 pub fn difference_added_back<C: YearShapes>(cal: &C, duration: DateDuration, unit: DateDurationUnit)
-    ensures own { (t u : Date) → IsValidDate (C.list cal.now) t → IsValidDate (C.list cal.now) u → IsDifference (C.list cal.now) t u unit duration → IsSum (C.list cal.now) (pos 0) t duration Overflow.Constrain (Ok u) }
-    ensures shifted { (t u : Date) → IsValidDate (C.list cal.now) t → IsValidDate (C.list cal.now) u → IsDifference (C.list cal.now) t u unit duration → IsSum (C.list cal.now) (C.offset cal.now) t duration Overflow.Constrain (Ok u) }
+    ensures own { let y = C.years cal.now in
+        (t u : Date) → IsValidDate y.list t → IsValidDate y.list u
+        → IsDifference y.list t u unit duration
+        → IsSum y.list (pos 0) t duration Overflow.Constrain (Ok u) }
+    ensures shifted { let y = C.years cal.now in
+        (t u : Date) → IsValidDate y.list t → IsValidDate y.list u
+        → IsDifference y.list t u unit duration
+        → IsSum y.list y.offset t duration Overflow.Constrain (Ok u) }
 {}
 
 /// Whether two dates of a calendar are the same: just where their day numbers are.
@@ -25,9 +34,11 @@ pub fn are_same_day<C: DateFieldsResolver>(
     second: &ArithmeticDate<C>,
     cal: &C,
 ) -> bool
-    requires first { Belongs (C.list cal.now) (C.extended cal.now) (C.year_of cal.now) (parts_of C.YearInfo.year_in C.YearInfo.month_in C.YearInfo.day_in first.now.packed) }
-    requires second { Belongs (C.list cal.now) (C.extended cal.now) (C.year_of cal.now) (parts_of C.YearInfo.year_in C.YearInfo.month_in C.YearInfo.day_in second.now.packed) }
-    ensures { result ≡ int_eq (day_number (C.list cal.now) (date_of (C.extended cal.now) (parts_of C.YearInfo.year_in C.YearInfo.month_in C.YearInfo.day_in first.now.packed))) (day_number (C.list cal.now) (date_of (C.extended cal.now) (parts_of C.YearInfo.year_in C.YearInfo.month_in C.YearInfo.day_in second.now.packed))) }
+    requires first { Belongs (C.years cal.now) (C.YearInfo.parts first.now.packed) }
+    requires second { Belongs (C.years cal.now) (C.YearInfo.parts second.now.packed) }
+    ensures { let y = C.years cal.now in let parts = C.YearInfo.parts in
+        result ≡ int_eq (day_number y.list (date_of y (parts first.now.packed)))
+        (day_number y.list (date_of y (parts second.now.packed))) }
 {
     first == second
 }
@@ -38,9 +49,37 @@ pub fn order_of_days<C: DateFieldsResolver>(
     second: &ArithmeticDate<C>,
     cal: &C,
 ) -> Ordering
-    requires first { Belongs (C.list cal.now) (C.extended cal.now) (C.year_of cal.now) (parts_of C.YearInfo.year_in C.YearInfo.month_in C.YearInfo.day_in first.now.packed) }
-    requires second { Belongs (C.list cal.now) (C.extended cal.now) (C.year_of cal.now) (parts_of C.YearInfo.year_in C.YearInfo.month_in C.YearInfo.day_in second.now.packed) }
-    ensures { result ≡ int_cmp (day_number (C.list cal.now) (date_of (C.extended cal.now) (parts_of C.YearInfo.year_in C.YearInfo.month_in C.YearInfo.day_in first.now.packed))) (day_number (C.list cal.now) (date_of (C.extended cal.now) (parts_of C.YearInfo.year_in C.YearInfo.month_in C.YearInfo.day_in second.now.packed))) }
+    requires first { Belongs (C.years cal.now) (C.YearInfo.parts first.now.packed) }
+    requires second { Belongs (C.years cal.now) (C.YearInfo.parts second.now.packed) }
+    ensures { let y = C.years cal.now in let parts = C.YearInfo.parts in
+        result ≡ int_cmp (day_number y.list (date_of y (parts first.now.packed)))
+        (day_number y.list (date_of y (parts second.now.packed))) }
 {
     first.cmp(second)
+}
+
+/// A sum has one answer, whatever is added to the year where its limit is tested.
+pub fn sum_has_one_answer<C: YearShapes>(cal: &C, duration: DateDuration, overflow: Overflow)
+    ensures { let y = C.years cal.now in
+        (shift : ℤ) (t : Date) (r s : Result Date DateAddError)
+        → IsSum y.list shift t duration overflow r → IsSum y.list shift t duration overflow s → r ≡ s }
+{}
+
+/// The difference of two dates in any unit, added to the first under [`Overflow::Constrain`]: always the second.
+pub fn added_back<C: DateFieldsResolver>(
+    first: &ArithmeticDate<C>,
+    second: &ArithmeticDate<C>,
+    cal: &C,
+    options: DateDifferenceOptions,
+) -> Result<ArithmeticDate<C>, DateAddError>
+    requires first { Belongs (C.years cal.now) (C.YearInfo.parts first.now.packed) }
+    requires second { Belongs (C.years cal.now) (C.YearInfo.parts second.now.packed) }
+    ensures { let parts = C.YearInfo.parts in
+        MatchResult result (λ a. parts a.packed ≡ parts second.now.packed) (λ _. ⊥) }
+{
+    let duration = first.until(second, cal, options);
+    let constrain = DateAddOptions {
+        overflow: Some(Overflow::Constrain),
+    };
+    first.added(duration, cal, constrain)
 }

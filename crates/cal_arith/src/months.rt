@@ -1,12 +1,17 @@
 //! The sequence of all months.
 
-ghost use Rattle.std.specs.Prelude.{◌≡◌, ℕ, ℤ, ◌+ℤ◌, ◌-ℤ◌, pos, neg_ℤ, ◌≤◌};
-ghost use Rattle.cal_model.specs.CalendarList.{HasPlace, IsMonthsAfter};
+ghost use Rattle.std.specs.Prelude.{◌≡◌, ◌≤◌, ◌<◌, pos, neg_ℤ, ◌+ℤ◌, ◌*ℤ◌, ◌≤ℤ◌};
+ghost use Rattle.cal_model.specs.CalendarList.{IsMonthsAfter, month_count, month_number};
 ghost use Rattle.cal_model.specs.Difference.{toward};
 ghost use Rattle.cal_days.specs.Day.{IsBetween};
-ghost use Rattle.cal_arith.specs.Given.{IsGiven};
+ghost use Rattle.cal_arith.specs.Given.{HasMonth, IsGiven};
+ghost use Rattle.cal_arith.specs.Directions.{is_backward};
 
-use crate::years::Years;
+use crate::direction::Direction;
+use crate::steps::Steps;
+use crate::years::{YearShapes, Years};
+use std::marker::Brand;
+use std::sync::ledger::{Blank, Ledger};
 
 /// A year, and the place of a month in it.
 #[derive(Clone, Copy, Debug)]
@@ -17,26 +22,90 @@ pub struct YearMonth<Y> {
     pub month: u8,
 }
 
-/// The month so many months later.
-pub(crate) fn months_later<C: Years>(
-    year: C::YearInfo,
-    month: u8,
-    months: u32,
+/// How many months lie between the first days of two years, by a counter that nobody reads.
+fn months_between_with_blank<C: YearShapes, L: Ledger>(
+    first: C::YearInfo,
+    last: C::YearInfo,
     cal: &C,
-) -> YearMonth<C::YearInfo>
-    requires year { IsGiven (C.extended cal.now) (C.year_of cal.now) year }
-    requires range { IsBetween (neg_ℤ (pos 2080000)) (pos 2080000) (C.extended cal.now year) }
-    requires place { HasPlace (C.list cal.now) (C.extended cal.now year) month }
-    requires months { months ≤ 27050000 }
-    ensures year { IsGiven (C.extended cal.now) (C.year_of cal.now) result.year }
-    ensures moved { IsMonthsAfter (C.list cal.now) (C.extended cal.now year) month (pos months) (C.extended cal.now result.year) result.month }
+    blank: Blank,
+) -> u32
+    requires first { IsGiven (C.years cal.now) first }
+    requires last { IsGiven (C.years cal.now) last }
+    requires order { let y = C.years cal.now in y.extended first ≤ℤ y.extended last }
+    requires name { blank.name ≡ L.name }
+    requires parts { blank.parts ≡ L.parts }
+    requires some { 0 < blank.parts }
+    ensures { let y = C.years cal.now in
+        month_number y.list (y.extended last) 1 ≡ month_number y.list (y.extended first) 1 +ℤ pos result }
+{
+    let mut steps = Steps::<L>::new(blank);
+    cal.months_between_years(first, last, &mut steps)
+}
+
+/// How many months lie between the first days of two years.
+fn months_between_years<C: YearShapes>(first: C::YearInfo, last: C::YearInfo, cal: &C) -> u32
+    requires first { IsGiven (C.years cal.now) first }
+    requires last { IsGiven (C.years cal.now) last }
+    requires order { let y = C.years cal.now in y.extended first ≤ℤ y.extended last }
+    ensures { let y = C.years cal.now in
+        month_number y.list (y.extended last) 1 ≡ month_number y.list (y.extended first) 1 +ℤ pos result }
+{
+    months_between_with_blank::<C, Brand>(first, last, cal, Blank::new(1))
+}
+
+/// A year, and a number of months from its first one.
+#[derive(Clone, Copy, Debug)]
+struct MonthsFrom<Y> {
+    year: Y,
+    months: u32,
+}
+
+/// A later year from whose first month fewer months lead to the month that some lead to from a year's first one. The
+/// months of that year are given, and do not lead past it.
+///
+/// The later year lies a thirteenth of the months ahead: no year has more than 13, so it doesn't begin past the month.
+fn jumped<C: Years>(year: C::YearInfo, months: u32, count: u32, cal: &C) -> MonthsFrom<C::YearInfo>
+    requires year { IsGiven (C.years cal.now) year }
+    requires range { (pos 12 *ℤ (C.years cal.now).extended year +ℤ pos months) ≤ℤ pos 95000000 }
+    requires count { let y = C.years cal.now in count ≡ month_count y.list (y.extended year) }
+    requires within { count ≤ months }
+    ensures year { IsGiven (C.years cal.now) result.year }
+    ensures moved { let y = C.years cal.now in
+        month_number y.list (y.extended result.year) 1 +ℤ pos result.months
+        ≡ month_number y.list (y.extended year) 1 +ℤ pos months }
+    ensures fewer { result.months < months }
+    ensures bound { let y = C.years cal.now in
+        (pos 12 *ℤ y.extended result.year +ℤ pos result.months) ≤ℤ (pos 12 *ℤ y.extended year +ℤ pos months) }
+{
+    let number = cal.extended_from_year_info(year);
+    if months < 26 {
+        return MonthsFrom {
+            year: cal.year_info_from_extended(number + 1),
+            months: months - count,
+        };
+    }
+    let ahead = cal.year_info_from_extended(number + (months / 13) as i32);
+    MonthsFrom {
+        year: ahead,
+        months: months - months_between_years(year, ahead, cal),
+    }
+}
+
+/// The month so many months after the first one of a year. Each jump leaves about a thirteenth of the months.
+fn month_after_first<C: Years>(year: C::YearInfo, months: u32, cal: &C) -> YearMonth<C::YearInfo>
+    requires year { IsGiven (C.years cal.now) year }
+    requires range { (pos 12 *ℤ (C.years cal.now).extended year +ℤ pos months) ≤ℤ pos 95000000 }
+    ensures year { IsGiven (C.years cal.now) result.year }
+    ensures moved { let y = C.years cal.now in
+        IsMonthsAfter y.list (y.extended year) 1 (pos months) (y.extended result.year) result.month }
 {
     let mut later = year;
-    let mut left = u32::from(month) - 1 + months;
+    let mut left = months;
     let mut count = u32::from(cal.months_in_provided_year(later));
     'years: while left >= count {
-        left -= count;
-        later = cal.year_info_from_extended(cal.extended_from_year_info(later) + 1);
+        let ahead = jumped(later, left, count, cal);
+        later = ahead.year;
+        left = ahead.months;
         count = u32::from(cal.months_in_provided_year(later));
     }
     YearMonth {
@@ -45,32 +114,73 @@ pub(crate) fn months_later<C: Years>(
     }
 }
 
-/// The month so many months earlier.
-pub(crate) fn months_earlier<C: Years>(
+/// The month so many months later.
+fn months_later<C: Years>(
     year: C::YearInfo,
     month: u8,
     months: u32,
     cal: &C,
 ) -> YearMonth<C::YearInfo>
-    requires year { IsGiven (C.extended cal.now) (C.year_of cal.now) year }
-    requires range { IsBetween (neg_ℤ (pos 2080000)) (pos 2080000) (C.extended cal.now year) }
-    requires place { HasPlace (C.list cal.now) (C.extended cal.now year) month }
+    requires range { IsBetween (neg_ℤ (pos 2080000)) (pos 2080000) ((C.years cal.now).extended year) }
+    requires month { HasMonth (C.years cal.now) year month }
     requires months { months ≤ 27050000 }
-    ensures year { IsGiven (C.extended cal.now) (C.year_of cal.now) result.year }
-    ensures moved { IsMonthsAfter (C.list cal.now) (C.extended cal.now year) month (neg_ℤ (pos months)) (C.extended cal.now result.year) result.month }
+    ensures year { IsGiven (C.years cal.now) result.year }
+    ensures moved { let y = C.years cal.now in
+        IsMonthsAfter y.list (y.extended year) month (pos months) (y.extended result.year) result.month }
 {
-    let mut earlier = year;
-    let mut left = months;
-    let mut place = u32::from(month);
-    'years: while left >= place {
-        left -= place;
-        earlier = cal.year_info_from_extended(cal.extended_from_year_info(earlier) - 1);
-        place = u32::from(cal.months_in_provided_year(earlier));
+    month_after_first(year, u32::from(month) - 1 + months, cal)
+}
+
+/// The month so many months earlier, counted forward from a year that begins before it.
+fn month_from_before<C: Years>(
+    year: C::YearInfo,
+    month: u8,
+    months: u32,
+    cal: &C,
+) -> YearMonth<C::YearInfo>
+    requires range { IsBetween (neg_ℤ (pos 2080000)) (pos 2080000) ((C.years cal.now).extended year) }
+    requires month { HasMonth (C.years cal.now) year month }
+    requires months { months ≤ 27050000 }
+    ensures year { IsGiven (C.years cal.now) result.year }
+    ensures moved { let y = C.years cal.now in
+        IsMonthsAfter y.list (y.extended year) month (neg_ℤ (pos months)) (y.extended result.year) result.month }
+{
+    let number = cal.extended_from_year_info(year) - (months / 12) as i32 - 1;
+    let start = cal.year_info_from_extended(number);
+    let between = months_between_years(start, year, cal);
+    month_after_first(start, between + (u32::from(month) - 1) - months, cal)
+}
+
+/// The month so many months earlier.
+fn months_earlier<C: Years>(
+    year: C::YearInfo,
+    month: u8,
+    months: u32,
+    cal: &C,
+) -> YearMonth<C::YearInfo>
+    requires range { IsBetween (neg_ℤ (pos 2080000)) (pos 2080000) ((C.years cal.now).extended year) }
+    requires month { HasMonth (C.years cal.now) year month }
+    requires months { months ≤ 27050000 }
+    ensures year { IsGiven (C.years cal.now) result.year }
+    ensures moved { let y = C.years cal.now in
+        IsMonthsAfter y.list (y.extended year) month (neg_ℤ (pos months)) (y.extended result.year) result.month }
+{
+    if months < u32::from(month) {
+        return YearMonth {
+            year,
+            month: month - months as u8,
+        };
     }
-    YearMonth {
-        year: earlier,
-        month: (place - left) as u8,
+    let before = cal.year_info_from_extended(cal.extended_from_year_info(year) - 1);
+    let count = u32::from(cal.months_in_provided_year(before));
+    let back = months - u32::from(month);
+    if back < count {
+        return YearMonth {
+            year: before,
+            month: (count - back) as u8,
+        };
     }
+    month_from_before(year, month, months, cal)
 }
 
 /// The month so many months later, or earlier.
@@ -78,19 +188,19 @@ pub(crate) fn months_away<C: Years>(
     year: C::YearInfo,
     month: u8,
     months: u32,
-    back: bool,
+    direction: Direction,
     cal: &C,
 ) -> YearMonth<C::YearInfo>
-    requires year { IsGiven (C.extended cal.now) (C.year_of cal.now) year }
-    requires range { IsBetween (neg_ℤ (pos 2080000)) (pos 2080000) (C.extended cal.now year) }
-    requires place { HasPlace (C.list cal.now) (C.extended cal.now year) month }
+    requires range { IsBetween (neg_ℤ (pos 2080000)) (pos 2080000) ((C.years cal.now).extended year) }
+    requires month { HasMonth (C.years cal.now) year month }
     requires months { months ≤ 27050000 }
-    ensures year { IsGiven (C.extended cal.now) (C.year_of cal.now) result.year }
-    ensures moved { IsMonthsAfter (C.list cal.now) (C.extended cal.now year) month (toward back months) (C.extended cal.now result.year) result.month }
+    ensures year { IsGiven (C.years cal.now) result.year }
+    ensures moved { let y = C.years cal.now in
+        IsMonthsAfter y.list (y.extended year) month (toward (is_backward direction) months)
+        (y.extended result.year) result.month }
 {
-    if back {
-        months_earlier(year, month, months, cal)
-    } else {
-        months_later(year, month, months, cal)
+    match direction {
+        Direction::Forward => months_later(year, month, months, cal),
+        Direction::Backward => months_earlier(year, month, months, cal),
     }
 }

@@ -2,13 +2,15 @@
 
 ghost use Rattle.std.specs.Prelude.{◌≡◌, ◌≤◌, ◌+◌, ◌+ℤ◌, ◌-ℤ◌, ◌≤ℤ◌, pos, unsigned_abs, Some, IsTrue, false};
 ghost use Rattle.cal_days.specs.Day.{IsFieldYear};
-ghost use Rattle.cal_model.specs.CalendarList.{HasPlace, IsDate, month_at, month_number, spot};
+ghost use Rattle.cal_model.specs.CalendarList.{month_at, month_number, spot};
 ghost use Rattle.cal_model.specs.Difference.{toward, IsBeyond, MonthsSurpass, Reaches, IsGreatest, IsGreatestIf, admits_months};
 ghost use Rattle.cal_model.proofs.DifferenceLemmas.{IsMonthOrder};
-ghost use Rattle.cal_arith.specs.Given.{IsGiven};
-ghost use Rattle.cal_arith.specs.Dates.{date_of};
+ghost use Rattle.cal_arith.specs.Given.{HasMonth, IsGiven};
+ghost use Rattle.cal_arith.specs.Dates.{date_of, IsGivenDate};
+ghost use Rattle.cal_arith.specs.Directions.{is_backward};
 
 use crate::dates::Ymd;
+use crate::direction::Direction;
 use crate::months::YearMonth;
 use crate::past::is_past_day;
 use crate::steps::Steps;
@@ -34,48 +36,47 @@ fn months_apart<C: YearShapes, L: Ledger>(
     cal: &C,
     steps: &mut Steps<L>,
 ) -> u32
-    requires first_year { IsGiven (C.extended cal.now) (C.year_of cal.now) first.year }
-    requires first_range { IsFieldYear (C.extended cal.now first.year) }
-    requires first { HasPlace (C.list cal.now) (C.extended cal.now first.year) first.month }
-    requires last_year { IsGiven (C.extended cal.now) (C.year_of cal.now) last.year }
-    requires last_range { IsFieldYear (C.extended cal.now last.year) }
-    requires last { HasPlace (C.list cal.now) (C.extended cal.now last.year) last.month }
-    requires order { month_number (C.list cal.now) (C.extended cal.now first.year) first.month ≤ℤ month_number (C.list cal.now) (C.extended cal.now last.year) last.month }
-    ensures count { month_number (C.list cal.now) (C.extended cal.now last.year) last.month ≡ month_number (C.list cal.now) (C.extended cal.now first.year) first.month +ℤ pos result }
-    ensures ticks { pos steps.new ≡ pos steps.old +ℤ (C.extended cal.now last.year -ℤ C.extended cal.now first.year) }
+    requires first_range { IsFieldYear ((C.years cal.now).extended first.year) }
+    requires first { HasMonth (C.years cal.now) first.year first.month }
+    requires last_range { IsFieldYear ((C.years cal.now).extended last.year) }
+    requires last { HasMonth (C.years cal.now) last.year last.month }
+    requires order { let y = C.years cal.now in
+        month_number y.list (y.extended first.year) first.month
+        ≤ℤ month_number y.list (y.extended last.year) last.month }
+    ensures count { let y = C.years cal.now in
+        month_number y.list (y.extended last.year) last.month
+        ≡ month_number y.list (y.extended first.year) first.month +ℤ pos result }
+    ensures ticks { let y = C.years cal.now in
+        steps.new ≤ steps.old + unsigned_abs (y.extended last.year -ℤ y.extended first.year) }
 {
-    let end = cal.extended_from_year_info(last.year);
-    let mut year = first.year;
-    let mut count = 0;
-    'years: while cal.extended_from_year_info(year) < end {
-        count += u32::from(cal.months_in_provided_year(year));
-        year = cal.year_counted(cal.extended_from_year_info(year) + 1, steps);
-    }
-    count + u32::from(last.month) - u32::from(first.month)
+    let between = cal.months_between_years(first.year, last.year, steps);
+    between + u32::from(last.month) - u32::from(first.month)
 }
 
 /// How many months lie between a month and one that is not before it in the direction of counting.
 fn months_toward<C: YearShapes, L: Ledger>(
     start: YearMonth<C::YearInfo>,
     end: YearMonth<C::YearInfo>,
-    back: bool,
+    direction: Direction,
     cal: &C,
     steps: &mut Steps<L>,
 ) -> u32
-    requires start_year { IsGiven (C.extended cal.now) (C.year_of cal.now) start.year }
-    requires start_range { IsFieldYear (C.extended cal.now start.year) }
-    requires start { HasPlace (C.list cal.now) (C.extended cal.now start.year) start.month }
-    requires end_year { IsGiven (C.extended cal.now) (C.year_of cal.now) end.year }
-    requires end_range { IsFieldYear (C.extended cal.now end.year) }
-    requires end { HasPlace (C.list cal.now) (C.extended cal.now end.year) end.month }
-    requires order { IsMonthOrder (C.list cal.now) back (C.extended cal.now start.year) start.month (C.extended cal.now end.year) end.month }
-    ensures count { month_number (C.list cal.now) (C.extended cal.now end.year) end.month ≡ month_number (C.list cal.now) (C.extended cal.now start.year) start.month +ℤ toward back result }
-    ensures ticks { steps.new ≤ steps.old + unsigned_abs (C.extended cal.now end.year -ℤ C.extended cal.now start.year) }
+    requires start_range { IsFieldYear ((C.years cal.now).extended start.year) }
+    requires start { HasMonth (C.years cal.now) start.year start.month }
+    requires end_range { IsFieldYear ((C.years cal.now).extended end.year) }
+    requires end { HasMonth (C.years cal.now) end.year end.month }
+    requires order { let y = C.years cal.now in
+        IsMonthOrder y.list (is_backward direction) (y.extended start.year) start.month
+        (y.extended end.year) end.month }
+    ensures count { let y = C.years cal.now in
+        month_number y.list (y.extended end.year) end.month
+        ≡ month_number y.list (y.extended start.year) start.month +ℤ toward (is_backward direction) result }
+    ensures ticks { let y = C.years cal.now in
+        steps.new ≤ steps.old + unsigned_abs (y.extended end.year -ℤ y.extended start.year) }
 {
-    if back {
-        months_apart(end, start, cal, steps)
-    } else {
-        months_apart(start, end, cal, steps)
+    match direction {
+        Direction::Forward => months_apart(start, end, cal, steps),
+        Direction::Backward => months_apart(end, start, cal, steps),
     }
 }
 
@@ -85,12 +86,12 @@ fn next_month<C: YearShapes, L: Ledger>(
     cal: &C,
     steps: &mut Steps<L>,
 ) -> YearMonth<C::YearInfo>
-    requires year { IsGiven (C.extended cal.now) (C.year_of cal.now) here.year }
-    requires range { IsFieldYear (C.extended cal.now here.year) }
-    requires place { HasPlace (C.list cal.now) (C.extended cal.now here.year) here.month }
-    ensures year { IsGiven (C.extended cal.now) (C.year_of cal.now) result.year }
-    ensures place { HasPlace (C.list cal.now) (C.extended cal.now result.year) result.month }
-    ensures next { month_number (C.list cal.now) (C.extended cal.now result.year) result.month ≡ month_number (C.list cal.now) (C.extended cal.now here.year) here.month +ℤ pos 1 }
+    requires range { IsFieldYear ((C.years cal.now).extended here.year) }
+    requires month { HasMonth (C.years cal.now) here.year here.month }
+    ensures month { HasMonth (C.years cal.now) result.year result.month }
+    ensures next { let y = C.years cal.now in
+        month_number y.list (y.extended result.year) result.month
+        ≡ month_number y.list (y.extended here.year) here.month +ℤ pos 1 }
     ensures ticks { steps.new ≤ steps.old + 1 }
 {
     if here.month < cal.months_in_provided_year(here.year) {
@@ -111,12 +112,12 @@ fn previous_month<C: YearShapes, L: Ledger>(
     cal: &C,
     steps: &mut Steps<L>,
 ) -> YearMonth<C::YearInfo>
-    requires year { IsGiven (C.extended cal.now) (C.year_of cal.now) here.year }
-    requires range { IsFieldYear (C.extended cal.now here.year) }
-    requires place { HasPlace (C.list cal.now) (C.extended cal.now here.year) here.month }
-    ensures year { IsGiven (C.extended cal.now) (C.year_of cal.now) result.year }
-    ensures place { HasPlace (C.list cal.now) (C.extended cal.now result.year) result.month }
-    ensures next { month_number (C.list cal.now) (C.extended cal.now here.year) here.month ≡ month_number (C.list cal.now) (C.extended cal.now result.year) result.month +ℤ pos 1 }
+    requires range { IsFieldYear ((C.years cal.now).extended here.year) }
+    requires month { HasMonth (C.years cal.now) here.year here.month }
+    ensures month { HasMonth (C.years cal.now) result.year result.month }
+    ensures next { let y = C.years cal.now in
+        month_number y.list (y.extended here.year) here.month
+        ≡ month_number y.list (y.extended result.year) result.month +ℤ pos 1 }
     ensures ticks { steps.new ≤ steps.old + 1 }
 {
     if here.month > 1 {
@@ -135,22 +136,21 @@ fn previous_month<C: YearShapes, L: Ledger>(
 /// The month from which one more month in the direction of counting leads here.
 fn month_short_of<C: YearShapes, L: Ledger>(
     here: YearMonth<C::YearInfo>,
-    back: bool,
+    direction: Direction,
     cal: &C,
     steps: &mut Steps<L>,
 ) -> YearMonth<C::YearInfo>
-    requires year { IsGiven (C.extended cal.now) (C.year_of cal.now) here.year }
-    requires range { IsFieldYear (C.extended cal.now here.year) }
-    requires place { HasPlace (C.list cal.now) (C.extended cal.now here.year) here.month }
-    ensures year { IsGiven (C.extended cal.now) (C.year_of cal.now) result.year }
-    ensures place { HasPlace (C.list cal.now) (C.extended cal.now result.year) result.month }
-    ensures next { month_number (C.list cal.now) (C.extended cal.now here.year) here.month ≡ month_number (C.list cal.now) (C.extended cal.now result.year) result.month +ℤ toward back 1 }
+    requires range { IsFieldYear ((C.years cal.now).extended here.year) }
+    requires month { HasMonth (C.years cal.now) here.year here.month }
+    ensures month { HasMonth (C.years cal.now) result.year result.month }
+    ensures next { let y = C.years cal.now in
+        month_number y.list (y.extended here.year) here.month
+        ≡ month_number y.list (y.extended result.year) result.month +ℤ toward (is_backward direction) 1 }
     ensures ticks { steps.new ≤ steps.old + 1 }
 {
-    if back {
-        next_month(here, cal, steps)
-    } else {
-        previous_month(here, cal, steps)
+    match direction {
+        Direction::Forward => previous_month(here, cal, steps),
+        Direction::Backward => next_month(here, cal, steps),
     }
 }
 
@@ -160,30 +160,38 @@ fn months_between<C: YearShapes, L: Ledger>(
     to: Ymd<C::YearInfo>,
     start: YearMonth<C::YearInfo>,
     years: u32,
-    back: bool,
+    direction: Direction,
     cal: &C,
     steps: &mut Steps<L>,
 ) -> MonthsReached<C::YearInfo>
-    requires to_year { IsGiven (C.extended cal.now) (C.year_of cal.now) to.year }
-    requires to_range { IsFieldYear (C.extended cal.now to.year) }
-    requires to { IsDate (C.list cal.now) (date_of (C.extended cal.now) to) }
-    requires year { IsGiven (C.extended cal.now) (C.year_of cal.now) start.year }
-    requires number { C.extended cal.now start.year ≡ C.extended cal.now from.year +ℤ toward back years }
-    requires range { IsFieldYear (C.extended cal.now start.year) }
-    requires spot { spot (C.list cal.now) (C.extended cal.now start.year) (month_at (C.list cal.now) (C.extended cal.now from.year) from.month) Overflow.Constrain ≡ Some start.month }
-    requires within { ¬ IsBeyond back (C.extended cal.now start.year, start.month, from.day) (C.extended cal.now to.year, to.month, to.day) }
-    ensures greatest { IsGreatest (MonthsSurpass (C.list cal.now) (date_of (C.extended cal.now) from) (date_of (C.extended cal.now) to) back years) result.months }
-    ensures year { IsGiven (C.extended cal.now) (C.year_of cal.now) result.year }
-    ensures reaches { Reaches (C.list cal.now) (date_of (C.extended cal.now) from) back years result.months (C.extended cal.now result.year) result.month }
-    ensures ticks { steps.new ≤ steps.old + unsigned_abs (C.extended cal.now to.year -ℤ C.extended cal.now start.year) + 1 }
+    requires to_range { IsFieldYear ((C.years cal.now).extended to.year) }
+    requires to { IsGivenDate (C.years cal.now) to }
+    requires year { IsGiven (C.years cal.now) start.year }
+    requires number { let y = C.years cal.now in
+        y.extended start.year ≡ y.extended from.year +ℤ toward (is_backward direction) years }
+    requires range { IsFieldYear ((C.years cal.now).extended start.year) }
+    requires spot { let y = C.years cal.now in
+        spot y.list (y.extended start.year) (month_at y.list (y.extended from.year) from.month) Overflow.Constrain
+        ≡ Some start.month }
+    requires within { let y = C.years cal.now in
+        ¬ IsBeyond (is_backward direction) (y.extended start.year, start.month, from.day)
+        (y.extended to.year, to.month, to.day) }
+    ensures greatest { let y = C.years cal.now in
+        IsGreatest (MonthsSurpass y.list (date_of y from) (date_of y to) (is_backward direction) years) result.months }
+    ensures year { IsGiven (C.years cal.now) result.year }
+    ensures reaches { let y = C.years cal.now in
+        Reaches y.list (date_of y from) (is_backward direction) years result.months
+        (y.extended result.year) result.month }
+    ensures ticks { let y = C.years cal.now in
+        steps.new ≤ steps.old + unsigned_abs (y.extended to.year -ℤ y.extended start.year) + 1 }
 {
     let end = YearMonth {
         year: to.year,
         month: to.month,
     };
-    let count = months_toward(start, end, back, cal, steps);
-    if is_past_day(back, from.day, to.day) {
-        let short = month_short_of(end, back, cal, steps);
+    let count = months_toward(start, end, direction, cal, steps);
+    if is_past_day(direction, from.day, to.day) {
+        let short = month_short_of(end, direction, cal, steps);
         return MonthsReached {
             months: count - 1,
             year: short.year,
@@ -204,27 +212,38 @@ pub(crate) fn admitted_months<C: YearShapes, L: Ledger>(
     start: YearMonth<C::YearInfo>,
     years: u32,
     unit: DateDurationUnit,
-    back: bool,
+    direction: Direction,
     cal: &C,
     steps: &mut Steps<L>,
 ) -> MonthsReached<C::YearInfo>
-    requires to_year { IsGiven (C.extended cal.now) (C.year_of cal.now) to.year }
-    requires to_range { IsFieldYear (C.extended cal.now to.year) }
-    requires to { IsDate (C.list cal.now) (date_of (C.extended cal.now) to) }
-    requires year { IsGiven (C.extended cal.now) (C.year_of cal.now) start.year }
-    requires number { C.extended cal.now start.year ≡ C.extended cal.now from.year +ℤ toward back years }
-    requires range { IsFieldYear (C.extended cal.now start.year) }
-    requires spot { spot (C.list cal.now) (C.extended cal.now start.year) (month_at (C.list cal.now) (C.extended cal.now from.year) from.month) Overflow.Constrain ≡ Some start.month }
-    requires within { ¬ IsBeyond back (C.extended cal.now start.year, start.month, from.day) (C.extended cal.now to.year, to.month, to.day) }
-    ensures greatest { IsGreatestIf (admits_months unit) (MonthsSurpass (C.list cal.now) (date_of (C.extended cal.now) from) (date_of (C.extended cal.now) to) back years) result.months }
-    ensures within { ¬ MonthsSurpass (C.list cal.now) (date_of (C.extended cal.now) from) (date_of (C.extended cal.now) to) back years result.months }
-    ensures year { IsGiven (C.extended cal.now) (C.year_of cal.now) result.year }
-    ensures reaches { Reaches (C.list cal.now) (date_of (C.extended cal.now) from) back years result.months (C.extended cal.now result.year) result.month }
-    ensures ticks { IsTrue (admits_months unit) → steps.new ≤ steps.old + unsigned_abs (C.extended cal.now to.year -ℤ C.extended cal.now start.year) + 1 }
+    requires to_range { IsFieldYear ((C.years cal.now).extended to.year) }
+    requires to { IsGivenDate (C.years cal.now) to }
+    requires year { IsGiven (C.years cal.now) start.year }
+    requires number { let y = C.years cal.now in
+        y.extended start.year ≡ y.extended from.year +ℤ toward (is_backward direction) years }
+    requires range { IsFieldYear ((C.years cal.now).extended start.year) }
+    requires spot { let y = C.years cal.now in
+        spot y.list (y.extended start.year) (month_at y.list (y.extended from.year) from.month) Overflow.Constrain
+        ≡ Some start.month }
+    requires within { let y = C.years cal.now in
+        ¬ IsBeyond (is_backward direction) (y.extended start.year, start.month, from.day)
+        (y.extended to.year, to.month, to.day) }
+    ensures greatest { let y = C.years cal.now in
+        IsGreatestIf (admits_months unit)
+        (MonthsSurpass y.list (date_of y from) (date_of y to) (is_backward direction) years) result.months }
+    ensures within { let y = C.years cal.now in
+        ¬ MonthsSurpass y.list (date_of y from) (date_of y to) (is_backward direction) years result.months }
+    ensures year { IsGiven (C.years cal.now) result.year }
+    ensures reaches { let y = C.years cal.now in
+        Reaches y.list (date_of y from) (is_backward direction) years result.months
+        (y.extended result.year) result.month }
+    ensures ticks { let y = C.years cal.now in
+        IsTrue (admits_months unit)
+        → steps.new ≤ steps.old + unsigned_abs (y.extended to.year -ℤ y.extended start.year) + 1 }
     ensures no_ticks { admits_months unit ≡ false → steps.new ≡ steps.old }
 {
     if matches!(unit, DateDurationUnit::Years | DateDurationUnit::Months) {
-        return months_between(from, to, start, years, back, cal, steps);
+        return months_between(from, to, start, years, direction, cal, steps);
     }
     MonthsReached {
         months: 0,

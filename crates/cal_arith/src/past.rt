@@ -3,12 +3,13 @@
 ghost use Rattle.std.specs.Prelude.{◌≡◌, ◌↔◌, IsTrue};
 ghost use Rattle.cal_types.specs.Month.{month_rank};
 ghost use Rattle.cal_types.specs.MonthParts.{month_parts};
-ghost use Rattle.cal_model.specs.CalendarList.{HasPlace};
 ghost use Rattle.cal_model.specs.WithinYear.{IsPast, IsPastDay, SurpassesInYear};
-ghost use Rattle.cal_arith.specs.Given.{IsGiven};
+ghost use Rattle.cal_arith.specs.Given.{HasMonth};
 ghost use Rattle.cal_arith.specs.Dates.{date_of};
+ghost use Rattle.cal_arith.specs.Directions.{is_backward};
 
 use crate::dates::Ymd;
+use crate::direction::Direction;
 use crate::years::YearShapes;
 use cal_types::Month;
 
@@ -19,22 +20,24 @@ fn rank(month: Month) -> u16
     2 * u16::from(month.number()) + if month.is_leap() { 1 } else { 0 }
 }
 
-/// Whether a month and day come after others of the same year, or before them where counting goes back.
-fn is_past(back: bool, month: u16, day: u8, other_month: u16, other_day: u8) -> bool
-    ensures { IsTrue result ↔ IsPast back month day other_month other_day }
+/// Whether a month and day come after others of the same year, or before them where counting goes backward.
+fn is_past(direction: Direction, month: u16, day: u8, other_month: u16, other_day: u8) -> bool
+    ensures { IsTrue result ↔ IsPast (is_backward direction) month day other_month other_day }
 {
-    if back {
-        month < other_month || (month == other_month && day < other_day)
-    } else {
-        month > other_month || (month == other_month && day > other_day)
+    match direction {
+        Direction::Forward => month > other_month || (month == other_month && day > other_day),
+        Direction::Backward => month < other_month || (month == other_month && day < other_day),
     }
 }
 
-/// Whether a day comes after another of the same month, or before it where counting goes back.
-pub(crate) fn is_past_day(back: bool, day: u8, other: u8) -> bool
-    ensures { IsTrue result ↔ IsPastDay back day other }
+/// Whether a day comes after another of the same month, or before it where counting goes backward.
+pub(crate) fn is_past_day(direction: Direction, day: u8, other: u8) -> bool
+    ensures { IsTrue result ↔ IsPastDay (is_backward direction) day other }
 {
-    if back { day < other } else { day > other }
+    match direction {
+        Direction::Forward => day > other,
+        Direction::Backward => day < other,
+    }
 }
 
 /// Whether as many years as lie between the years of two dates lead past the second, by the order of months
@@ -43,20 +46,19 @@ pub(crate) fn surpasses_in_year<C: YearShapes>(
     from: Ymd<C::YearInfo>,
     to: Ymd<C::YearInfo>,
     place: u8,
-    back: bool,
+    direction: Direction,
     cal: &C,
 ) -> bool
-    requires from_year { IsGiven (C.extended cal.now) (C.year_of cal.now) from.year }
-    requires from { HasPlace (C.list cal.now) (C.extended cal.now from.year) from.month }
-    requires to_year { IsGiven (C.extended cal.now) (C.year_of cal.now) to.year }
-    requires to { HasPlace (C.list cal.now) (C.extended cal.now to.year) to.month }
-    ensures { IsTrue result ↔ SurpassesInYear (C.list cal.now) back (date_of (C.extended cal.now) from) (date_of (C.extended cal.now) to) place }
+    requires from { HasMonth (C.years cal.now) from.year from.month }
+    requires to { HasMonth (C.years cal.now) to.year to.month }
+    ensures { let y = C.years cal.now in
+        IsTrue result ↔ SurpassesInYear y.list (is_backward direction) (date_of y from) (date_of y to) place }
 {
     let month = rank(cal.month_from_ordinal(from.year, from.month));
     let other = rank(cal.month_from_ordinal(to.year, to.month));
-    is_past(back, month, from.day, other, to.day)
+    is_past(direction, month, from.day, other, to.day)
         || is_past(
-            back,
+            direction,
             u16::from(place),
             from.day,
             u16::from(to.month),

@@ -1,8 +1,8 @@
 //! Where a month of one year stands in another.
 
 ghost use Rattle.std.specs.Prelude.{◌≡◌};
-ghost use Rattle.cal_model.specs.CalendarList.{HasPlace, month_at, spot};
-ghost use Rattle.cal_arith.specs.Given.{IsGiven};
+ghost use Rattle.cal_model.specs.CalendarList.{month_at, spot};
+ghost use Rattle.cal_arith.specs.Given.{HasMonth, IsGiven};
 
 use crate::years::YearShapes;
 use cal_types::Overflow;
@@ -15,10 +15,10 @@ pub(crate) fn place_in<C: YearShapes>(
     overflow: Overflow,
     cal: &C,
 ) -> Option<u8>
-    requires year { IsGiven (C.extended cal.now) (C.year_of cal.now) year }
-    requires place { HasPlace (C.list cal.now) (C.extended cal.now year) month }
-    requires reached { IsGiven (C.extended cal.now) (C.year_of cal.now) reached }
-    ensures { result ≡ spot (C.list cal.now) (C.extended cal.now reached) (month_at (C.list cal.now) (C.extended cal.now year) month) overflow }
+    requires month { HasMonth (C.years cal.now) year month }
+    requires reached { IsGiven (C.years cal.now) reached }
+    ensures { let y = C.years cal.now in
+        result ≡ spot y.list (y.extended reached) (month_at y.list (y.extended year) month) overflow }
 {
     cal.ordinal_from_month(reached, cal.month_from_ordinal(year, month), overflow)
         .ok()

@@ -1,18 +1,24 @@
 //! What a calendar offers of its years.
 
-ghost use Rattle.std.specs.Prelude.{◌≡◌, ℕ, ℤ, ◌+◌, ◌<◌, ◌≤◌, ◌↔◌, ◌≤ℤ◌, ◌<ℤ◌, ◌+ℤ◌, ◌-ℤ◌, pos, neg_ℤ, unsigned_abs};
+ghost use Rattle.std.specs.Prelude.{◌≡◌, ℕ, ℤ, ◌+◌, ◌<◌, ◌≤◌, ◌↔◌, ◌≤ℤ◌, ◌<ℤ◌, ◌+ℤ◌, ◌-ℤ◌, pos, neg_ℤ, unsigned_abs, false, Some, Err, IfOk, IsTrue, List};
 ghost use Rattle.std.specs.Ordering.{int_cmp, int_eq};
-ghost use Rattle.cal_days.specs.Day.{IsBetween, IsValidDay, IsFieldYear, IsRuleYear};
+ghost use Rattle.cal_days.specs.Day.{IsBetween, IsValidDay, IsFieldYear, IsRuleYear, IsCoveredYear, IsConstructorYear};
 ghost use Rattle.cal_days.specs.Sums.{total};
+ghost use Rattle.cal_types.specs.Month.{MonthParts};
 ghost use Rattle.cal_types.specs.MonthParts.{month_parts};
-ghost use Rattle.cal_model.specs.CalendarList.{CalendarList, Date, date, month_count, month_at, month_length, month_number, year_length, start_of_year, day_number, HasPlace, IsDate, IsLawful, IsOn, IsValidDate};
-ghost use Rattle.cal_arith.specs.Given.{IsGiven};
+ghost use Rattle.cal_types.specs.declared.errors.EcmaReferenceYearError.TheVariants.{MonthNotInCalendar, UseRegularIfConstrain};
+ghost use Rattle.cal_model.specs.YearNames.{YearNames};
+ghost use Rattle.cal_arith.specs.FieldNames.{era_read, seen};
+ghost use Rattle.cal_model.specs.CalendarList.{Date, date, month_count, month_at, month_length, month_number, year_length, start_of_year, day_number, IsDate, IsLawful, IsOn, IsValidDate};
+ghost use Rattle.cal_arith.specs.Given.{CalendarYears, HasMonth, IsGiven};
+ghost use Rattle.cal_arith.specs.Dates.{date_of, ymd, IsGivenDate};
+ghost use Rattle.cal_arith.specs.declared.dates.Ymd.{Ymd};
 ghost use Rattle.cal_arith.specs.Places.{ordinal_month};
 
 use crate::dates::month_by_month;
 use crate::steps::Steps;
 use cal_days::RataDie;
-use cal_types::{Month, MonthError, Overflow};
+use cal_types::{EcmaReferenceYearError, Month, MonthError, Overflow, UnknownEraError};
 use std::fmt::Debug;
 use std::hash::Hash;
 use std::sync::ledger::Ledger;
@@ -28,33 +34,27 @@ pub trait PackWithMD: Copy {
     /// The number that the year knows by itself.
     ghost stored: { Self → ℤ };
 
-    /// The parts of what is packed.
-    ghost year_in: { Self.Packed → Self };
-
-    ghost month_in: { Self.Packed → ℕ };
-
-    ghost day_in: { Self.Packed → ℕ };
+    /// The year, the place of the month and the day that are packed.
+    ghost parts: { Self.Packed → Ymd Self };
 
     /// Packs a year with a month's place from 1 to 13 and a day from 1 to 31; unpacking gives them back.
     fn pack(self, month: u8, day: u8) -> Self::Packed
         requires storable { IsFieldYear (stored self) }
         requires month { (1 ≤ month) × (month ≤ 13) }
         requires day { (1 ≤ day) × (day ≤ 31) }
-        ensures year { year_in result ≡ self }
-        ensures month { month_in result ≡ month }
-        ensures day { day_in result ≡ day };
+        ensures { parts result ≡ ymd self month day };
 
     /// The year.
     fn unpack_year(packed: Self::Packed) -> Self
-        ensures { result ≡ year_in packed };
+        ensures { result ≡ (parts packed).year };
 
     /// The month's place in its year.
     fn unpack_month(packed: Self::Packed) -> u8
-        ensures { result ≡ month_in packed };
+        ensures { result ≡ (parts packed).month };
 
     /// The day of the month.
     fn unpack_day(packed: Self::Packed) -> u8
-        ensures { result ≡ day_in packed };
+        ensures { result ≡ (parts packed).day };
 }
 
 /// The shapes of a calendar's years: their months, and the lengths of these. Its only look-up of a year is
@@ -65,53 +65,71 @@ pub trait YearShapes {
     /// A year.
     type YearInfo: Copy + Debug + Hash + Ord + PackWithMD;
 
-    /// The calendar as a list, in extended years.
-    ghost list: { Self → CalendarList };
-
-    /// The year of an extended year, and the extended year of a year.
-    ghost year_of: { Self → ℤ → Self.YearInfo };
-
-    ghost extended: { Self → Self.YearInfo → ℤ };
-
-    /// What is added to an extended year to give the stored one.
-    ghost offset: { Self → ℤ };
+    /// The calendar's years: its list, in extended years; the year of an extended year and back; and what is
+    /// added to an extended year to give the stored one.
+    ghost years: { Self → CalendarYears Self.YearInfo };
 
     /// The year of an extended year, at the cost of one tick.
     fn year_counted<L: Ledger>(&self, extended_year: i32, steps: &mut Steps<L>) -> Self::YearInfo
         requires { IsRuleYear extended_year }
-        ensures year { result ≡ year_of self.now extended_year }
+        ensures year { result ≡ (years self.now).year_of extended_year }
         ensures tick { steps.new ≡ steps.old + 1 };
 
     /// The extended year of a given year.
     fn extended_from_year_info(&self, year: Self::YearInfo) -> i32
-        requires { IsGiven (extended self.now) (year_of self.now) year }
-        ensures { result ≡ extended self.now year };
+        requires { IsGiven (years self.now) year }
+        ensures { result ≡ (years self.now).extended year };
 
     /// How many months a given year has.
     fn months_in_provided_year(&self, year: Self::YearInfo) -> u8
-        requires { IsGiven (extended self.now) (year_of self.now) year }
-        ensures { result ≡ month_count (list self.now) (extended self.now year) };
+        requires { IsGiven (years self.now) year }
+        ensures { let y = years self.now in result ≡ month_count y.list (y.extended year) };
 
     /// How many days the month in this place of a given year has.
     fn days_in_provided_month(&self, year: Self::YearInfo, month: u8) -> u8
-        requires year { IsGiven (extended self.now) (year_of self.now) year }
-        requires place { HasPlace (list self.now) (extended self.now year) month }
-        ensures { result ≡ month_length (list self.now) (extended self.now year) month };
+        requires { HasMonth (years self.now) year month }
+        ensures { let y = years self.now in result ≡ month_length y.list (y.extended year) month };
 
     /// The day number of a date of a given year.
     fn to_rata_die_inner(&self, year: Self::YearInfo, month: u8, day: u8) -> RataDie
-        requires year { IsGiven (extended self.now) (year_of self.now) year }
-        requires date { IsDate (list self.now) (date (extended self.now year) month day) }
-        ensures { result ≡ day_number (list self.now) (date (extended self.now year) month day) };
+        requires { IsGivenDate (years self.now) (ymd year month day) }
+        ensures { let y = years self.now in result ≡ day_number y.list (date (y.extended year) month day) };
 
-    /// A number of months that `years` years from -8000000 to 8000000 have at least. It has the sign of
-    /// `years`.
-    fn min_months_from(&self, start: Self::YearInfo, years: i32) -> i32
-        requires year { IsGiven (extended self.now) (year_of self.now) start }
-        requires years { IsRuleYear years }
-        ensures forward { (pos 0 <ℤ result) ↔ (pos 0 <ℤ years) }
-        ensures back { (result <ℤ pos 0) ↔ (years <ℤ pos 0) }
-        ensures least { (y : ℤ) → IsRuleYear y → IsRuleYear (y +ℤ pos (unsigned_abs years) -ℤ pos 1) → unsigned_abs result ≤ total (month_count (list self.now)) y (unsigned_abs years) };
+    /// A number of months that `count` years from -8000000 to 8000000 have at least. It has the sign of
+    /// `count`.
+    fn min_months_from(&self, start: Self::YearInfo, count: i32) -> i32
+        requires year { IsGiven (years self.now) start }
+        requires count { IsRuleYear count }
+        ensures forward { (pos 0 <ℤ result) ↔ (pos 0 <ℤ count) }
+        ensures back { (result <ℤ pos 0) ↔ (count <ℤ pos 0) }
+        ensures least { (y : ℤ) → IsRuleYear y → IsRuleYear (y +ℤ pos (unsigned_abs count) -ℤ pos 1)
+            → unsigned_abs result ≤ total (month_count (years self.now).list) y (unsigned_abs count) };
+
+    /// How many months lie between the first day of a given year and that of a given year which isn't before it,
+    /// at the cost of at most one tick for each year between them.
+    fn months_between_years<L: Ledger>(
+        &self,
+        first: Self::YearInfo,
+        last: Self::YearInfo,
+        steps: &mut Steps<L>,
+    ) -> u32
+        requires first { IsGiven (years self.now) first }
+        requires last { IsGiven (years self.now) last }
+        requires order { (years self.now).extended first ≤ℤ (years self.now).extended last }
+        ensures count { let y = years self.now in
+            month_number y.list (y.extended last) 1 ≡ month_number y.list (y.extended first) 1 +ℤ pos result }
+        ensures ticks { let y = years self.now in
+            steps.new ≤ steps.old + unsigned_abs (y.extended last -ℤ y.extended first) }
+    {
+        let end = self.extended_from_year_info(last);
+        let mut year = first;
+        let mut count = 0;
+        'years: while self.extended_from_year_info(year) < end {
+            count += u32::from(self.months_in_provided_year(year));
+            year = self.year_counted(self.extended_from_year_info(year) + 1, steps);
+        }
+        count
+    }
 
     /// The place of a month in a given year. [`MonthError::NotInCalendar`] comes for a month that no year
     /// of the calendar has, and [`MonthError::NotInYear`] where this year lacks it and, under
@@ -122,40 +140,48 @@ pub trait YearShapes {
         month: Month,
         overflow: Overflow,
     ) -> Result<u8, MonthError>
-        requires { IsGiven (extended self.now) (year_of self.now) year }
-        ensures { result ≡ ordinal_month (list self.now) (extended self.now year) (month_parts month) overflow };
+        requires { IsGiven (years self.now) year }
+        ensures { let y = years self.now in
+            result ≡ ordinal_month y.list (y.extended year) (month_parts month) overflow };
 
     /// The month in this place of a given year.
     fn month_from_ordinal(&self, year: Self::YearInfo, ordinal_month: u8) -> Month
-        requires year { IsGiven (extended self.now) (year_of self.now) year }
-        requires place { HasPlace (list self.now) (extended self.now year) ordinal_month }
-        ensures { month_parts result ≡ month_at (list self.now) (extended self.now year) ordinal_month };
+        requires { HasMonth (years self.now) year ordinal_month }
+        ensures { let y = years self.now in month_parts result ≡ month_at y.list (y.extended year) ordinal_month };
 
     /// A year and its extended year give each other back.
-    ghost numbered: { (s : Self) (y : ℤ) → IsRuleYear y → extended s (year_of s y) ≡ y };
+    ghost numbered: { (s : Self) (y : ℤ) → IsRuleYear y → (years s).extended ((years s).year_of y) ≡ y };
 
     /// The list is a calendar's: each year has 12 or 13 months of 1 to 31 days, which rise.
-    ghost lawful: { (s : Self) → IsLawful (list s) };
+    ghost lawful: { (s : Self) → IsLawful (years s).list };
 
     /// Years are equal and ordered as their stored numbers.
-    ghost equal: { (a b : Self.YearInfo) → Self.YearInfo.eq a b ≡ int_eq (Self.YearInfo.stored a) (Self.YearInfo.stored b) };
+    ghost equal: { (a b : Self.YearInfo) →
+        Self.YearInfo.eq a b ≡ int_eq (Self.YearInfo.stored a) (Self.YearInfo.stored b) };
 
-    ghost ordered: { (a b : Self.YearInfo) → Self.YearInfo.cmp a b ≡ int_cmp (Self.YearInfo.stored a) (Self.YearInfo.stored b) };
+    ghost ordered: { (a b : Self.YearInfo) →
+        Self.YearInfo.cmp a b ≡ int_cmp (Self.YearInfo.stored a) (Self.YearInfo.stored b) };
 
     /// The stored number of a given year.
-    ghost stored_from: { (s : Self) (y : Self.YearInfo) → IsGiven (extended s) (year_of s) y → Self.YearInfo.stored y ≡ extended s y +ℤ offset s };
+    ghost stored_from: { (s : Self) (y : Self.YearInfo) → IsGiven (years s) y →
+        Self.YearInfo.stored y ≡ (years s).extended y +ℤ (years s).offset };
 
     /// The days of extended years are far from the ends of the number types.
-    ghost near: { (s : Self) (t : Date) → IsRuleYear t.year → IsDate (list s) t → IsBetween (neg_ℤ (pos 4000000000)) (pos 4000000000) (day_number (list s) t) };
+    ghost near: { (s : Self) (t : Date) → IsRuleYear t.year → IsDate (years s).list t →
+        IsBetween (neg_ℤ (pos 4000000000)) (pos 4000000000) (day_number (years s).list t) };
 
     /// The years of valid days are small, and so are their stored numbers.
-    ghost ranged: { (s : Self) (t : Date) → IsValidDate (list s) t → IsFieldYear t.year × IsFieldYear (t.year +ℤ offset s) };
+    ghost ranged: { (s : Self) (t : Date) → IsValidDate (years s).list t →
+        IsFieldYear t.year × IsFieldYear (t.year +ℤ (years s).offset) };
 
     /// Dates with valid days lie at most 27040000 months apart.
-    ghost apart: { (s : Self) (t u : Date) → IsValidDate (list s) t → IsValidDate (list s) u → unsigned_abs (month_number (list s) u.year u.month -ℤ month_number (list s) t.year t.month) ≤ 27040000 };
+    ghost apart: { (s : Self) (t u : Date) → IsValidDate (years s).list t → IsValidDate (years s).list u →
+        let number = month_number (years s).list in
+        unsigned_abs (number u.year u.month -ℤ number t.year t.month) ≤ 27040000 };
 
     /// The days of years from -20000 to 20000 are valid.
-    ghost covered: { (s : Self) (t : Date) → IsBetween (neg_ℤ (pos 20000)) (pos 20000) t.year → IsDate (list s) t → IsValidDay (day_number (list s) t) };
+    ghost covered: { (s : Self) (t : Date) → IsCoveredYear t.year →
+        IsDate (years s).list t → IsValidDay (day_number (years s).list t) };
 }
 
 /// A calendar's years, which are looked up by extended year and by day.
@@ -163,38 +189,86 @@ pub trait Years: YearShapes {
     /// The year of an extended year.
     fn year_info_from_extended(&self, extended_year: i32) -> Self::YearInfo
         requires { IsRuleYear extended_year }
-        ensures { result ≡ Self.year_of self.now extended_year };
+        ensures { result ≡ (Self.years self.now).year_of extended_year };
 
     /// The year that contains a valid day.
     fn year_containing_rd(&self, rd: RataDie) -> Self::YearInfo
         requires { IsValidDay rd }
-        ensures year { IsGiven (Self.extended self.now) (Self.year_of self.now) result }
-        ensures range { IsFieldYear (Self.extended self.now result) }
+        ensures year { IsGiven (Self.years self.now) result }
+        ensures range { IsFieldYear ((Self.years self.now).extended result) }
         ensures storable { IsFieldYear (Self.YearInfo.stored result) }
-        ensures first { start_of_year (Self.list self.now) (Self.extended self.now result) ≤ℤ rd }
-        ensures last { rd <ℤ (start_of_year (Self.list self.now) (Self.extended self.now result) +ℤ pos (year_length (Self.list self.now) (Self.extended self.now result))) };
+        ensures first { let y = Self.years self.now in start_of_year y.list (y.extended result) ≤ℤ rd }
+        ensures last { let y = Self.years self.now in let number = y.extended result in
+            rd <ℤ (start_of_year y.list number +ℤ pos (year_length y.list number)) };
 
-    /// The year that contains a valid day, and the day of that year, counted from 0.
-    fn year_and_day(&self, rd: RataDie) -> (Self::YearInfo, u16)
+    /// The date of a valid day: its year, the place of its month, and its day of the month.
+    fn year_month_day(&self, rd: RataDie) -> (Self::YearInfo, u8, u8)
         requires { IsValidDay rd }
-        ensures year { IsGiven (Self.extended self.now) (Self.year_of self.now) result.0 }
-        ensures within { result.1 < year_length (Self.list self.now) (Self.extended self.now result.0) }
-        ensures day { start_of_year (Self.list self.now) (Self.extended self.now result.0) +ℤ pos result.1 ≡ rd }
+        ensures year { IsGiven (Self.years self.now) result.0 }
+        ensures on { let y = Self.years self.now in IsOn y.list rd (date_of y (ymd result.0 result.1 result.2)) }
     {
         let year = self.year_containing_rd(rd);
         let since = rd.since(self.to_rata_die_inner(year, 1, 1));
-        (year, since as u16)
+        let day_of_year = since as u16;
+        let (month, day) = self.month_and_day(year, day_of_year);
+        (year, month, day)
     }
 
     /// The place of the month and the day of the month of a day of a given year, which is counted from 0.
     fn month_and_day(&self, year: Self::YearInfo, day_of_year: u16) -> (u8, u8)
-        requires year { IsGiven (Self.extended self.now) (Self.year_of self.now) year }
-        requires within { day_of_year < year_length (Self.list self.now) (Self.extended self.now year) }
-        ensures { IsOn (Self.list self.now) (start_of_year (Self.list self.now) (Self.extended self.now year) +ℤ pos day_of_year) (date (Self.extended self.now year) result.0 result.1) }
+        requires year { IsGiven (Self.years self.now) year }
+        requires within { let y = Self.years self.now in day_of_year < year_length y.list (y.extended year) }
+        ensures { let y = Self.years self.now in let day = start_of_year y.list (y.extended year) +ℤ pos day_of_year in
+            IsOn y.list day (date_of y (ymd year result.0 result.1)) }
     {
         month_by_month(year, day_of_year, self)
     }
 }
 
 /// A calendar that names its years by eras, and its dates without a year by reference years.
-pub trait DateFieldsResolver: Years {}
+pub trait DateFieldsResolver: Years {
+    /// What eras read as, and the reference years.
+    ghost names: { Self → YearNames };
+
+    /// The extended year that an era's code and a year in that era, from -1040000 to 1040000, read as.
+    /// [`UnknownEraError`] comes for a code that isn't one of the calendar's (CLDR, UTS 35). For a year from
+    /// -9999 to 9999 the extended year lies from -20000 to 20000.
+    fn extended_year_from_era_year_unchecked(
+        &self,
+        era: &[u8],
+        era_year: i32,
+    ) -> Result<i32, UnknownEraError>
+        requires { IsFieldYear era_year }
+        ensures { result ≡ era_read ((names self.now).reads era.now era_year) };
+
+    /// The reference year of a month and a day, in which a date without a year stands (ECMAScript Temporal's
+    /// NonISOMonthDayToISOReferenceDate). The day may be above the month's length.
+    ///
+    /// [`EcmaReferenceYearError::MonthNotInCalendar`] comes exactly for a month that no year of the calendar
+    /// has, [`EcmaReferenceYearError::UseRegularIfConstrain`] only for a leap month, and
+    /// [`EcmaReferenceYearError::Unimplemented`] where the calendar has no reference years.
+    fn reference_year_from_month_day(
+        &self,
+        month: Month,
+        day: u8,
+    ) -> Result<Self::YearInfo, EcmaReferenceYearError>
+        ensures year { seen (Self.years self.now).extended result ≡ (names self.now).reference (month_parts month) day }
+        ensures given { IfOk result (λ y. IsGiven (Self.years self.now) y) };
+
+    /// An era's year is one that the year rules are used for.
+    ghost era_in_range: { (s : Self) (era : List ℕ) (n y : ℤ) → IsFieldYear n
+        → (names s).reads era n ≡ Some y → IsRuleYear y };
+
+    /// An era's year near its start has valid days.
+    ghost era_covered: { (s : Self) (era : List ℕ) (n y : ℤ) → IsConstructorYear n
+        → (names s).reads era n ≡ Some y → IsCoveredYear y };
+
+    /// A month that no year of the calendar has is refused as such, and no other is.
+    ghost reference_of_kind: { (s : Self) (m : MonthParts) (d : ℕ)
+        → ((names s).reference m d ≡ Err MonthNotInCalendar) ↔ ((Self.years s).list.is_of_kind m ≡ false) };
+
+    /// Only a leap month of the calendar leaves its place to the plain month of its number.
+    ghost reference_of_leap_month: { (s : Self) (m : MonthParts) (d : ℕ)
+        → (names s).reference m d ≡ Err UseRegularIfConstrain
+        → IsTrue m.is_leap × IsTrue ((Self.years s).list.is_of_kind m) };
+}

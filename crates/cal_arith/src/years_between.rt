@@ -1,14 +1,16 @@
 //! The years of a difference, and the month that they lead to.
 
-ghost use Rattle.std.specs.Prelude.{◌≡◌, ◌+◌, ◌+ℤ◌, Some, IsTrue};
+ghost use Rattle.std.specs.Prelude.{◌≡◌, ◌+◌, ◌+ℤ◌, Some};
 ghost use Rattle.cal_days.specs.Day.{IsFieldYear};
-ghost use Rattle.cal_model.specs.CalendarList.{HasPlace, IsDate, month_at, spot};
+ghost use Rattle.cal_model.specs.CalendarList.{month_at, spot};
 ghost use Rattle.cal_model.specs.WithinYear.{Leads};
 ghost use Rattle.cal_model.specs.Difference.{toward, YearsSurpass, IsGreatest, IsGreatestIf, admits_years};
-ghost use Rattle.cal_arith.specs.Given.{IsGiven};
-ghost use Rattle.cal_arith.specs.Dates.{date_of};
+ghost use Rattle.cal_arith.specs.Given.{HasMonth, IsGiven};
+ghost use Rattle.cal_arith.specs.Dates.{date_of, IsGivenDate};
+ghost use Rattle.cal_arith.specs.Directions.{is_backward};
 
 use crate::dates::Ymd;
+use crate::direction::Direction;
 use crate::months::YearMonth;
 use crate::past::surpasses_in_year;
 use crate::places::place_in;
@@ -19,10 +21,11 @@ use std::sync::ledger::Ledger;
 
 /// The place of a date's month in another year, where the stand-in is taken for a month that it lacks.
 fn stand_in_place<C: YearShapes>(from: Ymd<C::YearInfo>, reached: C::YearInfo, cal: &C) -> u8
-    requires from_year { IsGiven (C.extended cal.now) (C.year_of cal.now) from.year }
-    requires from { HasPlace (C.list cal.now) (C.extended cal.now from.year) from.month }
-    requires reached { IsGiven (C.extended cal.now) (C.year_of cal.now) reached }
-    ensures { spot (C.list cal.now) (C.extended cal.now reached) (month_at (C.list cal.now) (C.extended cal.now from.year) from.month) Overflow.Constrain ≡ Some result }
+    requires from { HasMonth (C.years cal.now) from.year from.month }
+    requires reached { IsGiven (C.years cal.now) reached }
+    ensures { let y = C.years cal.now in
+        spot y.list (y.extended reached) (month_at y.list (y.extended from.year) from.month) Overflow.Constrain
+        ≡ Some result }
 {
     match place_in(from.year, from.month, reached, Overflow::Constrain, cal) {
         Some(place) => place,
@@ -34,21 +37,21 @@ fn stand_in_place<C: YearShapes>(from: Ymd<C::YearInfo>, reached: C::YearInfo, c
 fn years_between<C: YearShapes>(
     from: Ymd<C::YearInfo>,
     to: Ymd<C::YearInfo>,
-    back: bool,
+    direction: Direction,
     cal: &C,
 ) -> u32
-    requires from_year { IsGiven (C.extended cal.now) (C.year_of cal.now) from.year }
-    requires from { IsDate (C.list cal.now) (date_of (C.extended cal.now) from) }
-    requires to_year { IsGiven (C.extended cal.now) (C.year_of cal.now) to.year }
-    requires to { IsDate (C.list cal.now) (date_of (C.extended cal.now) to) }
-    requires leads { Leads (C.list cal.now) back (date_of (C.extended cal.now) from) (date_of (C.extended cal.now) to) }
-    ensures { IsGreatest (YearsSurpass (C.list cal.now) (date_of (C.extended cal.now) from) (date_of (C.extended cal.now) to) back) result }
+    requires from { IsGivenDate (C.years cal.now) from }
+    requires to { IsGivenDate (C.years cal.now) to }
+    requires leads { let y = C.years cal.now in
+        Leads y.list (is_backward direction) (date_of y from) (date_of y to) }
+    ensures { let y = C.years cal.now in
+        IsGreatest (YearsSurpass y.list (date_of y from) (date_of y to) (is_backward direction)) result }
 {
     let year = cal.extended_from_year_info(from.year);
     let other = cal.extended_from_year_info(to.year);
     let apart = (other - year).unsigned_abs();
     let place = stand_in_place(from, to.year, cal);
-    if surpasses_in_year(from, to, place, back, cal) {
+    if surpasses_in_year(from, to, place, direction, cal) {
         apart - 1
     } else {
         apart
@@ -60,19 +63,21 @@ pub(crate) fn admitted_years<C: YearShapes>(
     from: Ymd<C::YearInfo>,
     to: Ymd<C::YearInfo>,
     unit: DateDurationUnit,
-    back: bool,
+    direction: Direction,
     cal: &C,
 ) -> u32
-    requires from_year { IsGiven (C.extended cal.now) (C.year_of cal.now) from.year }
-    requires from { IsDate (C.list cal.now) (date_of (C.extended cal.now) from) }
-    requires to_year { IsGiven (C.extended cal.now) (C.year_of cal.now) to.year }
-    requires to { IsDate (C.list cal.now) (date_of (C.extended cal.now) to) }
-    requires leads { Leads (C.list cal.now) back (date_of (C.extended cal.now) from) (date_of (C.extended cal.now) to) }
-    ensures greatest { IsGreatestIf (admits_years unit) (YearsSurpass (C.list cal.now) (date_of (C.extended cal.now) from) (date_of (C.extended cal.now) to) back) result }
-    ensures within { ¬ YearsSurpass (C.list cal.now) (date_of (C.extended cal.now) from) (date_of (C.extended cal.now) to) back result }
+    requires from { IsGivenDate (C.years cal.now) from }
+    requires to { IsGivenDate (C.years cal.now) to }
+    requires leads { let y = C.years cal.now in
+        Leads y.list (is_backward direction) (date_of y from) (date_of y to) }
+    ensures greatest { let y = C.years cal.now in
+        IsGreatestIf (admits_years unit)
+        (YearsSurpass y.list (date_of y from) (date_of y to) (is_backward direction)) result }
+    ensures within { let y = C.years cal.now in
+        ¬ YearsSurpass y.list (date_of y from) (date_of y to) (is_backward direction) result }
 {
     match unit {
-        DateDurationUnit::Years => years_between(from, to, back, cal),
+        DateDurationUnit::Years => years_between(from, to, direction, cal),
         _ => 0,
     }
 }
@@ -82,23 +87,26 @@ pub(crate) fn month_after_years<C: YearShapes, L: Ledger>(
     from: Ymd<C::YearInfo>,
     to: Ymd<C::YearInfo>,
     years: u32,
-    back: bool,
+    direction: Direction,
     cal: &C,
     steps: &mut Steps<L>,
 ) -> YearMonth<C::YearInfo>
-    requires from_year { IsGiven (C.extended cal.now) (C.year_of cal.now) from.year }
-    requires from_range { IsFieldYear (C.extended cal.now from.year) }
-    requires from { IsDate (C.list cal.now) (date_of (C.extended cal.now) from) }
-    requires to_range { IsFieldYear (C.extended cal.now to.year) }
-    requires within { ¬ YearsSurpass (C.list cal.now) (date_of (C.extended cal.now) from) (date_of (C.extended cal.now) to) back years }
-    ensures year { IsGiven (C.extended cal.now) (C.year_of cal.now) result.year }
-    ensures number { C.extended cal.now result.year ≡ C.extended cal.now from.year +ℤ toward back years }
-    ensures range { IsFieldYear (C.extended cal.now result.year) }
-    ensures spot { spot (C.list cal.now) (C.extended cal.now result.year) (month_at (C.list cal.now) (C.extended cal.now from.year) from.month) Overflow.Constrain ≡ Some result.month }
+    requires from_range { IsFieldYear ((C.years cal.now).extended from.year) }
+    requires from { IsGivenDate (C.years cal.now) from }
+    requires to_range { IsFieldYear ((C.years cal.now).extended to.year) }
+    requires within { let y = C.years cal.now in
+        ¬ YearsSurpass y.list (date_of y from) (date_of y to) (is_backward direction) years }
+    ensures year { IsGiven (C.years cal.now) result.year }
+    ensures number { let y = C.years cal.now in
+        y.extended result.year ≡ y.extended from.year +ℤ toward (is_backward direction) years }
+    ensures range { IsFieldYear ((C.years cal.now).extended result.year) }
+    ensures spot { let y = C.years cal.now in
+        spot y.list (y.extended result.year) (month_at y.list (y.extended from.year) from.month) Overflow.Constrain
+        ≡ Some result.month }
     ensures ticks { steps.new ≡ steps.old + 1 }
 {
     let year = cal.extended_from_year_info(from.year);
-    let reached = cal.year_counted(toward_year(year, years, back), steps);
+    let reached = cal.year_counted(toward_year(year, years, direction), steps);
     YearMonth {
         year: reached,
         month: stand_in_place(from, reached, cal),
@@ -106,14 +114,13 @@ pub(crate) fn month_after_years<C: YearShapes, L: Ledger>(
 }
 
 /// The year so many years later, or earlier.
-fn toward_year(year: i32, years: u32, back: bool) -> i32
+fn toward_year(year: i32, years: u32, direction: Direction) -> i32
     requires year { IsFieldYear year }
-    requires result { IsFieldYear (year +ℤ toward back years) }
-    ensures { result ≡ year +ℤ toward back years }
+    requires result { IsFieldYear (year +ℤ toward (is_backward direction) years) }
+    ensures { result ≡ year +ℤ toward (is_backward direction) years }
 {
-    if back {
-        year - years as i32
-    } else {
-        year + years as i32
+    match direction {
+        Direction::Forward => year + years as i32,
+        Direction::Backward => year - years as i32,
     }
 }

@@ -2,12 +2,14 @@
 
 ghost use Rattle.std.specs.Prelude.{◌≡◌, ◌≤◌, ◌+◌, ◌-◌, ◌*◌, ◌/◌, pos, refl};
 ghost use Rattle.cal_types.specs.MonthParts.{month_parts};
-ghost use Rattle.cal_arith.specs.AlternatingMonths.{alternating, is_plain, alternating-lawful, alternating-near, alternating-ranged, alternating-apart, alternating-covered, stored-year};
+ghost use Rattle.cal_arith.specs.AlternatingMonths.{alternating_years, is_plain, alternating-lawful, alternating-near, alternating-ranged, alternating-apart, alternating-covered, stored-year};
+ghost use Rattle.cal_arith.specs.Dates.{ymd};
 
+use crate::eras::year_in_only_era;
 use crate::steps::Steps;
 use crate::years::{DateFieldsResolver, PackWithMD, YearShapes, Years};
 use cal_days::RataDie;
-use cal_types::{Month, MonthError, Overflow};
+use cal_types::{EcmaReferenceYearError, Month, MonthError, Overflow, UnknownEraError};
 use std::sync::ledger::Ledger;
 
 /// The calendar.
@@ -34,11 +36,7 @@ impl PackWithMD for i32 {
 
     ghost stored = { λ y. y };
 
-    ghost year_in = { λ p. p.year };
-
-    ghost month_in = { λ p. p.month };
-
-    ghost day_in = { λ p. p.day };
+    ghost parts = { λ p. ymd p.year p.month p.day };
 
     fn pack(self, month: u8, day: u8) -> Parts {
         Parts {
@@ -72,13 +70,7 @@ fn day_of_year(month: u8, day: u8) -> u16
 impl YearShapes for AlternatingMonths {
     type YearInfo = i32;
 
-    ghost list = { λ _. alternating };
-
-    ghost year_of = { λ _ y. y };
-
-    ghost extended = { λ _ y. y };
-
-    ghost offset = { λ _. pos 0 };
+    ghost years = { λ _. alternating_years };
 
     fn year_counted<L: Ledger>(&self, extended_year: i32, steps: &mut Steps<L>) -> i32 {
         steps.tick();
@@ -154,4 +146,39 @@ impl Years for AlternatingMonths {
     }
 }
 
-impl DateFieldsResolver for AlternatingMonths {}
+impl DateFieldsResolver for AlternatingMonths {
+    ghost use Rattle.cal_arith.specs.AlternatingMonths.{alternating_names, alternating_reference-kind};
+    ghost use Rattle.std.specs.Prelude.{codes};
+    ghost use Rattle.cal_model.proofs.EraLemmas.{only_era_reads-in_range, only_era_reads-covered};
+    ghost use Rattle.cal_model.proofs.YearNameLemmas.{reference_of_known-stands};
+
+    ghost names = { λ _. alternating_names };
+
+    fn extended_year_from_era_year_unchecked(
+        &self,
+        era: &[u8],
+        era_year: i32,
+    ) -> Result<i32, UnknownEraError> {
+        year_in_only_era(b"am", era, era_year)
+    }
+
+    fn reference_year_from_month_day(
+        &self,
+        month: Month,
+        _day: u8,
+    ) -> Result<i32, EcmaReferenceYearError> {
+        if is_plain_month(month) {
+            Ok(1)
+        } else {
+            Err(EcmaReferenceYearError::MonthNotInCalendar)
+        }
+    }
+
+    ghost era_in_range = { λ _ era n y. only_era_reads-in_range (codes "am") era n y };
+
+    ghost era_covered = { λ _ era n y. only_era_reads-covered (codes "am") era n y };
+
+    ghost reference_of_kind = { λ _ m d. alternating_reference-kind m d };
+
+    ghost reference_of_leap_month = { λ _ m d e. reference_of_known-stands (is_plain m) (pos 1) e };
+}

@@ -1,8 +1,5 @@
 //! Dates of the small calendar, made of fields and of a year, a month and a day.
 
-ghost use Rattle.cal_types.specs.Bag.{bag_of};
-ghost use Rattle.cal_model.specs.Resolving.{IsPlain};
-
 use crate::arithmetic_date::ArithmeticDate;
 use crate::tests::alternating_months::AlternatingMonths;
 use cal_types::{
@@ -11,9 +8,7 @@ use cal_types::{
 };
 
 /// Fields with a year, a month and a day alone.
-fn plain_fields(year: i32, month: Month, day: u8) -> DateFields<'static>
-    ensures { IsPlain (bag_of result) }
-{
+fn plain_fields(year: i32, month: Month, day: u8) -> DateFields<'static> {
     DateFields {
         era: None,
         era_year: None,

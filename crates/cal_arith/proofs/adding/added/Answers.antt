@@ -1,4 +1,4 @@
-use Rattle.std.proofs.Common.{◌≡◌, ℤ, pos, neg_ℤ, ◌+ℤ◌, ℕ, Option, true, Some, None, to_z, of_z, w32, ap, subst, sym, refl, ◌∙◌, arith}
+use Rattle.std.proofs.Common.{◌≡◌, ℤ, pos, neg_ℤ, ◌+ℤ◌, ℕ, Option, Bool, true, Some, None, to_z, of_z, w32, ap, subst, sym, refl, ◌∙◌, arith}
 use Rattle.cal_days.specs.Day.{IsBetween, IsFieldYear, IsRuleYear, is_field_year}
 use Rattle.cal_model.specs.CalendarList.{spot, month_at, IsMonthsAfter}
 use Rattle.cal_model.specs.Adding.{is_addable}
@@ -7,6 +7,7 @@ use Rattle.cal_days.proofs.Signed.{signed}
 use Rattle.cal_days.proofs.RangeLemmas.{is_between-true}
 use Rattle.cal_model.proofs.ListLemmas.{spot-place}
 use Rattle.cal_arith.specs.Given.{IsGiven}
+use Rattle.cal_arith.specs.Directions.{is_backward}
 use Rattle.cal_arith.proofs.GivenLemmas.{given_by}
 use Rattle.cal_arith.proofs.adding.added.Given.{Over}
 use Rattle.cal_arith.proofs.adding.added.Goals.{After-year_info_from_extended-reached}
@@ -15,17 +16,23 @@ use Rattle.cal_arith.proofs.adding.added.Goals as goal
 module _ (g : Over) (c : After-year_info_from_extended-reached g) where
   -- the year that the years lead to
   abbrev target : ℤ
-  target = g.C.YearShapes.extended c.args.cal.now c.args.from.year +ℤ toward c.args.duration.is_negative c.args.duration.years
+  target = (g.C.YearShapes.years c.args.cal.now).extended c.args.from.year +ℤ toward c.args.duration.is_negative c.args.duration.years
 
-  same_year : to_z w32 (of_z w32 c.extended_from_year_info-year.result) ≡ g.C.YearShapes.extended c.args.cal.now c.args.from.year
+  same_year : to_z w32 (of_z w32 c.extended_from_year_info-year.result) ≡ (g.C.YearShapes.years c.args.cal.now).extended c.args.from.year
   same_year = omega (arith, signed)
 
   same_shift : to_z w32 (of_z w32 c.args.shift) ≡ c.args.shift
   same_shift = omega (arith, signed)
 
+  -- the call's answer, by the sign of the duration
+  some : (c.in-Some.number ≡ to_z w32 (of_z w32 c.extended_from_year_info-year.result) +ℤ toward c.args.duration.is_negative c.args.duration.years) × (is_field_year (to_z w32 (of_z w32 c.extended_from_year_info-year.result) +ℤ toward c.args.duration.is_negative c.args.duration.years +ℤ to_z w32 (of_z w32 c.args.shift)) ≡ true)
+  some =
+      let here = to_z w32 (of_z w32 c.extended_from_year_info-year.result) in
+      subst (λ (b : Bool). (c.in-Some.number ≡ here +ℤ toward b c.args.duration.years) × (is_field_year (here +ℤ toward b c.args.duration.years +ℤ to_z w32 (of_z w32 c.args.shift)) ≡ true)) c.from_sign-direction.ensures c.in-Some.ensures.some
+
   field_is : is_field_year (target +ℤ c.args.shift) ≡ true
   field_is =
-      let here : is_field_year (target +ℤ to_z w32 (of_z w32 c.args.shift)) ≡ true = subst (λ (y : ℤ). is_field_year (y +ℤ toward c.args.duration.is_negative c.args.duration.years +ℤ to_z w32 (of_z w32 c.args.shift)) ≡ true) same_year c.in-Some.ensures.some.1 in
+      let here : is_field_year (target +ℤ to_z w32 (of_z w32 c.args.shift)) ≡ true = subst (λ (y : ℤ). is_field_year (y +ℤ toward c.args.duration.is_negative c.args.duration.years +ℤ to_z w32 (of_z w32 c.args.shift)) ≡ true) same_year some.1 in
       subst (λ (z : ℤ). is_field_year (target +ℤ z) ≡ true) same_shift here
 
   in_field : IsFieldYear (target +ℤ c.args.shift)
@@ -34,28 +41,25 @@ module _ (g : Over) (c : After-year_info_from_extended-reached g) where
   in_range : IsRuleYear target
   in_range = omega (arith, signed, in_field, c.requires.shift)
 
-  reached : IsGiven (g.C.YearShapes.extended c.args.cal.now) (g.C.YearShapes.year_of c.args.cal.now) c.year_info_from_extended-reached.result × (g.C.YearShapes.extended c.args.cal.now c.year_info_from_extended-reached.result ≡ target)
+  reached : IsGiven (g.C.YearShapes.years c.args.cal.now) c.year_info_from_extended-reached.result × ((g.C.YearShapes.years c.args.cal.now).extended c.year_info_from_extended-reached.result ≡ target)
   reached =
-      let number : c.in-Some.number ≡ target = c.in-Some.ensures.some.0 ∙ ap (λ (y : ℤ). y +ℤ toward c.args.duration.is_negative c.args.duration.years) same_year in
-      given_by (g.C.YearShapes.extended c.args.cal.now) (g.C.YearShapes.year_of c.args.cal.now) (g.met.C.YearShapes.numbered c.args.cal.now) _ _ target c.year_info_from_extended-reached.ensures
+      let number : c.in-Some.number ≡ target = some.0 ∙ ap (λ (y : ℤ). y +ℤ toward c.args.duration.is_negative c.args.duration.years) same_year in
+      given_by (g.C.YearShapes.years c.args.cal.now) (g.met.C.YearShapes.numbered c.args.cal.now) _ _ target c.year_info_from_extended-reached.ensures
       (omega (arith, signed, number, in_range)) in_range
 
-  spot_there : (r : Option ℕ) → spot (g.C.YearShapes.list c.args.cal.now) (g.C.YearShapes.extended c.args.cal.now c.year_info_from_extended-reached.result) (month_at (g.C.YearShapes.list c.args.cal.now) (g.C.YearShapes.extended c.args.cal.now c.args.from.year) c.args.from.month) c.args.overflow ≡ r → spot (g.C.YearShapes.list c.args.cal.now) target (month_at (g.C.YearShapes.list c.args.cal.now) (g.C.YearShapes.extended c.args.cal.now c.args.from.year) c.args.from.month) c.args.overflow ≡ r
-  spot_there r here = subst (λ (x : ℤ). spot (g.C.YearShapes.list c.args.cal.now) x (month_at (g.C.YearShapes.list c.args.cal.now) (g.C.YearShapes.extended c.args.cal.now c.args.from.year) c.args.from.month) c.args.overflow ≡ r) reached.1 here
+  spot_there : (r : Option ℕ) → spot (g.C.YearShapes.years c.args.cal.now).list ((g.C.YearShapes.years c.args.cal.now).extended c.year_info_from_extended-reached.result) (month_at (g.C.YearShapes.years c.args.cal.now).list ((g.C.YearShapes.years c.args.cal.now).extended c.args.from.year) c.args.from.month) c.args.overflow ≡ r → spot (g.C.YearShapes.years c.args.cal.now).list target (month_at (g.C.YearShapes.years c.args.cal.now).list ((g.C.YearShapes.years c.args.cal.now).extended c.args.from.year) c.args.from.month) c.args.overflow ≡ r
+  spot_there r here = subst (λ (x : ℤ). spot (g.C.YearShapes.years c.args.cal.now).list x (month_at (g.C.YearShapes.years c.args.cal.now).list ((g.C.YearShapes.years c.args.cal.now).extended c.args.from.year) c.args.from.month) c.args.overflow ≡ r) reached.1 here
 
 pub year_info_from_extended-reached-requires : goal.year_info_from_extended-reached-requires
 year_info_from_extended-reached-requires g c =
-    let same : to_z w32 (of_z w32 c.extended_from_year_info-year.result) ≡ g.C.YearShapes.extended c.args.cal.now c.args.from.year = omega (arith, signed) in
+    let same : to_z w32 (of_z w32 c.extended_from_year_info-year.result) ≡ (g.C.YearShapes.years c.args.cal.now).extended c.args.from.year = omega (arith, signed) in
     let same_shift : to_z w32 (of_z w32 c.args.shift) ≡ c.args.shift = omega (arith, signed) in
-    let field = is_between-true (neg_ℤ (pos 1040000)) (pos 1040000) (to_z w32 (of_z w32 c.extended_from_year_info-year.result) +ℤ toward c.args.duration.is_negative c.args.duration.years +ℤ to_z w32 (of_z w32 c.args.shift)) c.in-Some.ensures.some.1 in
+    let field = is_between-true (neg_ℤ (pos 1040000)) (pos 1040000) (to_z w32 (of_z w32 c.extended_from_year_info-year.result) +ℤ toward (is_backward c.from_sign-direction.result) c.args.duration.years +ℤ to_z w32 (of_z w32 c.args.shift)) c.in-Some.ensures.some.1 in
     let number = c.in-Some.ensures.some.0 in
     omega (arith, signed, number, field, same_shift, c.requires.shift)
 
 pub place_in-requires-clause-reached : goal.place_in-requires-clause-reached
 place_in-requires-clause-reached g c = (reached g (goal.at.place_in-requires-clause-reached g c).After-year_info_from_extended-reached).0
-
-pub months_away-there-requires-clause-year : goal.months_away-there-requires-clause-year
-months_away-there-requires-clause-year g c = (reached g (goal.at.months_away-there-requires-clause-year g c).After-year_info_from_extended-reached).0
 
 pub months_away-there-requires-clause-range : goal.months_away-there-requires-clause-range
 months_away-there-requires-clause-range g c =
@@ -63,10 +67,13 @@ months_away-there-requires-clause-range g c =
     let range : IsBetween (neg_ℤ (pos 2080000)) (pos 2080000) (target g s) = omega (arith, signed, in_field g s, c.requires.shift) in
     subst (IsBetween (neg_ℤ (pos 2080000)) (pos 2080000)) (sym (reached g s).1) range
 
-pub months_away-there-requires-clause-place : goal.months_away-there-requires-clause-place
-months_away-there-requires-clause-place g c =
-    let list = g.C.YearShapes.list c.args.cal.now in let y = g.C.YearShapes.extended c.args.cal.now c.year_info_from_extended-reached.result in
-    spot-place list y (month_at list (g.C.YearShapes.extended c.args.cal.now c.args.from.year) c.args.from.month) c.args.overflow c.in-Some-place_in.place (sym c.place_in.ensures ∙ c.in-Some-place_in.is)
+pub months_away-there-requires-clause-month : goal.months_away-there-requires-clause-month
+months_away-there-requires-clause-month g c =
+    let list = (g.C.YearShapes.years c.args.cal.now).list in let y = (g.C.YearShapes.years c.args.cal.now).extended c.year_info_from_extended-reached.result in
+    record {
+      year = (reached g (goal.at.months_away-there-requires-clause-month g c).After-year_info_from_extended-reached).0;
+      place = spot-place list y (month_at list ((g.C.YearShapes.years c.args.cal.now).extended c.args.from.year) c.args.from.month) c.args.overflow c.in-Some-place_in.place (sym c.place_in.ensures ∙ c.in-Some-place_in.is);
+    }
 
 pub returns-in-None-place_in-clause-sum : goal.returns-in-None-place_in-clause-sum
 returns-in-None-place_in-clause-sum g c =
@@ -79,11 +86,12 @@ returns-in-None-place_in-clause-sum g c =
 pub returns-in-Some-place_in-clause-sum : goal.returns-in-Some-place_in-clause-sum
 returns-in-Some-place_in-clause-sum g c =
     let s = (goal.at.returns-in-Some-place_in-clause-sum g c).After-year_info_from_extended-reached in
-    let list = g.C.YearShapes.list c.args.cal.now in
+    let list = (g.C.YearShapes.years c.args.cal.now).list in
     let place = c.in-Some-place_in.place in
     let there = spot_there g s (Some place) (sym c.place_in.ensures ∙ c.in-Some-place_in.is) in
-    let z = g.C.YearShapes.extended c.args.cal.now c.months_away-there.result.year in let j = c.months_away-there.result.month in
-    let moved = subst (λ (x : ℤ). IsMonthsAfter list x place (toward c.args.duration.is_negative c.args.duration.months) z j) (reached g s).1 c.months_away-there.ensures.moved in
+    let z = (g.C.YearShapes.years c.args.cal.now).extended c.months_away-there.result.year in let j = c.months_away-there.result.month in
+    let signed_move = subst (λ (b : Bool). IsMonthsAfter list ((g.C.YearShapes.years c.args.cal.now).extended c.year_info_from_extended-reached.result) place (toward b c.args.duration.months) z j) c.from_sign-direction.ensures c.months_away-there.ensures.moved in
+    let moved = subst (λ (x : ℤ). IsMonthsAfter list x place (toward c.args.duration.is_negative c.args.duration.months) z j) (reached g s).1 signed_move in
     let addable : is_addable c.args.duration ≡ true = sym c.can_be_added.ensures ∙ c.if-not-can_be_added.false in
     let field = field_is g s in
     rw (addable, field, there) (z, j, moved, c.sum_from_month.ensures.sum)

@@ -2,6 +2,7 @@ use Rattle.std.proofs.Common.{◌≡◌, ℕ, ℤ, pos, neg_ℤ, ◌≤◌, ◌+
 use Rattle.cal_days.specs.Day.{IsBetween, IsFieldYear, is_field_year}
 use Rattle.cal_model.specs.Difference.{toward}
 use Rattle.cal_days.proofs.Signed.{signed}
+use Rattle.cal_arith.specs.Directions.{is_backward}
 use Rattle.cal_arith.proofs.adding.field_year.Goals.{After-moved_year-number}
 use Rattle.cal_arith.proofs.adding.field_year.Goals as goal
 
@@ -12,21 +13,21 @@ moved-bound true y n h le = (omega (arith, signed), omega (arith, signed))
 
 module _ (c : After-moved_year-number) where
   abbrev target : ℤ
-  target = c.args.year +ℤ toward c.args.back c.args.years
+  target = c.args.year +ℤ toward (is_backward c.args.direction) c.args.years
 
   number : c.moved_year-number.result ≡ target
   number =
       let same : to_z w32 (of_z w32 c.args.year) ≡ c.args.year = omega (arith, signed) in
-      c.moved_year-number.ensures ∙ ap (λ (y : ℤ). y +ℤ toward c.args.back c.args.years) same
+      c.moved_year-number.ensures ∙ ap (λ (y : ℤ). y +ℤ toward (is_backward c.args.direction) c.args.years) same
 
   again : to_z w32 (of_z w32 c.moved_year-number.result) ≡ target
   again =
-      let bound = moved-bound c.args.back c.args.year c.args.years c.requires.year c.requires.years in
+      let bound = moved-bound (is_backward c.args.direction) c.args.year c.args.years c.requires.year c.requires.years in
       omega (arith, signed, number, bound)
 
   shifted : to_z w32 (of_z w32 (to_z w32 (of_z w32 c.moved_year-number.result) +ℤ to_z w32 (of_z w32 c.args.shift))) ≡ target +ℤ c.args.shift
   shifted =
-      let bound = moved-bound c.args.back c.args.year c.args.years c.requires.year c.requires.years in
+      let bound = moved-bound (is_backward c.args.direction) c.args.year c.args.years c.requires.year c.requires.years in
       omega (arith, signed, again, bound, c.requires.shift)
 
 pub returns-then-can_be_named-clause-some : goal.returns-then-can_be_named-clause-some

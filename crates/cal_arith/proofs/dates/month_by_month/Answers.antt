@@ -6,26 +6,26 @@ use Rattle.cal_arith.proofs.dates.month_by_month.Given.{Over}
 use Rattle.cal_arith.proofs.dates.month_by_month.Goals.{In-months}
 use Rattle.cal_arith.proofs.dates.month_by_month.Goals as goal
 
-pub days_in_provided_month-requires-clause-place : goal.days_in_provided_month-requires-clause-place
-days_in_provided_month-requires-clause-place g c = first-place _ _ (g.met.C.YearShapes.lawful c.args.cal.now)
+pub days_in_provided_month-requires : goal.days_in_provided_month-requires
+days_in_provided_month-requires g c = record { year = c.requires.year; place = first-place _ _ (g.met.C.YearShapes.lawful c.args.cal.now) }
 
 pub months-init : goal.months-init
 months-init g c =
     record {
       place = first-place _ _ (g.met.C.YearShapes.lawful c.args.cal.now);
-      days = omega (arith, days_before-first (g.C.YearShapes.list c.args.cal.now) ((g.C.YearShapes.extended c.args.cal.now) c.args.year));
+      days = omega (arith, days_before-first (g.C.YearShapes.years c.args.cal.now).list ((g.C.YearShapes.years c.args.cal.now).extended c.args.year));
       length = omega arith;
     }
 
 -- the next month of the year, where the day is not in this one
-next : (g : Over) (c : In-months g) → HasPlace (g.C.YearShapes.list c.args.cal.now) ((g.C.YearShapes.extended c.args.cal.now) c.args.year) (c.months.month + 1) × (days_before (g.C.YearShapes.list c.args.cal.now) ((g.C.YearShapes.extended c.args.cal.now) c.args.year) (c.months.month + 1) + (c.months.rest - c.months.length) ≡ days_before (g.C.YearShapes.list c.args.cal.now) ((g.C.YearShapes.extended c.args.cal.now) c.args.year) c.months.month + c.months.rest)
+next : (g : Over) (c : In-months g) → HasPlace (g.C.YearShapes.years c.args.cal.now).list ((g.C.YearShapes.years c.args.cal.now).extended c.args.year) (c.months.month + 1) × (days_before (g.C.YearShapes.years c.args.cal.now).list ((g.C.YearShapes.years c.args.cal.now).extended c.args.year) (c.months.month + 1) + (c.months.rest - c.months.length) ≡ days_before (g.C.YearShapes.years c.args.cal.now).list ((g.C.YearShapes.years c.args.cal.now).extended c.args.year) c.months.month + c.months.rest)
 next g c =
-    let list = g.C.YearShapes.list c.args.cal.now in let y = (g.C.YearShapes.extended c.args.cal.now) c.args.year in
+    let list = (g.C.YearShapes.years c.args.cal.now).list in let y = (g.C.YearShapes.years c.args.cal.now).extended c.args.year in
     let next_place = place-next list y c.months.month c.months.rest c.months.invariant.place (omega arith) (omega arith) in
     (next_place.0, omega (arith, next_place.1))
 
-pub days_in_provided_month-requires-in-months-clause-place : goal.days_in_provided_month-requires-in-months-clause-place
-days_in_provided_month-requires-in-months-clause-place g c = (next g c).0
+pub days_in_provided_month-requires-in-months : goal.days_in_provided_month-requires-in-months
+days_in_provided_month-requires-in-months g c = record { year = c.requires.year; place = (next g c).0 }
 
 pub months-preserved : goal.months-preserved
 months-preserved g c =
@@ -34,6 +34,6 @@ months-preserved g c =
 
 pub returns : goal.returns
 returns g c =
-    let list = g.C.YearShapes.list c.args.cal.now in let y = (g.C.YearShapes.extended c.args.cal.now) c.args.year in
+    let list = (g.C.YearShapes.years c.args.cal.now).list in let y = (g.C.YearShapes.years c.args.cal.now).extended c.args.year in
     let days = c.months.invariant.days in
     on-rest list y c.months.month c.months.rest (start_of_year list y +ℤ pos c.args.day_of_year) c.months.invariant.place (omega (arith, signed, days)) (omega arith)

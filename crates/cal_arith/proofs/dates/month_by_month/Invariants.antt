@@ -5,7 +5,7 @@ use Rattle.cal_arith.proofs.dates.month_by_month.Given as goal
 -- the rest of the days counts from the first of the month
 abbrev pub invariant-months : goal.invariant-months
 invariant-months g l =
-    let c = g.C.YearShapes.list l.cal in let y = (g.C.YearShapes.extended l.cal) l.fn.year in
+    let c = (g.C.YearShapes.years l.cal).list in let y = (g.C.YearShapes.years l.cal).extended l.fn.year in
     record {
       place : HasPlace c y l.month;
       days : days_before c y l.month + l.rest ≡ l.fn.day_of_year;

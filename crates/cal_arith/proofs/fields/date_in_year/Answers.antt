@@ -1,10 +1,10 @@
-use Rattle.std.proofs.Common.{sym, ◌∙◌}
-use Rattle.cal_types.specs.MonthParts.{month_parts}
-use Rattle.cal_arith.proofs.FieldLemmas.{ordinal_month-place, resolved_in_year-ok}
+use Rattle.std.proofs.Common.{sym}
+use Rattle.cal_model.proofs.ResolvingLemmas.{place_in_year-ok}
+use Rattle.cal_arith.specs.FieldNames.{month_name}
 use Rattle.cal_arith.proofs.fields.date_in_year.Goals as goal
 
-pub date_in_month-requires-clause-place : goal.date_in_month-requires-clause-place
-date_in_month-requires-clause-place g c = ordinal_month-place (g.C.YearShapes.list c.args.cal.now) (g.C.YearShapes.extended c.args.cal.now c.args.year) (month_parts c.args.month) c.args.overflow c.in-Ok.place (sym c.in-Ok.ensures)
-
-pub returns-in-Ok-clause-resolved : goal.returns-in-Ok-clause-resolved
-returns-in-Ok-clause-resolved g c = c.date_in_month.ensures.resolved ∙ sym (resolved_in_year-ok (g.C.YearShapes.list c.args.cal.now) (g.C.YearShapes.extended c.args.cal.now c.args.year) (month_parts c.args.month) c.args.day c.args.overflow c.in-Ok.place (sym c.in-Ok.ensures))
+pub date_in_month-requires : goal.date_in_month-requires
+date_in_month-requires g c =
+    let y = g.C.YearShapes.years c.args.cal.now in
+    let place = place_in_year-ok y.list (g.met.C.YearShapes.lawful c.args.cal.now) (y.extended c.args.year) c.args.overflow (month_name c.args.month) c.args.ordinal_month c.in-Ok.place (sym c.in-Ok.ensures) in
+    record { year = c.requires; place = place }

@@ -8,8 +8,8 @@ use Rattle.cal_arith.proofs.getters.day_in_year.Goals.{After-since-before}
 use Rattle.cal_arith.proofs.getters.day_in_year.Goals as goal
 use borrow.Author.Differences.{up, down}
 
-days : (g : Over) (c : After-since-before g) → (up c.since-before.result < down c.since-before.result + 403) × (down c.since-before.result ≤ up c.since-before.result) × (start_of_year (g.C.YearShapes.list c.args.cal.now) (g.C.YearShapes.extended c.args.cal.now c.args.date.year) +ℤ c.since-before.result ≡ day_number (g.C.YearShapes.list c.args.cal.now) (date_of (g.C.YearShapes.extended c.args.cal.now) c.args.date))
-days g c = days-since_first (g.C.YearShapes.list c.args.cal.now) (g.met.C.YearShapes.lawful c.args.cal.now) (date_of (g.C.YearShapes.extended c.args.cal.now) c.args.date) c.requires.date c.to_rata_die.result c.to_rata_die_inner-first.result c.since-before.result c.to_rata_die.ensures c.to_rata_die_inner-first.ensures c.since-before.ensures
+days : (g : Over) (c : After-since-before g) → (up c.since-before.result < down c.since-before.result + 403) × (down c.since-before.result ≤ up c.since-before.result) × (start_of_year (g.C.YearShapes.years c.args.cal.now).list ((g.C.YearShapes.years c.args.cal.now).extended c.args.date.year) +ℤ c.since-before.result ≡ day_number (g.C.YearShapes.years c.args.cal.now).list (date_of (g.C.YearShapes.years c.args.cal.now) c.args.date))
+days g c = days-since_first (g.C.YearShapes.years c.args.cal.now).list (g.met.C.YearShapes.lawful c.args.cal.now) (date_of (g.C.YearShapes.years c.args.cal.now) c.args.date) c.requires.date c.to_rata_die.result c.to_rata_die_inner-first.result c.since-before.result c.to_rata_die.ensures c.to_rata_die_inner-first.ensures c.since-before.ensures
 
 pub overflow_cast-before : goal.overflow_cast-before
 overflow_cast-before g c = omega (arith, signed_casts, days g c)

@@ -12,10 +12,10 @@ pub returns-clause-own : goal.returns-clause-own
 returns-clause-own g c = λ t u h k diff.
     let s = c.args.cal.now in let laws = g.met.C.YearShapes in
     let p = (laws.ranged s t h).0 in let q = (laws.ranged s u k).0 in
-    difference-added_back (g.C.YearShapes.list s) (laws.lawful s) t u h k c.args.unit c.args.duration diff (pos 0) p q (unshifted t.year p) (unshifted u.year q) (laws.apart s t u h k)
+    difference-added_back (g.C.YearShapes.years s).list (laws.lawful s) t u h k c.args.unit c.args.duration diff (pos 0) p q (unshifted t.year p) (unshifted u.year q) (laws.apart s t u h k)
 
 pub returns-clause-shifted : goal.returns-clause-shifted
 returns-clause-shifted g c = λ t u h k diff.
     let s = c.args.cal.now in let laws = g.met.C.YearShapes in
     let p = laws.ranged s t h in let q = laws.ranged s u k in
-    difference-added_back (g.C.YearShapes.list s) (laws.lawful s) t u h k c.args.unit c.args.duration diff (g.C.YearShapes.offset s) p.0 q.0 p.1 q.1 (laws.apart s t u h k)
+    difference-added_back (g.C.YearShapes.years s).list (laws.lawful s) t u h k c.args.unit c.args.duration diff (g.C.YearShapes.years s).offset p.0 q.0 p.1 q.1 (laws.apart s t u h k)

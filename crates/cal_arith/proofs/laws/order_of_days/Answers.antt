@@ -6,5 +6,5 @@ pub returns : goal.returns
 returns g c =
     let s = c.args.cal.now in let laws = g.met.C.YearShapes in let years = g.C.YearInfo.PackWithMD in
     let a = c.args.first.now.packed in let b = c.args.second.now.packed in
-    c.cmp.ensures ∙ packed-ordered (g.C.YearShapes.list s) (g.C.YearShapes.extended s) years.stored (g.C.YearShapes.offset s) years.year_in years.month_in years.day_in a b
-    (laws.stored_from s (years.year_in a) c.requires.first.year) (laws.stored_from s (years.year_in b) c.requires.second.year) c.requires.first.date c.requires.second.date _ laws.ordered
+    c.cmp.ensures ∙ packed-ordered (g.C.YearShapes.years s) years.stored years.parts a b
+    (laws.stored_from s (years.parts a).year c.requires.first.year) (laws.stored_from s (years.parts b).year c.requires.second.year) c.requires.first.date c.requires.second.date _ laws.ordered

@@ -1,0 +1,15 @@
+use Rattle.std.proofs.Common.{◌≡◌, ℤ, Option, Some, None, Ok, to_z, of_z, w32, arith}
+use Rattle.cal_days.proofs.Signed.{signed}
+use Rattle.cal_arith.specs.FieldNames.{era_read}
+use Rattle.cal_arith.proofs.constructing.year_of_era.Goals as goal
+
+-- an era that is read has the year
+era_read-ok : (r : Option ℤ) (y : ℤ) → Ok y ≡ era_read r → r ≡ Some y
+era_read-ok None y e = cc
+era_read-ok (Some z) y e = cc
+
+pub returns-in-Ok-clause-range : goal.returns-in-Ok-clause-range
+returns-in-Ok-clause-range g c =
+    let same : to_z w32 (of_z w32 c.args.year) ≡ c.args.year = omega (arith, signed) in
+    let covered = g.met.C.DateFieldsResolver.era_covered c.args.cal.now c.as_bytes.result.now (to_z w32 (of_z w32 c.args.year)) c.in-Ok.year (omega (arith, signed, c.requires), omega (arith, signed, c.requires)) (era_read-ok _ c.in-Ok.year c.in-Ok.ensures) in
+    (omega (arith, signed, covered), omega (arith, signed, covered))

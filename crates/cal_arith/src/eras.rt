@@ -1,0 +1,35 @@
+//! The reading of eras that several calendars have. The codes are those of CLDR (UTS 35).
+
+ghost use Rattle.std.specs.Prelude.{◌≡◌};
+ghost use Rattle.cal_days.specs.Day.{IsFieldYear};
+ghost use Rattle.cal_model.specs.Eras.{common_era_reads, only_era_reads};
+ghost use Rattle.cal_arith.specs.FieldNames.{era_read};
+
+use cal_types::UnknownEraError;
+
+/// The extended year of a year in a calendar's only era, in which years are numbered as the extended years.
+/// [`UnknownEraError`] comes for every code but the era's.
+pub fn year_in_only_era(code: &[u8], era: &[u8], year: i32) -> Result<i32, UnknownEraError>
+    ensures { result ≡ era_read (only_era_reads code.now era.now year) }
+{
+    if era == code {
+        Ok(year)
+    } else {
+        Err(UnknownEraError)
+    }
+}
+
+/// The extended year of a year, from -1040000 to 1040000, in the Common Era (`ce` or `ad`) or before it (`bce`
+/// or `bc`, which counts back: 1 BCE is year 0). [`UnknownEraError`] comes for every other code.
+pub fn year_in_common_era(era: &[u8], year: i32) -> Result<i32, UnknownEraError>
+    requires { IsFieldYear year }
+    ensures { result ≡ era_read (common_era_reads era.now year) }
+{
+    if era == b"ce".as_slice() || era == b"ad".as_slice() {
+        Ok(year)
+    } else if era == b"bce".as_slice() || era == b"bc".as_slice() {
+        Ok(1 - year)
+    } else {
+        Err(UnknownEraError)
+    }
+}
