@@ -1,2 +1,3 @@
 pub mod OffsetYears
 pub mod OffsetAnswers
+pub mod OwnAnswers

@@ -1,40 +1,42 @@
 -- What an ISO year is in a list of Gregorian years that are counted from a year of their own.
-use Rattle.std.proofs.Common.{◌≡◌, ℕ, true, false, Ok, Err, refl, sym, ap, subst, ◌∙◌, ℤ, ◌+ℤ◌}
-use Rattle.cal_types.specs.Month.{MonthParts}
-use Rattle.cal_types.specs.declared.options.Overflow.{Overflow}
-use Rattle.cal_types.specs.declared.errors.MonthError.TheVariants.{NotInCalendar}
-use Rattle.cal_days.specs.Gregorian.{gregorian_start, gregorian_year_length}
-use Rattle.cal_model.specs.CalendarList.{date, month_at, month_length, year_length, start_of_year, day_number, HasPlace, IsDate}
-use Rattle.cal_model.proofs.ListLemmas.{spot-own}
-use Rattle.cal_model.proofs.RenumberedLemmas.{month_at-renumbered, month_length-renumbered, year_length-renumbered, start_of_year-renumbered, day_number-renumbered, spot-renumbered, is_of_kind-renumbered, renumbered-place, renumbered-date}
-use Rattle.cal_arith.specs.Places.{ordinal_month}
-use Rattle.cal_base.specs.GregorianList.{gregorian_list, is_plain_month}
-use Rattle.cal_base.specs.GregorianLaws.{start_of_year-gregorian, year_length-gregorian, month_at-gregorian, is_of_kind-gregorian, place_of-kind}
+use Rattle.std.proofs.Common.{◌≡◌, ◌↔◌, ℕ, ◌+◌, ◌-◌, ◌<◌, ◌≤◌, Bool, IsTrue, if◌then◌else◌, sym, ap, subst, ◌∙◌, ℤ, pos, ◌+ℤ◌}
+use Rattle.cal_days.specs.Gregorian.{gregorian_leap, gregorian_start, gregorian_year_length}
+use Rattle.cal_model.specs.CalendarList.{date, month_length, year_length, start_of_year, day_number, IsDate, IsOn}
+use Rattle.cal_model.proofs.RenumberedLemmas.{start_of_year-renumbered, day_number-renumbered, renumbered-date, on-renumbered}
+use Rattle.cal_base.specs.GregorianList.{gregorian_list, gregorian_days_before, gregorian_month_length}
+use Rattle.cal_base.specs.GregorianMonths.{day_found, leap_is, month_length-gregorian, year_length-gregorian}
+use Rattle.cal_base.specs.GregorianLaws.{start_of_year-gregorian}
 use Rattle.cal_base.specs.OffsetList.{offset_list, extended_year_from}
-use Rattle.cal_base.specs.OffsetListLaws.{number-extended}
+use Rattle.cal_base.specs.OffsetListLaws.{number-extended, offset_list-months}
 use Rattle.cal_base.specs.declared.iso_year.IsoYear.{IsoYear}
 
 module _ (offset : ℤ) (year : IsoYear) where
   extended-number : extended_year_from offset year +ℤ offset ≡ year.number
   extended-number = sym (number-extended offset year)
 
+  -- what the test of a leap year tells
+  pub leap_year-offset : (r : Bool) → IsTrue r ↔ IsTrue (gregorian_leap year.number) → gregorian_leap (extended_year_from offset year +ℤ offset) ≡ r
+  leap_year-offset r h = leap_is gregorian_leap r (extended_year_from offset year +ℤ offset) year.number (number-extended offset year) h
+
   pub start_of_year-offset : start_of_year (offset_list offset) (extended_year_from offset year) ≡ gregorian_start year.number
   start_of_year-offset =
       start_of_year-renumbered offset gregorian_list (extended_year_from offset year)
       ∙ (start_of_year-gregorian (extended_year_from offset year +ℤ offset) ∙ ap gregorian_start extended-number)
 
-  pub year_length-offset : year_length (offset_list offset) (extended_year_from offset year) ≡ gregorian_year_length year.number
-  year_length-offset =
-      year_length-renumbered offset gregorian_list (extended_year_from offset year)
-      ∙ (year_length-gregorian (extended_year_from offset year +ℤ offset) ∙ ap gregorian_year_length extended-number)
+  pub year_length-offset : (r : Bool) → IsTrue r ↔ IsTrue (gregorian_leap year.number) → year_length (offset_list offset) (extended_year_from offset year) ≡ (if r then 366 else 365)
+  year_length-offset r h =
+      year_length-gregorian (λ y. gregorian_leap (y +ℤ offset)) (offset_list offset) (offset_list-months offset) (extended_year_from offset year)
+      ∙ ap (λ (b : Bool). if b then 366 else 365) (leap_year-offset r h)
 
-  pub month_length-offset : (i : ℕ) → month_length (offset_list offset) (extended_year_from offset year) i ≡ month_length gregorian_list year.number i
-  month_length-offset i = month_length-renumbered offset gregorian_list (extended_year_from offset year) i ∙ ap (λ (y : ℤ). month_length gregorian_list y i) extended-number
+  pub year_days-offset : year_length (offset_list offset) (extended_year_from offset year) ≡ gregorian_year_length year.number
+  year_days-offset =
+      year_length-gregorian (λ y. gregorian_leap (y +ℤ offset)) (offset_list offset) (offset_list-months offset) (extended_year_from offset year)
+      ∙ ap gregorian_year_length extended-number
 
-  pub month_at-offset : (i : ℕ) → HasPlace (offset_list offset) (extended_year_from offset year) i → month_at (offset_list offset) (extended_year_from offset year) i ≡ record { number = i; is_leap = false }
-  month_at-offset i h =
-      month_at-renumbered offset gregorian_list (extended_year_from offset year) i
-      ∙ month_at-gregorian (extended_year_from offset year +ℤ offset) i (renumbered-place offset gregorian_list (extended_year_from offset year) i h)
+  pub month_length-offset : (r : Bool) (i : ℕ) → IsTrue r ↔ IsTrue (gregorian_leap year.number) → month_length (offset_list offset) (extended_year_from offset year) i ≡ gregorian_month_length r i
+  month_length-offset r i h =
+      month_length-gregorian (λ y. gregorian_leap (y +ℤ offset)) (offset_list offset) (offset_list-months offset) (extended_year_from offset year) i
+      ∙ ap (λ (b : Bool). gregorian_month_length b i) (leap_year-offset r h)
 
   pub day_number-offset : (i d : ℕ) → day_number (offset_list offset) (date (extended_year_from offset year) i d) ≡ day_number gregorian_list (date year.number i d)
   day_number-offset i d =
@@ -45,16 +47,11 @@ module _ (offset : ℤ) (year : IsoYear) where
   pub offset-date : (i d : ℕ) → IsDate (offset_list offset) (date (extended_year_from offset year) i d) → IsDate gregorian_list (date year.number i d)
   offset-date i d h = subst (λ (y : ℤ). IsDate gregorian_list (date y i d)) extended-number (renumbered-date offset gregorian_list (date (extended_year_from offset year) i d) h)
 
--- a plain month from 1 to 12 stands in the place of its number, and the calendar knows no other
-module _ (offset y : ℤ) (m : MonthParts) (o : Overflow) where
-  pub ordinal_month-plain : is_plain_month 12 m ≡ true → ordinal_month (offset_list offset) y m o ≡ Ok m.number
-  ordinal_month-plain h =
-      let kind = is_of_kind-gregorian m ∙ h in
-      let known = is_of_kind-renumbered offset gregorian_list m ∙ kind in
-      let place = spot-renumbered offset gregorian_list y m o ∙ spot-own gregorian_list (y +ℤ offset) m o m.number (place_of-kind (y +ℤ offset) m kind) in
-      rw (known, place) refl
+  -- a day of the ISO year is one of the list
+  pub on-offset : (rd : ℤ) (i d : ℕ) → IsOn gregorian_list rd (date year.number i d) → IsOn (offset_list offset) rd (date (extended_year_from offset year) i d)
+  on-offset rd i d h = on-renumbered offset gregorian_list rd (date (extended_year_from offset year) i d) (subst (λ (y : ℤ). IsOn gregorian_list rd (date y i d)) (number-extended offset year) h)
 
-  pub ordinal_month-other : is_plain_month 12 m ≡ false → ordinal_month (offset_list offset) y m o ≡ Err NotInCalendar
-  ordinal_month-other h =
-      let unknown = is_of_kind-renumbered offset gregorian_list m ∙ (is_of_kind-gregorian m ∙ h) in
-      rw unknown refl
+  -- a day of the year, counted from 0, is a day of the month that it was found in
+  pub found-offset : (r : Bool) (month day p : ℕ) → IsTrue r ↔ IsTrue (gregorian_leap year.number) → (1 ≤ month) × (month ≤ 12) → gregorian_days_before r month ≤ p → p < gregorian_days_before r month + gregorian_month_length r month → day ≡ p - gregorian_days_before r month + 1 → IsOn (offset_list offset) (start_of_year (offset_list offset) (extended_year_from offset year) +ℤ pos p) (date (extended_year_from offset year) month day)
+  found-offset r month day p h place low high same =
+      day_found (λ y. gregorian_leap (y +ℤ offset)) (offset_list offset) (offset_list-months offset) (extended_year_from offset year) r month day p (leap_year-offset r h) place low high same

@@ -5,17 +5,19 @@ use Rattle.std.specs.Ordering.{int_cmp, int_eq}
 use Rattle.cal_days.specs.Day.{is_field_year}
 use Rattle.cal_days.proofs.RangeLemmas.{is_between-true, true-is_between}
 use Rattle.cal_days.proofs.Signed.{signed}
-use Rattle.cal_model.specs.CalendarList.{date, day_number, IsValidDate, is_valid_date}
+use Rattle.cal_model.specs.CalendarList.{date, day_number, IsOn, IsValidDate, is_valid_date}
 use Rattle.cal_model.specs.Renumbered.{shifted_date}
 use Rattle.cal_model.specs.DateOrder.{date_eq, date_cmp}
 use Rattle.cal_model.proofs.DateTests.{is_valid_date-true, true-is_valid_date, not_true, same_truth}
 use Rattle.cal_model.proofs.OrderLemmas.{dates-equal, dates-ordered}
+use Rattle.cal_model.proofs.RenumberedBoundLemmas.{ranged-renumbered}
 use Rattle.cal_model.proofs.RenumberedLemmas.{day_number-renumbered, valid-renumbered, renumbered-valid}
 use Rattle.cal_arith.specs.Given.{IsGiven}
 use Rattle.cal_arith.specs.Dates.{Belongs, ymd}
 use Rattle.cal_base.specs.GregorianList.{gregorian_list}
-use Rattle.cal_base.specs.OffsetList.{offset_list, IsOffset, iso_year_of, extended_year_from}
-use Rattle.cal_base.specs.OffsetListLaws.{iso_year-extended, iso_year-valid, offset_list-ranged}
+use Rattle.cal_base.specs.GregorianLaws.{gregorian_list-bounded, iso_year-valid}
+use Rattle.cal_base.specs.OffsetList.{offset_list, offset_years, IsOffset}
+use Rattle.cal_base.specs.OffsetListLaws.{iso_year-extended}
 use Rattle.cal_base.specs.OffsetSystem.{packed_date, offset_date, packed_belongs}
 use Rattle.cal_base.specs.declared.iso_year.IsoYear.{IsoYear}
 use Rattle.cal_base.specs.declared.iso_year.PackedIsoYear.{PackedIsoYear}
@@ -42,17 +44,17 @@ pub dated-packed : (offset : ℤ) (p : PackedIsoYear) → IsValidDate (offset_li
 dated-packed offset p h = true-is_valid_date gregorian_list (packed_date p) (subst (IsValidDate gregorian_list) (shifted-offset offset p) (renumbered-valid offset gregorian_list (offset_date offset p) h))
 
 -- the same for the arithmetic of dates
-pub packed-belongs : (offset : ℤ) → IsOffset offset → (p : PackedIsoYear) → IsTrue (packed_belongs p) → Belongs (offset_list offset) (extended_year_from offset) (iso_year_of offset) (ymd p.year p.month p.day)
+pub packed-belongs : (offset : ℤ) → IsOffset offset → (p : PackedIsoYear) → IsTrue (packed_belongs p) → Belongs (offset_years offset) (ymd p.year p.month p.day)
 packed-belongs offset small p h =
     let valid = packed-dated offset p h in
-    let year = (offset_list-ranged offset small (offset_date offset p) valid).0 in
+    let year = (ranged-renumbered offset small gregorian_list gregorian_list-bounded (offset_date offset p) valid).0 in
     record {
       year = record { same = iso_year-extended offset p.year; range = (omega (arith, signed, year), omega (arith, signed, year)) };
       date = valid.date;
       valid = valid.valid;
     }
 
-pub belongs-packed : (offset : ℤ) (p : PackedIsoYear) → Belongs (offset_list offset) (extended_year_from offset) (iso_year_of offset) (ymd p.year p.month p.day) → IsTrue (packed_belongs p)
+pub belongs-packed : (offset : ℤ) (p : PackedIsoYear) → Belongs (offset_years offset) (ymd p.year p.month p.day) → IsTrue (packed_belongs p)
 belongs-packed offset p h = dated-packed offset p (record { date = h.date; valid = h.valid })
 
 -- dates that belong are equal and ordered as their day numbers
@@ -69,6 +71,10 @@ packed-ordered offset p q h k =
 -- whatever year the two calendars count from, a date has the same day number
 pub packed-shared : (offset other : ℤ) (p : PackedIsoYear) → day_number (offset_list other) (offset_date other p) ≡ day_number (offset_list offset) (offset_date offset p)
 packed-shared offset other p = day_number-packed other p ∙ sym (day_number-packed offset p)
+
+-- and is on that day
+pub packed-on : (offset other : ℤ) (p : PackedIsoYear) → IsTrue (packed_belongs p) → IsOn (offset_list other) (day_number (offset_list offset) (offset_date offset p)) (offset_date other p)
+packed-on offset other p h = record { date = (packed-dated other p h).date; day = packed-shared offset other p }
 
 -- a year that fields may not name has no valid day
 pub field_year-needed : (y : ℤ) (i d : ℕ) → is_field_year y ≡ false → is_valid_date gregorian_list (date y i d) ≡ false
@@ -88,7 +94,7 @@ belongs-offset offset p =
     )
 
 -- a year that fields may name is given
-pub given-named : (offset : ℤ) → IsOffset offset → (year : IsoYear) → is_field_year year.number ≡ true → IsGiven (extended_year_from offset) (iso_year_of offset) year
+pub given-named : (offset : ℤ) → IsOffset offset → (year : IsoYear) → is_field_year year.number ≡ true → IsGiven (offset_years offset) year
 given-named offset small year h =
     let named = is_between-true (neg_ℤ (pos 1040000)) (pos 1040000) year.number h in
-    record { same = iso_year-extended offset year; range = (omega (arith, signed, named), omega (arith, signed, named)) }
+    record { same = iso_year-extended offset year; range = (omega (arith, signed, small, named), omega (arith, signed, small, named)) }

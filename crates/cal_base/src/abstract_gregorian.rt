@@ -1,17 +1,175 @@
-//! The Gregorian calendars as calendars.
+//! The Gregorian calendars: those with the months of the proleptic Gregorian calendar, over years that they
+//! count from a year of their own.
 
-use crate::calendars::{AsCalendar, Calendar};
-use crate::gregorian_years::{AbstractGregorian, GregorianYears};
+use crate::calendar::{AsCalendar, Calendar};
+use crate::gregorian_months::{days_in_month, month_and_day};
+use crate::gregorian_years::GregorianYears;
+use crate::iso::IsoDateInner;
+use crate::iso_year::{IsoYear, iso_date, iso_day_number};
+use crate::plain_months::{is_plain, plain_ordinal};
 use crate::scaffold::UnstableSealed;
-use cal_arith::{ArithmeticDate, Steps};
-use cal_days::RataDie;
+use cal_arith::{ArithmeticDate, DateFieldsResolver, Steps, YearShapes, Years};
+use cal_days::{RataDie, gregorian};
 use cal_types::{
     CalendarAlgorithm, DateAddError, DateAddOptions, DateDifferenceOptions, DateDuration,
     DateFields, DateFromFieldsError, DateFromFieldsOptions, DateNewError, DayOfMonth, DayOfYear,
-    EraYear, LeapStatus, Month, MonthInfo, YearInput,
+    EcmaReferenceYearError, EraYear, LeapStatus, Month, MonthError, MonthInfo, Overflow,
+    UnknownEraError, YearInput,
 };
 use std::convert::Infallible;
 use std::sync::ledger::Ledger;
+
+/// The Gregorian calendar whose years are counted by `Y`: it has the months of the proleptic Gregorian
+/// calendar.
+///
+/// Its dates keep the ISO year.
+#[derive(Clone, Copy, Debug)]
+pub struct AbstractGregorian<Y: GregorianYears>(pub Y);
+
+impl<Y: GregorianYears> YearShapes for AbstractGregorian<Y> {
+    ghost use Rattle.std.specs.Prelude.{refl};
+    ghost use Rattle.cal_model.proofs.RenumberedBoundLemmas.{near-renumbered, ranged-renumbered, apart-renumbered, covered-renumbered};
+    ghost use Rattle.cal_base.specs.GregorianList.{gregorian_list};
+    ghost use Rattle.cal_base.specs.GregorianLaws.{gregorian_list-bounded};
+    ghost use Rattle.cal_base.specs.OffsetList.{offset_years};
+    ghost use Rattle.cal_base.specs.OffsetListLaws.{extended_year-iso, number-extended, offset_list-lawful};
+
+    type YearInfo = IsoYear;
+
+    ghost years = { λ s. offset_years (Y.offset s.0) };
+
+    fn year_counted<L: Ledger>(&self, extended_year: i32, steps: &mut Steps<L>) -> IsoYear {
+        steps.tick();
+        self.year_info_from_extended(extended_year)
+    }
+
+    fn extended_from_year_info(&self, year: IsoYear) -> i32 {
+        year.number - self.0.year_offset()
+    }
+
+    fn months_in_provided_year(&self, _year: IsoYear) -> u8 {
+        12
+    }
+
+    fn days_in_provided_month(&self, year: IsoYear, month: u8) -> u8 {
+        days_in_month(year.is_leap(), month)
+    }
+
+    fn to_rata_die_inner(&self, year: IsoYear, month: u8, day: u8) -> RataDie {
+        RataDie::new(iso_day_number(year.number, month, day))
+    }
+
+    fn min_months_from(&self, _start: IsoYear, count: i32) -> i32 {
+        12 * count
+    }
+
+    fn months_between_years<L: Ledger>(
+        &self,
+        first: IsoYear,
+        last: IsoYear,
+        _steps: &mut Steps<L>,
+    ) -> u32 {
+        12 * (last.number - first.number) as u32
+    }
+
+    fn ordinal_from_month(
+        &self,
+        _year: IsoYear,
+        month: Month,
+        _overflow: Overflow,
+    ) -> Result<u8, MonthError> {
+        plain_ordinal(month, 12)
+    }
+
+    fn month_from_ordinal(&self, _year: IsoYear, ordinal_month: u8) -> Month {
+        Month::new(ordinal_month)
+    }
+
+    ghost numbered = { λ s y h. extended_year-iso (Y.offset s.0) y };
+
+    ghost lawful = { λ s. offset_list-lawful (Y.offset s.0) };
+
+    ghost equal = { λ a b. refl };
+
+    ghost ordered = { λ a b. refl };
+
+    ghost stored_from = { λ s y h. number-extended (Y.offset s.0) y };
+
+    ghost near = { λ s.
+        near-renumbered (Y.offset s.0) (Y.offset_bound s.0) gregorian_list gregorian_list-bounded };
+
+    ghost ranged = { λ s.
+        ranged-renumbered (Y.offset s.0) (Y.offset_bound s.0) gregorian_list gregorian_list-bounded };
+
+    ghost apart = { λ s.
+        apart-renumbered (Y.offset s.0) (Y.offset_bound s.0) gregorian_list gregorian_list-bounded };
+
+    ghost covered = { λ s.
+        covered-renumbered (Y.offset s.0) (Y.offset_bound s.0) gregorian_list gregorian_list-bounded };
+}
+
+impl<Y: GregorianYears> Years for AbstractGregorian<Y> {
+    fn year_info_from_extended(&self, extended_year: i32) -> IsoYear {
+        IsoYear {
+            number: extended_year + self.0.year_offset(),
+        }
+    }
+
+    fn year_containing_rd(&self, rd: RataDie) -> IsoYear {
+        IsoYear {
+            number: gregorian::year_from_fixed(rd),
+        }
+    }
+
+    fn year_month_day(&self, rd: RataDie) -> (IsoYear, u8, u8) {
+        let (number, month, day) = iso_date(rd);
+        (IsoYear { number }, month, day)
+    }
+
+    fn month_and_day(&self, year: IsoYear, day_of_year: u16) -> (u8, u8) {
+        month_and_day(year.is_leap(), day_of_year)
+    }
+}
+
+impl<Y: GregorianYears> DateFieldsResolver for AbstractGregorian<Y> {
+    ghost use Rattle.std.specs.Prelude.{pos, ◌-ℤ◌};
+    ghost use Rattle.cal_model.specs.PlainMonths.{is_plain_month};
+    ghost use Rattle.cal_model.proofs.YearNameLemmas.{reference_of_known-stands, reference_of_known-tested};
+    ghost use Rattle.cal_base.specs.OffsetSystem.{offset_names};
+    ghost use Rattle.cal_base.specs.OffsetListLaws.{offset_list-plain};
+
+    ghost names = { λ s. offset_names (Y.offset s.0) (Y.reads s.0) };
+
+    fn extended_year_from_era_year_unchecked(
+        &self,
+        era: &[u8],
+        era_year: i32,
+    ) -> Result<i32, UnknownEraError> {
+        self.0.extended_from_era_year(era, era_year)
+    }
+
+    fn reference_year_from_month_day(
+        &self,
+        month: Month,
+        _day: u8,
+    ) -> Result<IsoYear, EcmaReferenceYearError> {
+        if is_plain(month, 12) {
+            Ok(IsoYear { number: 1972 })
+        } else {
+            Err(EcmaReferenceYearError::MonthNotInCalendar)
+        }
+    }
+
+    ghost era_in_range = { λ s era n y. Y.era_in_range s.0 era n y };
+
+    ghost era_covered = { λ s era n y. Y.era_covered s.0 era n y };
+
+    ghost reference_of_kind = { λ s m d. reference_of_known-tested (is_plain_month 12 m) _ (pos 1972 -ℤ Y.offset s.0)
+        ((offset_list-plain (Y.offset s.0)).kind m) };
+
+    ghost reference_of_leap_month = { λ s m d e. reference_of_known-stands (is_plain_month 12 m) (pos 1972 -ℤ Y.offset s.0)
+        e };
+}
 
 impl<Y: GregorianYears> UnstableSealed for AbstractGregorian<Y> {}
 
@@ -19,6 +177,7 @@ impl<Y: GregorianYears> Calendar for AbstractGregorian<Y> {
     ghost use Rattle.std.specs.Prelude.{true, refl, Some};
     ghost use Rattle.std.proofs.Common.{ap};
     ghost use Rattle.cal_base.specs.OffsetSystem.{offset_system, offset_date, packed_belongs};
+    ghost use Rattle.cal_base.specs.Compatibility.{never_refused};
     ghost use Rattle.cal_base.specs.OffsetListLaws.{offset_list-lawful};
     ghost use Rattle.cal_base.specs.OffsetSystemLaws.{packed-dated, packed-equal, packed-ordered, packed-shared};
 
@@ -28,7 +187,7 @@ impl<Y: GregorianYears> Calendar for AbstractGregorian<Y> {
 
     type DateCompatibilityError = Infallible;
 
-    ghost system = { λ s. offset_system (Y.offset s.0) (Y.era_year s.0) };
+    ghost system = { λ s. offset_system (Y.offset s.0) (Y.reads s.0) (Y.era_year s.0) };
 
     ghost date_of = { λ s d. offset_date (Y.offset s.0) d.packed };
 
@@ -70,6 +229,14 @@ impl<Y: GregorianYears> Calendar for AbstractGregorian<Y> {
 
     fn has_cheap_iso_conversion(&self) -> bool {
         true
+    }
+
+    fn from_iso(&self, iso: IsoDateInner) -> ArithmeticDate<AbstractGregorian<Y>> {
+        iso.0.cast()
+    }
+
+    fn to_iso(&self, date: &ArithmeticDate<AbstractGregorian<Y>>) -> IsoDateInner {
+        IsoDateInner(date.cast())
     }
 
     fn from_rata_die(&self, rd: RataDie) -> ArithmeticDate<AbstractGregorian<Y>> {
@@ -167,6 +334,8 @@ impl<Y: GregorianYears> Calendar for AbstractGregorian<Y> {
     ghost equal_days = { λ s a b h k. packed-equal (Y.offset s.0) a.packed b.packed h k };
 
     ghost ordered_days = { λ s a b h k. ap Some (packed-ordered (Y.offset s.0) a.packed b.packed h k) };
+
+    ghost refusal = { λ _ _ h. never_refused h };
 
     ghost compatible_itself = { λ _. refl };
 

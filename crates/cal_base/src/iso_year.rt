@@ -1,14 +1,14 @@
 //! ISO years, which the Gregorian calendars keep in their dates, and the days on which they start.
 
-ghost use Rattle.std.specs.Prelude.{◌≡◌, ◌↔◌, IsTrue, pos, neg_ℤ};
-ghost use Rattle.cal_days.specs.Day.{IsShiftedYear, IsBetween, is_field_year};
+ghost use Rattle.std.specs.Prelude.{◌≡◌, ◌↔◌, ◌≤◌, IsTrue, if◌then◌else◌, nat_le, pos, neg_ℤ, ◌-ℤ◌};
+ghost use Rattle.cal_days.specs.Day.{IsShiftedYear, IsBetween, IsValidDay, is_field_year};
 ghost use Rattle.cal_days.specs.Gregorian.{gregorian_leap};
-ghost use Rattle.cal_model.specs.CalendarList.{date, day_number, IsDate};
-ghost use Rattle.cal_base.specs.GregorianList.{gregorian_list};
+ghost use Rattle.cal_model.specs.CalendarList.{date, day_number, IsDate, IsOn};
+ghost use Rattle.cal_base.specs.GregorianList.{gregorian_list, march_month};
 
-use crate::gregorian_months::days_before_day;
+use crate::gregorian_months::{days_from_march, month_and_day_from_march};
 use cal_arith::{PackWithMD, can_be_named};
-use cal_days::gregorian;
+use cal_days::{RataDie, gregorian};
 
 /// An ISO year: the year of the proleptic Gregorian calendar with astronomical year numbers (ISO 8601).
 #[derive(Clone, Copy, Debug, PartialEq, Eq, PartialOrd, Ord, Hash)]
@@ -42,15 +42,13 @@ impl IsoYear {
 }
 
 impl PackWithMD for IsoYear {
+    ghost use Rattle.cal_arith.specs.Dates.{ymd};
+
     type Packed = PackedIsoYear;
 
     ghost stored = { λ y. y.number };
 
-    ghost year_in = { λ p. p.year };
-
-    ghost month_in = { λ p. p.month };
-
-    ghost day_in = { λ p. p.day };
+    ghost parts = { λ p. ymd p.year p.month p.day };
 
     fn pack(self, month: u8, day: u8) -> PackedIsoYear {
         PackedIsoYear {
@@ -73,6 +71,22 @@ impl PackWithMD for IsoYear {
     }
 }
 
+/// The year on whose March 1 a month's year begins, and the month as such years count it, 3 to 14.
+fn in_march_year(year: i32, month: u8) -> (i32, u8)
+    requires year { IsShiftedYear year }
+    requires month { (1 ≤ month) × (month ≤ 12) }
+    ensures month { (3 ≤ result.1) × (result.1 ≤ 14) }
+    ensures same { march_month result.1 ≡ month }
+    ensures year { result.0 ≡ (if nat_le result.1 12 then year else year -ℤ pos 1) }
+    ensures range { IsBetween (neg_ℤ (pos 8010000)) (pos 8009999) result.0 }
+{
+    if month <= 2 {
+        (year - 1, month + 12)
+    } else {
+        (year, month)
+    }
+}
+
 /// The day number of a date of an ISO year from -8009999 to 8009999.
 pub(crate) fn iso_day_number(year: i32, month: u8, day: u8) -> i64
     requires year { IsShiftedYear year }
@@ -80,6 +94,22 @@ pub(crate) fn iso_day_number(year: i32, month: u8, day: u8) -> i64
     ensures value { result ≡ day_number gregorian_list (date year month day) }
     ensures bound { IsBetween (neg_ℤ (pos 4000000000)) (pos 4000000000) result }
 {
-    let before = days_before_day(gregorian::is_leap_year(year), month, day);
-    gregorian::year_start(year).to_i64_date() + i64::from(before)
+    let (march_year, march_month) = in_march_year(year, month);
+    let before = days_from_march(march_month) + u16::from(day - 1);
+    gregorian::march_start(march_year).to_i64_date() + i64::from(before)
+}
+
+/// The date of a valid day: the ISO year, the ordinal month and the day of the month.
+pub(crate) fn iso_date(rd: RataDie) -> (i32, u8, u8)
+    requires { IsValidDay rd }
+    ensures on { IsOn gregorian_list rd (date result.0 result.1 result.2) }
+    ensures year { IsBetween (neg_ℤ (pos 1000000)) (pos 1000000) result.0 }
+{
+    let (year, since_march) = gregorian::march_year_and_day_from_fixed(rd);
+    let (month, day) = month_and_day_from_march(since_march);
+    if month > 12 {
+        (year + 1, month - 12, day)
+    } else {
+        (year, month, day)
+    }
 }

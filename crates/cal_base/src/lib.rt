@@ -2,18 +2,24 @@
 #![tactic(auto)]
 
 mod abstract_gregorian;
-mod calendars;
+mod arithmetic;
+mod calendar;
 pub mod gregorian_months;
 mod gregorian_years;
-mod iso_calendar;
+mod iso;
 mod iso_year;
+mod named_years;
+pub mod plain_months;
 mod refs;
 pub mod scaffold;
 
-pub use calendars::{AsCalendar, Calendar};
-pub use gregorian_years::{AbstractGregorian, GregorianYears};
-pub use iso_calendar::{Iso, IsoDateInner, IsoYears};
+pub use abstract_gregorian::AbstractGregorian;
+pub use arithmetic::{Arithmetic, Incompatible};
+pub use calendar::{AsCalendar, Calendar};
+pub use gregorian_years::GregorianYears;
+pub use iso::{Iso, IsoDateInner, IsoYears};
 pub use iso_year::{IsoYear, PackedIsoYear};
+pub use named_years::NamedYears;
 pub use refs::Ref;
 
 #[cfg(test)]

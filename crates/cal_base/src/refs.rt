@@ -2,7 +2,7 @@
 
 ghost use Rattle.std.specs.Prelude.{◌≡◌};
 
-use crate::calendars::AsCalendar;
+use crate::calendar::AsCalendar;
 use std::ops::Deref;
 
 /// A calendar that is borrowed.

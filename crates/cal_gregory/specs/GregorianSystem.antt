@@ -2,13 +2,14 @@
 use Rattle.std.specs.Prelude.{Bool, pos}
 use Rattle.cal_model.specs.CalendarList.{Date}
 use Rattle.cal_model.specs.CalendarSystem.{CalendarSystem}
+use Rattle.cal_model.specs.Eras.{common_era_reads}
 use Rattle.cal_base.specs.OffsetSystem.{offset_system, offset_date, packed_belongs}
 use Rattle.cal_gregory.specs.CommonEra.{common_era_year}
-use Rattle.cal_gregory.specs.declared.gregorian_calendar.GregorianDateInner.{GregorianDateInner}
+use Rattle.cal_gregory.specs.declared.gregorian.GregorianDateInner.{GregorianDateInner}
 
 -- extended years are ISO years
 abbrev pub gregorian_system : CalendarSystem
-gregorian_system = offset_system (pos 0) (λ t. common_era_year t.year)
+gregorian_system = offset_system (pos 0) common_era_reads (λ t. common_era_year t.year)
 
 -- the date that an inner date stands for
 abbrev pub gregorian_date : GregorianDateInner → Date

@@ -1,6 +1,6 @@
 //! Calendars whose months are those of the Gregorian calendar.
 #![tactic(auto)]
 
-mod gregorian_calendar;
+mod gregorian;
 
-pub use gregorian_calendar::{CommonEraYears, Gregorian, GregorianDateInner};
+pub use gregorian::{CommonEraYears, Gregorian, GregorianDateInner};

@@ -1,9 +1,11 @@
-//! Calendars that count their years from ISO year -543 and 1911.
+//! A calendar that counts its years from ISO year 1911.
 
 ghost use Rattle.cal_base.specs.OffsetList.{IsOffset};
 
-use crate::gregorian_years::{AbstractGregorian, GregorianYears};
-use cal_types::{CalendarAlgorithm, EraYear, TinyAsciiStr, YearAmbiguity};
+use crate::abstract_gregorian::AbstractGregorian;
+use crate::gregorian_years::GregorianYears;
+use cal_arith::eras::year_in_only_era;
+use cal_types::{CalendarAlgorithm, EraYear, TinyAsciiStr, UnknownEraError, YearAmbiguity};
 
 /// Years that are counted from an ISO year.
 #[derive(Clone, Copy, Debug)]
@@ -14,9 +16,13 @@ pub(crate) struct CountedFrom {
 
 impl GregorianYears for CountedFrom {
     ghost use Rattle.std.specs.Prelude.{codes, refl, None};
+    ghost use Rattle.cal_model.specs.Eras.{only_era_reads};
+    ghost use Rattle.cal_model.proofs.EraLemmas.{only_era_reads-in_range, only_era_reads-covered};
     ghost use Rattle.cal_base.specs.IsoEra.{iso_era_year};
 
     ghost offset = { λ s. s.iso_year };
+
+    ghost reads = { λ _. only_era_reads (codes "default") };
 
     ghost era_year = { λ _ t. iso_era_year t };
 
@@ -26,6 +32,10 @@ impl GregorianYears for CountedFrom {
 
     fn year_offset(&self) -> i32 {
         self.iso_year
+    }
+
+    fn extended_from_era_year(&self, era: &[u8], year_of_era: i32) -> Result<i32, UnknownEraError> {
+        year_in_only_era(b"default", era, year_of_era)
     }
 
     fn era_year_from_extended(&self, extended_year: i32, _month: u8, _day: u8) -> EraYear {
@@ -48,12 +58,11 @@ impl GregorianYears for CountedFrom {
 
     ghost offset_bound = { λ s. s.small };
 
-    ghost named = { λ _ t. refl };
-}
+    ghost era_in_range = { λ _ era n y. only_era_reads-in_range (codes "default") era n y };
 
-/// The calendar of the Buddhist era.
-pub(crate) fn buddhist() -> AbstractGregorian<CountedFrom> {
-    AbstractGregorian(CountedFrom { iso_year: -543 })
+    ghost era_covered = { λ _ era n y. only_era_reads-covered (codes "default") era n y };
+
+    ghost named = { λ _ t. refl };
 }
 
 /// The calendar of the Republic of China.

@@ -1,0 +1,330 @@
+//! What a calendar offers.
+
+ghost use Rattle.std.specs.Prelude.{◌≡◌, ◌↔◌, ◌+◌, ◌≤◌, ℕ, pos, ◌+ℤ◌, ◌-ℤ◌, unsigned_abs, Bool, List, Option, IsTrue, IsOk, IfOk, None, Some, Ok, false};
+ghost use Rattle.std.specs.Ordering.{int_cmp, int_eq};
+ghost use Rattle.cal_days.specs.Day.{IsValidDay};
+ghost use Rattle.cal_types.specs.Bag.{bag_of};
+ghost use Rattle.cal_types.specs.Year.{extended_year_of};
+ghost use Rattle.cal_types.specs.MonthParts.{month_parts};
+ghost use Rattle.cal_types.specs.MonthInfoParts.{month_info_parts};
+ghost use Rattle.cal_types.specs.declared.algorithm.CalendarAlgorithm.{CalendarAlgorithm};
+ghost use Rattle.cal_model.specs.CalendarList.{Date, IsLawful, IsOn, IsValidDate, day_number, month_count, month_length, start_of_year, year_length};
+ghost use Rattle.cal_model.specs.CalendarSystem.{CalendarSystem, month_info_of, resolve_fields};
+ghost use Rattle.cal_model.specs.Constructing.{made_date};
+ghost use Rattle.cal_model.specs.Adding.{IsSum, add_overflow_of};
+ghost use Rattle.cal_model.specs.Difference.{IsDifference, largest_unit_of};
+ghost use Rattle.cal_arith.specs.Dates.{answer_by};
+ghost use Rattle.cal_arith.specs.Ticks.{most_ticks};
+ghost use Rattle.cal_base.specs.IsoSystem.{iso_list, iso_date, iso_belongs};
+
+use crate::iso::{Iso, IsoDateInner};
+use crate::scaffold::UnstableSealed;
+use cal_arith::Steps;
+use cal_days::RataDie;
+use cal_types::{
+    CalendarAlgorithm, DateAddError, DateAddOptions, DateDifferenceOptions, DateDuration,
+    DateFields, DateFromFieldsError, DateFromFieldsOptions, DateNewError, DayOfMonth, DayOfYear,
+    IntoYearInfo, Month, MonthInfo, Overflow, YearInput,
+};
+use std::fmt::Debug;
+use std::sync::ledger::Ledger;
+
+/// A calendar: its years, its months and its eras, over dates that it keeps in a form of its own.
+///
+/// An inner date belongs to a calendar where it is one of the calendar's dates and its day number is in the
+/// valid range, -365242499 to 365242134. Every inner date in an answer belongs.
+pub trait Calendar: UnstableSealed + Drop {
+    /// A date as the calendar keeps it.
+    type DateInner: Eq + Copy + PartialOrd + Debug;
+
+    /// How a year is named.
+    type Year: Debug + IntoYearInfo;
+
+    /// What says that two calendars of this type can't be compared.
+    type DateCompatibilityError: Debug + Drop;
+
+    /// The calendar's list of years, and how it names them.
+    ghost system: { Self → CalendarSystem };
+
+    /// The date that an inner date stands for.
+    ghost date_of: { Self → Self.DateInner → Date };
+
+    /// Whether an inner date is one of the calendar's.
+    ghost belongs: { Self → Self.DateInner → Bool };
+
+    /// Whether dates of two calendars can be compared.
+    ghost compatible: { Self → Self → Bool };
+
+    /// Whether a date has the fields of an ISO date but for its year.
+    ghost is_cheap: { Self → Bool };
+
+    /// The calendar's algorithm, where CLDR names one.
+    ghost algorithm: { Self → Option CalendarAlgorithm };
+
+    /// The calendar's name in English.
+    ghost name: { Self → List ℕ };
+
+    /// Whether an inner date is one of this calendar's.
+    fn owns(&self, date: &Self::DateInner) -> bool
+        ensures { result ≡ belongs self.now date.now };
+
+    /// The date of a year from -9999 to 9999, a month and a day.
+    ///
+    /// In this order: [`DateNewError::InvalidYear`] where the given year isn't in this range,
+    /// [`DateNewError::InvalidEra`] where it is given in an era that isn't one of the calendar's,
+    /// [`DateNewError::MonthNotInCalendar`] where no year of the calendar has the month,
+    /// [`DateNewError::MonthNotInYear`] where this one lacks it, and [`DateNewError::InvalidDay`] where the day
+    /// is 0 or above the month's length.
+    fn new_date(
+        &self,
+        year: YearInput<'_>,
+        month: Month,
+        day: u8,
+    ) -> Result<Self::DateInner, DateNewError>
+        ensures made { let s = system self.now in
+            answer_by (date_of self.now) result ≡ made_date s.list s.year_names year.entry (month_parts month) day }
+        ensures belongs { IfOk result (λ d. IsTrue (belongs self.now d)) };
+
+    /// The date that the fields name, or the first fault, in the order of ECMAScript Temporal's
+    /// CalendarResolveFields. The default of the option `overflow` is
+    /// [`Overflow::Reject`](cal_types::Overflow::Reject), and that of `missing_fields_strategy`
+    /// [`MissingFieldsStrategy::Reject`](cal_types::MissingFieldsStrategy::Reject).
+    ///
+    /// In this order:
+    /// - [`DateFromFieldsError::NotEnoughFields`]: no day, unless it is supplied (the strategy `Ecma`, with an
+    ///   extended year or an era year: then it is 1); then no month, month code and ordinal month.
+    /// - [`DateFromFieldsError::TooManyFields`]: both a month and a month code.
+    /// - the year. [`DateFromFieldsError::NotEnoughFields`]: an era without an era year, or the reverse;
+    ///   [`DateFromFieldsError::Overflow`]: the era year, or without one the extended year, isn't from -1040000
+    ///   to 1040000; [`DateFromFieldsError::InvalidEra`]: the calendar doesn't have the era;
+    ///   [`DateFromFieldsError::InconsistentYear`]: the era's year and the extended year differ.
+    ///   [`DateFromFieldsError::NotEnoughFields`]: no year, unless it is supplied (`Ecma`, without an ordinal
+    ///   month): then it is the month's reference year, where a leap month that has none leaves its place to
+    ///   the plain month of its number under `Constrain`, and is
+    ///   [`DateFromFieldsError::MonthNotInYear`] under `Reject`.
+    /// - the month. [`DateFromFieldsError::MonthCodeInvalidSyntax`] and
+    ///   [`DateFromFieldsError::MonthNotInCalendar`] (both also tested before a reference year);
+    ///   [`DateFromFieldsError::MonthNotInYear`]: the year lacks it, and under `Constrain` none stands in;
+    ///   [`DateFromFieldsError::InconsistentMonth`]: an ordinal month beside it isn't its place.
+    /// - [`DateFromFieldsError::InvalidOrdinalMonth`]: an ordinal month alone that the year lacks, under
+    ///   `Reject`; under `Constrain` it becomes the nearest.
+    /// - [`DateFromFieldsError::InvalidDay`]: a day that the month lacks, under `Reject`; under `Constrain` it
+    ///   becomes the nearest.
+    /// - [`DateFromFieldsError::Overflow`]: the day number isn't in the valid range.
+    fn from_fields(
+        &self,
+        fields: DateFields<'_>,
+        options: DateFromFieldsOptions,
+    ) -> Result<Self::DateInner, DateFromFieldsError>
+        ensures resolved { answer_by (date_of self.now) result
+            ≡ resolve_fields (system self.now) (bag_of fields.entry) options }
+        ensures belongs { IfOk result (λ d. IsTrue (belongs self.now d)) };
+
+    /// Whether a date and the ISO date of its day differ in no more than the year's number, so that
+    /// [`Calendar::from_iso`] and [`Calendar::to_iso`] need no day number.
+    fn has_cheap_iso_conversion(&self) -> bool
+        ensures { result ≡ is_cheap self.now };
+
+    /// The date of the same day number as an ISO date.
+    fn from_iso(&self, iso: IsoDateInner) -> Self::DateInner
+        requires { IsTrue (iso_belongs iso) }
+        ensures on { let day = day_number iso_list (iso_date iso) in
+            IsOn (system self.now).list day (date_of self.now result) }
+        ensures belongs { IsTrue (belongs self.now result) }
+    {
+        self.from_rata_die(Iso.to_rata_die(&iso))
+    }
+
+    /// The ISO date of the same day number.
+    fn to_iso(&self, date: &Self::DateInner) -> IsoDateInner
+        requires { IsTrue (belongs self.now date.now) }
+        ensures on { let day = day_number (system self.now).list (date_of self.now date.now) in
+            IsOn iso_list day (iso_date result) }
+        ensures belongs { IsTrue (iso_belongs result) }
+    {
+        Iso.from_rata_die(self.to_rata_die(date))
+    }
+
+    /// The date of a day number in the valid range.
+    fn from_rata_die(&self, rd: RataDie) -> Self::DateInner
+        requires { IsValidDay rd }
+        ensures on { IsOn (system self.now).list rd (date_of self.now result) }
+        ensures belongs { IsTrue (belongs self.now result) };
+
+    /// The day number of a date.
+    fn to_rata_die(&self, date: &Self::DateInner) -> RataDie
+        requires { IsTrue (belongs self.now date.now) }
+        ensures { result ≡ day_number (system self.now).list (date_of self.now date.now) };
+
+    /// How many months the date's year has.
+    fn months_in_year(&self, date: &Self::DateInner) -> u8
+        requires { IsTrue (belongs self.now date.now) }
+        ensures { let t = date_of self.now date.now in
+            result ≡ month_count (system self.now).list t.year };
+
+    /// How many days the date's year has.
+    fn days_in_year(&self, date: &Self::DateInner) -> u16
+        requires { IsTrue (belongs self.now date.now) }
+        ensures { let t = date_of self.now date.now in
+            result ≡ year_length (system self.now).list t.year };
+
+    /// How many days the date's month has.
+    fn days_in_month(&self, date: &Self::DateInner) -> u8
+        requires { IsTrue (belongs self.now date.now) }
+        ensures { let t = date_of self.now date.now in
+            result ≡ month_length (system self.now).list t.year t.month };
+
+    /// Whether the date's year is a leap year.
+    fn is_in_leap_year(&self, date: &Self::DateInner) -> bool
+        requires { IsTrue (belongs self.now date.now) }
+        ensures { let t = date_of self.now date.now in
+            IsTrue result ↔ IsTrue ((system self.now).is_leap_year t.year) };
+
+    /// The year of a date, in its era or cycle.
+    fn year_info(&self, date: &Self::DateInner) -> Self::Year
+        requires { IsTrue (belongs self.now date.now) }
+        ensures { Self.Year.info result ≡ (system self.now).year_info (date_of self.now date.now) };
+
+    /// The extended year of a date.
+    fn extended_year(&self, date: &Self::DateInner) -> i32
+        requires { IsTrue (belongs self.now date.now) }
+        ensures { result ≡ (date_of self.now date.now).year }
+    {
+        self.year_info(date).into_year_info().extended_year()
+    }
+
+    /// The month of a date: its place in the year, and its month codes.
+    fn month(&self, date: &Self::DateInner) -> MonthInfo
+        requires { IsTrue (belongs self.now date.now) }
+        ensures { month_info_parts result ≡ month_info_of (system self.now) (date_of self.now date.now) };
+
+    /// The day of the month, from 1.
+    fn day_of_month(&self, date: &Self::DateInner) -> DayOfMonth
+        requires { IsTrue (belongs self.now date.now) }
+        ensures { result.0 ≡ (date_of self.now date.now).day };
+
+    /// The day of the year, from 1.
+    fn day_of_year(&self, date: &Self::DateInner) -> DayOfYear
+        requires { IsTrue (belongs self.now date.now) }
+        ensures { let list = (system self.now).list in let t = date_of self.now date.now in
+            start_of_year list t.year +ℤ pos result.0 ≡ day_number list t +ℤ pos 1 };
+
+    /// The date with a duration added (ECMAScript Temporal's NonISODateAdd). The default of the option
+    /// `overflow` is [`Overflow::Constrain`].
+    ///
+    /// In this order: [`DateAddError::Overflow`] for more than 2080000 years, 27040000 months, or 838240000
+    /// days with the weeks', and where the years lead past the years from -1040000 to 1040000, counted in ISO
+    /// years in the Gregorian calendars; [`DateAddError::MonthNotInYear`] where the year that they lead to
+    /// lacks the month, and [`DateAddError::InvalidDay`] where the month that the months lead to lacks the
+    /// day, under [`Overflow::Reject`]; [`DateAddError::Overflow`] where the sum's day number isn't in the
+    /// valid range.
+    fn add(
+        &self,
+        date: &Self::DateInner,
+        duration: DateDuration,
+        options: DateAddOptions,
+    ) -> Result<Self::DateInner, DateAddError>
+        requires { IsTrue (belongs self.now date.now) }
+        ensures sum { let s = system self.now in let t = date_of self.now date.now in
+            let overflow = add_overflow_of options.overflow in
+            IsSum s.list s.year_shift t duration overflow (answer_by (date_of self.now) result) }
+        ensures belongs { IfOk result (λ d. IsTrue (belongs self.now d)) };
+
+    /// The difference from the first date to the second: the greatest that does not surpass the second
+    /// (ECMAScript Temporal's NonISODateUntil). Added to the first date under [`Overflow::Constrain`], it gives
+    /// the second.
+    fn until(
+        &self,
+        date1: &Self::DateInner,
+        date2: &Self::DateInner,
+        options: DateDifferenceOptions,
+    ) -> DateDuration
+        requires first { IsTrue (belongs self.now date1.now) }
+        requires second { IsTrue (belongs self.now date2.now) }
+        ensures difference { let t = date_of self.now date1.now in let u = date_of self.now date2.now in
+            IsDifference (system self.now).list t u (largest_unit_of options.largest_unit) result }
+        ensures leads_back { let s = system self.now in
+            let t = date_of self.now date1.now in let u = date_of self.now date2.now in
+            IsSum s.list s.year_shift t result Overflow.Constrain (Ok u) };
+
+    /// The difference of [`Calendar::until`] with at most 8 look-ups of years; where months are the largest
+    /// unit, at most 8 and one more for each year between the dates.
+    fn until_counted<L: Ledger>(
+        &self,
+        date1: &Self::DateInner,
+        date2: &Self::DateInner,
+        options: DateDifferenceOptions,
+        steps: &mut Steps<L>,
+    ) -> DateDuration
+        requires first { IsTrue (belongs self.now date1.now) }
+        requires second { IsTrue (belongs self.now date2.now) }
+        ensures difference { let t = date_of self.now date1.now in let u = date_of self.now date2.now in
+            IsDifference (system self.now).list t u (largest_unit_of options.largest_unit) result }
+        ensures ticks { let t = date_of self.now date1.now in let u = date_of self.now date2.now in
+            let years = unsigned_abs (u.year -ℤ t.year) in
+            steps.new ≤ steps.old + most_ticks (largest_unit_of options.largest_unit) years };
+
+    /// An error exactly where dates of the two calendars can't be compared.
+    fn check_date_compatibility(&self, other: &Self) -> Result<(), Self::DateCompatibilityError>
+        ensures { IsOk result ↔ IsTrue (compatible self.now other.now) };
+
+    /// The calendar's algorithm (CLDR, UTS 35). None where CLDR names none for it.
+    fn calendar_algorithm(&self) -> Option<CalendarAlgorithm>
+        ensures { result ≡ algorithm self.now };
+
+    /// The calendar's name in English, for messages to programmers.
+    fn debug_name(&self) -> &'static str
+        ensures { result.now ≡ name self.now };
+
+    /// The list is a calendar's.
+    ghost lawful: { (s : Self) → IsLawful (system s).list };
+
+    /// What belongs is a date of the list, with a valid day number.
+    ghost dated: { (s : Self) (d : Self.DateInner) → IsTrue (belongs s d) →
+        IsValidDate (system s).list (date_of s d) };
+
+    /// The year that a date is printed in has its extended year.
+    ghost named: { (s : Self) (t : Date) → extended_year_of ((system s).year_info t) ≡ t.year };
+
+    /// Dates of one calendar are equal where their day numbers are.
+    ghost equal_days: { (s : Self) (a b : Self.DateInner) → IsTrue (belongs s a) → IsTrue (belongs s b) →
+        let day = day_number (system s).list in
+        Self.DateInner.eq a b ≡ int_eq (day (date_of s a)) (day (date_of s b)) };
+
+    /// Dates of one calendar are ordered as their day numbers.
+    ghost ordered_days: { (s : Self) (a b : Self.DateInner) → IsTrue (belongs s a) → IsTrue (belongs s b) →
+        let day = day_number (system s).list in
+        Self.DateInner.partial_cmp a b ≡ Some (int_cmp (day (date_of s a)) (day (date_of s b))) };
+
+    /// Where dates of two calendars can't be compared, there is an error that says so: where the error is
+    /// `Infallible`, all calendars are compatible.
+    ghost refusal: { (s t : Self) → compatible s t ≡ false → Self.DateCompatibilityError };
+
+    /// Each calendar is compatible with itself, and compatibility goes both ways and on.
+    ghost compatible_itself: { (s : Self) → IsTrue (compatible s s) };
+
+    ghost compatible_back: { (s t : Self) → IsTrue (compatible s t) → IsTrue (compatible t s) };
+
+    ghost compatible_on: { (s t u : Self) → IsTrue (compatible s t) → IsTrue (compatible t u) →
+        IsTrue (compatible s u) };
+
+    /// A date belongs to each compatible calendar, with the same day number.
+    ghost shared: { (s t : Self) (d : Self.DateInner) → IsTrue (compatible s t) → IsTrue (belongs s d) →
+        IsTrue (belongs t d) };
+
+    ghost shared_day: { (s t : Self) (d : Self.DateInner) → IsTrue (compatible s t) → IsTrue (belongs s d) →
+        day_number (system t).list (date_of t d) ≡ day_number (system s).list (date_of s d) };
+}
+
+/// What leads to a calendar: the calendar itself, or a pointer to it.
+pub trait AsCalendar: Drop {
+    /// The calendar's type.
+    type Calendar;
+
+    /// The calendar.
+    ghost cal_of: { Self → Self.Calendar };
+
+    /// The calendar.
+    fn as_calendar(&self) -> &Self::Calendar
+        ensures { result.now ≡ cal_of self.now };
+}

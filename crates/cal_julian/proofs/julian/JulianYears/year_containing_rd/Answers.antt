@@ -1,0 +1,17 @@
+use Rattle.std.proofs.Common.{◌≡◌, to_z, of_z, w32, arith}
+use Rattle.cal_days.proofs.Signed.{signed}
+use Rattle.cal_days.proofs.JulianLemmas.{julian_start-next}
+use Rattle.cal_julian.specs.JulianLaws.{start_of_year-julian, year_length-julian}
+use Rattle.cal_julian.proofs.julian.JulianYears.year_containing_rd.Goals as goal
+
+pub returns-clause-first : goal.returns-clause-first
+returns-clause-first c =
+    let year = c.year_from_fixed.result in
+    let same : to_z w32 (of_z w32 year) ≡ year = omega (arith, signed, c.year_from_fixed.ensures.range) in
+    rw same (omega (arith, signed, start_of_year-julian year, c.year_from_fixed.ensures.first))
+
+pub returns-clause-last : goal.returns-clause-last
+returns-clause-last c =
+    let year = c.year_from_fixed.result in
+    let same : to_z w32 (of_z w32 year) ≡ year = omega (arith, signed, c.year_from_fixed.ensures.range) in
+    rw same (omega (arith, signed, start_of_year-julian year, year_length-julian year, julian_start-next year, c.year_from_fixed.ensures.last))

@@ -1,5 +1,0 @@
-use Rattle.cal_julian.specs.JulianSystemLaws.{julian_belongs-date}
-use Rattle.cal_julian.proofs.julian_calendar.JulianCalendar.days_in_month.Goals as goal
-
-pub days_in_month-requires : goal.days_in_month-requires
-days_in_month-requires c = julian_belongs-date c.args.date.now c.requires

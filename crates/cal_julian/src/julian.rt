@@ -1,0 +1,502 @@
+//! The Julian calendar (Reingold and Dershowitz, Calendrical Calculations, chapter 3).
+
+ghost use Rattle.std.specs.Prelude.{◌≡◌, ◌↔◌, IsTrue};
+ghost use Rattle.cal_days.specs.Day.{IsFieldYear, IsRuleYear, is_field_year};
+ghost use Rattle.cal_days.specs.Julian.{julian_leap};
+ghost use Rattle.cal_julian.specs.JulianEra.{julian_era_year};
+ghost use Rattle.cal_julian.specs.JulianNames.{julian_reference_year};
+
+use cal_arith::eras::year_in_common_era;
+use cal_arith::{
+    ArithmeticDate, DateFieldsResolver, PackWithMD, Steps, YearShapes, Years, can_be_named,
+};
+use cal_base::gregorian_months::{days_before_day, days_in_month, month_and_day};
+use cal_base::plain_months::{is_plain, plain_ordinal};
+use cal_base::scaffold::UnstableSealed;
+use cal_base::{Arithmetic, AsCalendar, Calendar, NamedYears};
+use cal_days::{RataDie, julian};
+use cal_types::{
+    CalendarAlgorithm, DateAddError, DateAddOptions, DateDifferenceOptions, DateDuration,
+    DateFields, DateFromFieldsError, DateFromFieldsOptions, DateNewError, DayOfMonth, DayOfYear,
+    EcmaReferenceYearError, EraYear, LeapStatus, Month, MonthError, MonthInfo, Overflow,
+    TinyAsciiStr, UnknownEraError, YearAmbiguity, YearInput,
+};
+use std::convert::Infallible;
+use std::sync::ledger::Ledger;
+
+/// The Julian calendar, with astronomical year numbers: year 0 is 1 BCE.
+///
+/// It has the months of the Gregorian calendar, and every fourth year is a leap year, the centuries too. It
+/// is proleptic: the rule holds for the years before 8 CE as well. Its eras are `ce` and `bce`; they are also read
+/// as `ad` and `bc`. The reference year of a day is 1972, and 1971 from December 19 on. CLDR has no algorithm for
+/// it.
+#[derive(Clone, Copy, Debug, Default, PartialEq, Eq, PartialOrd, Ord, Hash)]
+pub struct Julian;
+
+impl Julian {
+    /// The Julian calendar.
+    pub fn new() -> Julian {
+        Julian
+    }
+}
+
+/// A date of the Julian calendar: its year, its month and its day.
+#[derive(Clone, Copy, Debug, PartialEq, Eq, PartialOrd, Ord, Hash)]
+pub struct JulianDateInner(ArithmeticDate<Julian>);
+
+/// A year of the Julian calendar, by its extended year.
+#[derive(Clone, Copy, Debug, PartialEq, Eq, PartialOrd, Ord, Hash)]
+pub struct JulianYear {
+    extended_year: i32,
+}
+
+/// A year of the Julian calendar, the place of a month in it, and a day of that month, both from 1.
+#[derive(Clone, Copy, Debug)]
+pub struct PackedJulianDate {
+    year: JulianYear,
+    month: u8,
+    day: u8,
+}
+
+impl JulianYear {
+    /// Whether fields may name the year.
+    pub(crate) fn can_be_named(self) -> bool
+        ensures { result ≡ is_field_year self.extended_year }
+    {
+        can_be_named(self.extended_year)
+    }
+
+    /// Whether the year has 366 days.
+    pub(crate) fn is_leap(self) -> bool
+        requires { IsRuleYear self.extended_year }
+        ensures { IsTrue result ↔ IsTrue (julian_leap self.extended_year) }
+    {
+        julian::is_leap_year(self.extended_year)
+    }
+}
+
+impl PackWithMD for JulianYear {
+    ghost use Rattle.cal_arith.specs.Dates.{ymd};
+
+    type Packed = PackedJulianDate;
+
+    ghost stored = { λ y. y.extended_year };
+
+    ghost parts = { λ p. ymd p.year p.month p.day };
+
+    fn pack(self, month: u8, day: u8) -> PackedJulianDate {
+        PackedJulianDate {
+            year: self,
+            month,
+            day,
+        }
+    }
+
+    fn unpack_year(packed: PackedJulianDate) -> JulianYear {
+        packed.year
+    }
+
+    fn unpack_month(packed: PackedJulianDate) -> u8 {
+        packed.month
+    }
+
+    fn unpack_day(packed: PackedJulianDate) -> u8 {
+        packed.day
+    }
+}
+
+impl YearShapes for Julian {
+    ghost use Rattle.std.specs.Prelude.{refl};
+    ghost use Rattle.cal_julian.specs.JulianList.{julian_years};
+    ghost use Rattle.cal_julian.specs.JulianLaws.{julian_list-lawful, stored-extended, day_number-near, years-ranged, months-apart, days-covered};
+
+    type YearInfo = JulianYear;
+
+    ghost years = { λ _. julian_years };
+
+    fn year_counted<L: Ledger>(&self, extended_year: i32, steps: &mut Steps<L>) -> JulianYear {
+        steps.tick();
+        JulianYear { extended_year }
+    }
+
+    fn extended_from_year_info(&self, year: JulianYear) -> i32 {
+        year.extended_year
+    }
+
+    fn months_in_provided_year(&self, _year: JulianYear) -> u8 {
+        12
+    }
+
+    fn days_in_provided_month(&self, year: JulianYear, month: u8) -> u8 {
+        days_in_month(year.is_leap(), month)
+    }
+
+    fn to_rata_die_inner(&self, year: JulianYear, month: u8, day: u8) -> RataDie {
+        let before = days_before_day(year.is_leap(), month, day);
+        let start = julian::year_start(year.extended_year).to_i64_date();
+        RataDie::new(start + i64::from(before))
+    }
+
+    fn min_months_from(&self, _start: JulianYear, count: i32) -> i32 {
+        12 * count
+    }
+
+    fn months_between_years<L: Ledger>(
+        &self,
+        first: JulianYear,
+        last: JulianYear,
+        _steps: &mut Steps<L>,
+    ) -> u32 {
+        12 * (last.extended_year - first.extended_year) as u32
+    }
+
+    fn ordinal_from_month(
+        &self,
+        _year: JulianYear,
+        month: Month,
+        _overflow: Overflow,
+    ) -> Result<u8, MonthError> {
+        plain_ordinal(month, 12)
+    }
+
+    fn month_from_ordinal(&self, _year: JulianYear, ordinal_month: u8) -> Month {
+        Month::new(ordinal_month)
+    }
+
+    ghost numbered = { λ s y h. refl };
+
+    ghost lawful = { λ s. julian_list-lawful };
+
+    ghost equal = { λ a b. refl };
+
+    ghost ordered = { λ a b. refl };
+
+    ghost stored_from = { λ s y h. stored-extended y.extended_year };
+
+    ghost near = { λ s t. day_number-near t };
+
+    ghost ranged = { λ s t. years-ranged t };
+
+    ghost apart = { λ s t u. months-apart t u };
+
+    ghost covered = { λ s t. days-covered t };
+}
+
+impl Years for Julian {
+    fn year_info_from_extended(&self, extended_year: i32) -> JulianYear {
+        JulianYear { extended_year }
+    }
+
+    fn year_containing_rd(&self, rd: RataDie) -> JulianYear {
+        JulianYear {
+            extended_year: julian::year_from_fixed(rd),
+        }
+    }
+
+    fn month_and_day(&self, year: JulianYear, day_of_year: u16) -> (u8, u8) {
+        month_and_day(year.is_leap(), day_of_year)
+    }
+}
+
+/// The reference year of a day of a month, 1 to 12: the latest year in which it falls on or before 1972-12-31 of
+/// the ISO calendar.
+fn reference_year(month: u8, day: u8) -> i32
+    ensures year { result ≡ julian_reference_year month day }
+    ensures range { IsRuleYear result }
+{
+    if month == 12 && day >= 19 { 1971 } else { 1972 }
+}
+
+impl DateFieldsResolver for Julian {
+    ghost use Rattle.cal_model.specs.PlainMonths.{is_plain_month};
+    ghost use Rattle.cal_model.proofs.EraLemmas.{common_era_reads-in_range, common_era_reads-covered};
+    ghost use Rattle.cal_model.proofs.YearNameLemmas.{reference_of_known-stands, reference_of_known-tested};
+    ghost use Rattle.cal_julian.specs.JulianLaws.{julian_list-plain};
+    ghost use Rattle.cal_julian.specs.JulianNames.{julian_names, julian_reference_year};
+
+    ghost names = { λ _. julian_names };
+
+    fn extended_year_from_era_year_unchecked(
+        &self,
+        era: &[u8],
+        era_year: i32,
+    ) -> Result<i32, UnknownEraError> {
+        year_in_common_era(era, era_year)
+    }
+
+    fn reference_year_from_month_day(
+        &self,
+        month: Month,
+        day: u8,
+    ) -> Result<JulianYear, EcmaReferenceYearError> {
+        if is_plain(month, 12) {
+            Ok(JulianYear {
+                extended_year: reference_year(month.number(), day),
+            })
+        } else {
+            Err(EcmaReferenceYearError::MonthNotInCalendar)
+        }
+    }
+
+    ghost era_in_range = { λ _ era n y. common_era_reads-in_range era n y };
+
+    ghost era_covered = { λ _ era n y. common_era_reads-covered era n y };
+
+    ghost reference_of_kind = { λ _ m d. reference_of_known-tested (is_plain_month 12 m) _
+        (julian_reference_year m.number d) (julian_list-plain.kind m) };
+
+    ghost reference_of_leap_month = { λ _ m d e. reference_of_known-stands (is_plain_month 12 m)
+        (julian_reference_year m.number d) e };
+}
+
+/// An extended year in its era: `ce`, or `bce` before year 1 (CLDR, UTS 35).
+fn era_year(year: i32) -> EraYear
+    requires { IsFieldYear year }
+    ensures { result ≡ julian_era_year year }
+{
+    if year < 1 {
+        EraYear {
+            year: 1 - year,
+            extended_year: year,
+            era: TinyAsciiStr::of_text(b"bce"),
+            era_index: Some(0),
+            ambiguity: YearAmbiguity::EraAndCenturyRequired,
+        }
+    } else {
+        EraYear {
+            year,
+            extended_year: year,
+            era: TinyAsciiStr::of_text(b"ce"),
+            era_index: Some(1),
+            ambiguity: YearAmbiguity::CenturyRequired,
+        }
+    }
+}
+
+impl NamedYears for Julian {
+    ghost use Rattle.std.specs.Prelude.{refl};
+    ghost use Rattle.cal_types.specs.declared.year.YearInfo.TheVariants.{Era};
+    ghost use Rattle.cal_base.specs.Compatibility.{all_alike};
+    ghost use Rattle.cal_days.specs.Julian.{julian_leap};
+    ghost use Rattle.cal_julian.specs.JulianEra.{julian_era_year};
+    ghost use Rattle.cal_julian.specs.JulianLaws.{julian_year-named};
+
+    type Year = EraYear;
+
+    ghost is_leap_year = { λ _ y. julian_leap y };
+
+    ghost year_named = { λ _ y. Era (julian_era_year y) };
+
+    fn owns_year(&self, year: JulianYear) -> bool {
+        year.can_be_named()
+    }
+
+    fn is_leap(&self, year: JulianYear) -> bool {
+        year.is_leap()
+    }
+
+    fn named_year(&self, year: JulianYear) -> EraYear {
+        era_year(year.extended_year)
+    }
+
+    fn shown_month(
+        &self,
+        _year: JulianYear,
+        _ordinal_month: u8,
+        month: Month,
+    ) -> (LeapStatus, Month) {
+        (LeapStatus::Normal, month)
+    }
+
+    fn year_offset(&self) -> i32 {
+        0
+    }
+
+    fn is_compatible(&self, _other: &Self) -> bool {
+        true
+    }
+
+    ghost tested = { λ _ _. (λ _. refl, λ _. refl) };
+
+    ghost named = { λ _ y. julian_year-named y };
+
+    ghost alike = { all_alike };
+
+    ghost shared = { λ _ _ _ _ given. record { given = given; start = refl; months = refl } };
+}
+
+impl UnstableSealed for Julian {}
+
+impl Calendar for Julian {
+    ghost use Rattle.std.specs.Prelude.{true, false, refl, codes, None};
+    ghost use Rattle.cal_base.specs.Compatibility.{never_refused};
+    ghost use Rattle.cal_base.specs.NumberedYears.{numbered_equal, numbered_ordered};
+    ghost use Rattle.cal_julian.specs.JulianList.{julian_list};
+    ghost use Rattle.cal_julian.specs.JulianSystem.{julian_system, julian_date, julian_belongs};
+    ghost use Rattle.cal_julian.specs.JulianLaws.{julian_list-lawful};
+    ghost use Rattle.cal_julian.specs.JulianSystemLaws.{julian_belongs-dated, julian_year_info-named};
+
+    type DateInner = JulianDateInner;
+
+    type Year = EraYear;
+
+    type DateCompatibilityError = Infallible;
+
+    ghost system = { λ _. julian_system };
+
+    ghost date_of = { λ _ d. julian_date d };
+
+    ghost belongs = { λ _ d. julian_belongs d };
+
+    ghost compatible = { λ _ _. true };
+
+    ghost is_cheap = { λ _. false };
+
+    ghost algorithm = { λ _. None };
+
+    ghost name = { λ _. codes "Julian" };
+
+    fn owns(&self, date: &JulianDateInner) -> bool {
+        Arithmetic(*self).owns(&date.0)
+    }
+
+    fn new_date(
+        &self,
+        year: YearInput<'_>,
+        month: Month,
+        day: u8,
+    ) -> Result<JulianDateInner, DateNewError> {
+        Ok(JulianDateInner(Arithmetic(*self).new_date(year, month, day)?))
+    }
+
+    fn from_fields(
+        &self,
+        fields: DateFields<'_>,
+        options: DateFromFieldsOptions,
+    ) -> Result<JulianDateInner, DateFromFieldsError> {
+        Ok(JulianDateInner(Arithmetic(*self).from_fields(fields, options)?))
+    }
+
+    fn has_cheap_iso_conversion(&self) -> bool {
+        false
+    }
+
+    fn from_rata_die(&self, rd: RataDie) -> JulianDateInner {
+        JulianDateInner(Arithmetic(*self).from_rata_die(rd))
+    }
+
+    fn to_rata_die(&self, date: &JulianDateInner) -> RataDie {
+        Arithmetic(*self).to_rata_die(&date.0)
+    }
+
+    fn months_in_year(&self, date: &JulianDateInner) -> u8 {
+        Arithmetic(*self).months_in_year(&date.0)
+    }
+
+    fn days_in_year(&self, date: &JulianDateInner) -> u16 {
+        Arithmetic(*self).days_in_year(&date.0)
+    }
+
+    fn days_in_month(&self, date: &JulianDateInner) -> u8 {
+        Arithmetic(*self).days_in_month(&date.0)
+    }
+
+    fn is_in_leap_year(&self, date: &JulianDateInner) -> bool {
+        Arithmetic(*self).is_in_leap_year(&date.0)
+    }
+
+    fn year_info(&self, date: &JulianDateInner) -> EraYear {
+        Arithmetic(*self).year_info(&date.0)
+    }
+
+    fn extended_year(&self, date: &JulianDateInner) -> i32 {
+        Arithmetic(*self).extended_year(&date.0)
+    }
+
+    fn month(&self, date: &JulianDateInner) -> MonthInfo {
+        Arithmetic(*self).month(&date.0)
+    }
+
+    fn day_of_month(&self, date: &JulianDateInner) -> DayOfMonth {
+        Arithmetic(*self).day_of_month(&date.0)
+    }
+
+    fn day_of_year(&self, date: &JulianDateInner) -> DayOfYear {
+        Arithmetic(*self).day_of_year(&date.0)
+    }
+
+    fn add(
+        &self,
+        date: &JulianDateInner,
+        duration: DateDuration,
+        options: DateAddOptions,
+    ) -> Result<JulianDateInner, DateAddError> {
+        Ok(JulianDateInner(Arithmetic(*self).add(&date.0, duration, options)?))
+    }
+
+    fn until(
+        &self,
+        date1: &JulianDateInner,
+        date2: &JulianDateInner,
+        options: DateDifferenceOptions,
+    ) -> DateDuration {
+        Arithmetic(*self).until(&date1.0, &date2.0, options)
+    }
+
+    fn until_counted<L: Ledger>(
+        &self,
+        date1: &JulianDateInner,
+        date2: &JulianDateInner,
+        options: DateDifferenceOptions,
+        steps: &mut Steps<L>,
+    ) -> DateDuration {
+        Arithmetic(*self).until_counted(&date1.0, &date2.0, options, steps)
+    }
+
+    fn check_date_compatibility(&self, _other: &Self) -> Result<(), Infallible> {
+        Ok(())
+    }
+
+    fn calendar_algorithm(&self) -> Option<CalendarAlgorithm> {
+        None
+    }
+
+    fn debug_name(&self) -> &'static str {
+        "Julian"
+    }
+
+    ghost lawful = { λ _. julian_list-lawful };
+
+    ghost dated = { λ _ d h. julian_belongs-dated d h };
+
+    ghost named = { λ _ t. julian_year_info-named t };
+
+    ghost equal_days = { λ _ a b h k. numbered_equal julian_list _ _ h k };
+
+    ghost ordered_days = { λ _ a b h k. numbered_ordered julian_list _ _ h k };
+
+    ghost refusal = { λ _ _ h. never_refused h };
+
+    ghost compatible_itself = { λ _. refl };
+
+    ghost compatible_back = { λ _ _ h. h };
+
+    ghost compatible_on = { λ _ _ _ h k. k };
+
+    ghost shared = { λ _ _ _ h k. k };
+
+    ghost shared_day = { λ _ _ _ h k. refl };
+}
+
+impl AsCalendar for Julian {
+    type Calendar = Julian;
+
+    ghost cal_of = { λ c. c };
+
+    fn as_calendar(&self) -> &Julian {
+        self
+    }
+}
+
+#[cfg(test)]
+mod tests;
