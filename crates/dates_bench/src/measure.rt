@@ -54,7 +54,8 @@ fn date_on<A: AsCalendar + Copy>(day: u64, calendar: A) -> Date<A>
 where
     A::Calendar: Calendar,
     requires { day < 900000 }
-    ensures on { IsOn (A.Calendar.system (A.cal_of calendar)).list (pos day) (A.Calendar.date_of (A.cal_of calendar) result.inner) }
+    ensures on { let c = A.cal_of calendar in
+        IsOn (A.Calendar.system c).list (pos day) (A.Calendar.date_of c result.inner) }
     ensures calendar { result.calendar ≡ calendar }
 {
     Date::from_rata_die(RataDie::new(day as i64), calendar)

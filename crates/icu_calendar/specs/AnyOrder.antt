@@ -5,8 +5,8 @@ use Rattle.cal_model.specs.CalendarList.{Date}
 use Rattle.cal_model.specs.DateOrder.{date_eq, date_cmp}
 use Rattle.cal_base.specs.OffsetSystem.{packed_date}
 use Rattle.cal_julian.specs.JulianSystem.{julian_date}
-use Rattle.icu_calendar.specs.declared.any_calendars.AnyDateInner.{AnyDateInner}
-use Rattle.icu_calendar.specs.declared.any_calendars.AnyDateInner.TheVariants as inner
+use Rattle.icu_calendar.specs.declared.any_calendar.AnyDateInner.{AnyDateInner}
+use Rattle.icu_calendar.specs.declared.any_calendar.AnyDateInner.TheVariants as inner
 
 -- the number of a calendar's kind, in the order of their names
 abbrev pub kind_of : AnyDateInner → ℕ

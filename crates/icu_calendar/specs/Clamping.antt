@@ -1,10 +1,14 @@
 -- Day numbers of any size, and answers of calls that change a date.
 use Rattle.std.specs.Prelude.{ℤ, pos, neg_ℤ, int_lt, if◌then◌else◌, Result, Ok, Err}
+use Rattle.cal_days.specs.declared.ranges.TheConstants.{FIRST_VALID_DAY, LAST_VALID_DAY}
 use Rattle.cal_model.specs.CalendarList.{Date}
 
 -- the nearest day number of the valid range
 abbrev pub clamped_day : ℤ → ℤ
-clamped_day n = if int_lt n (neg_ℤ (pos 365242499)) then neg_ℤ (pos 365242499) else if int_lt (pos 365242134) n then pos 365242134 else n
+clamped_day n =
+    let first = FIRST_VALID_DAY in
+    let last = LAST_VALID_DAY in
+    if int_lt n first then first else if int_lt last n then last else n
 
 -- a call's answer, with the date that it left where it did not refuse
 abbrev pub done_with : {T E : Type 0} → Result T E → Date → Result Date E

@@ -2,13 +2,19 @@
 use Rattle.std.specs.Prelude.{◌≡◌, Result, Ok, Err}
 use Rattle.icu_calendar.specs.declared.span_parts.Span.{Span}
 use Rattle.icu_calendar.specs.declared.span_parts.SpanError.{SpanError}
-use Rattle.icu_calendar.specs.declared.any_calendars.AnyCalendar.{AnyCalendar}
+use Rattle.icu_calendar.specs.declared.any_calendar.AnyCalendar.{AnyCalendar}
 use Rattle.icu_calendar.specs.AnySystem.{any_date}
 use Rattle.icu_calendar.specs.Spans.{SpanDates}
 
 -- the dates that a span holds, and its duration
 abbrev pub span_dates : Span → SpanDates
-span_dates s = record { from = any_date s.from.inner; from_shown = any_date s.from_shown.inner; to = any_date s.to.inner; to_shown = any_date s.to_shown.inner; duration = s.duration }
+span_dates s = record {
+  from = any_date s.from.calendar s.from.inner;
+  from_shown = any_date s.from_shown.calendar s.from_shown.inner;
+  to = any_date s.to.calendar s.to.inner;
+  to_shown = any_date s.to_shown.calendar s.to_shown.inner;
+  duration = s.duration;
+}
 
 abbrev pub span_answer : Result Span SpanError → Result SpanDates SpanError
 span_answer (Ok s) = Ok (span_dates s)

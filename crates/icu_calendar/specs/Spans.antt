@@ -1,12 +1,12 @@
 -- Two bags of fields: their dates, the same days in a second calendar, and their difference; or the first fault.
 use Rattle.std.specs.Prelude.{◌≡◌, Result, Ok, Err}
 use Rattle.cal_types.specs.Bag.{Bag}
-use Rattle.cal_types.specs.declared.options.Overflow.{Overflow}
+use Rattle.cal_types.specs.declared.options.DateFromFieldsOptions.{DateFromFieldsOptions}
 use Rattle.cal_types.specs.declared.duration.DateDuration.{DateDuration}
 use Rattle.cal_types.specs.declared.duration.DateDurationUnit.{DateDurationUnit}
 use Rattle.cal_types.specs.declared.errors.DateFromFieldsError.{DateFromFieldsError}
 use Rattle.cal_model.specs.CalendarList.{CalendarList, Date, IsOn, day_number}
-use Rattle.cal_model.specs.Resolving.{resolve}
+use Rattle.cal_model.specs.CalendarSystem.{CalendarSystem, resolve_fields}
 use Rattle.cal_model.specs.Difference.{IsDifference}
 use Rattle.icu_calendar.specs.declared.span_parts.BagSide.{BagSide}
 use Rattle.icu_calendar.specs.declared.span_parts.BagSide.TheVariants.{From, To}
@@ -20,19 +20,20 @@ pub record SpanDates : Type 0 where
   pub to_shown : Date
   pub duration : DateDuration
 
--- each bag names its date; the shown dates have the same day numbers in the second list; and the duration is the difference
-pub record AnswersBags (c shown : CalendarList) (first second : Bag) (o : Overflow) (unit : DateDurationUnit) (s : SpanDates) : Type 0 where
-  pub from : resolve c first o ≡ Ok s.from
-  pub to : resolve c second o ≡ Ok s.to
-  pub from_shown : IsOn shown (day_number c s.from) s.from_shown
-  pub to_shown : IsOn shown (day_number c s.to) s.to_shown
-  pub duration : IsDifference c s.from s.to unit s.duration
+-- each bag names its date; the shown dates have the same day numbers in the second list; the duration is the difference
+pub record AnswersBags (c : CalendarSystem) (shown : CalendarList) (first second : Bag) (options : DateFromFieldsOptions) (unit : DateDurationUnit) (s : SpanDates) : Type 0 where
+  pub from : resolve_fields c first options ≡ Ok s.from
+  pub to : resolve_fields c second options ≡ Ok s.to
+  pub from_shown : IsOn shown (day_number c.list s.from) s.from_shown
+  pub to_shown : IsOn shown (day_number c.list s.to) s.to_shown
+  pub duration : IsDifference c.list s.from s.to unit s.duration
 
 -- the second bag is at fault only where the first names a date
-abbrev pub RefusesBag : CalendarList → Bag → Bag → Overflow → BagSide → DateFromFieldsError → Type 0
-RefusesBag c from to o From cause = resolve c from o ≡ Err cause
-RefusesBag c from to o To cause = (t : Date) × (resolve c from o ≡ Ok t) × (resolve c to o ≡ Err cause)
+abbrev pub RefusesBag : CalendarSystem → Bag → Bag → DateFromFieldsOptions → BagSide → DateFromFieldsError → Type 0
+RefusesBag c from to options From cause = resolve_fields c from options ≡ Err cause
+RefusesBag c from to options To cause = (t : Date) × (resolve_fields c from options ≡ Ok t) × (resolve_fields c to options ≡ Err cause)
 
-abbrev pub IsSpan : CalendarList → CalendarList → Bag → Bag → Overflow → DateDurationUnit → Result SpanDates SpanError → Type 0
-IsSpan c shown from to o unit (Ok s) = AnswersBags c shown from to o unit s
-IsSpan c shown from to o unit (Err e) = RefusesBag c from to o e.side e.cause
+abbrev pub IsSpan : CalendarSystem → CalendarList → Bag → Bag → DateFromFieldsOptions → DateDurationUnit
+    → Result SpanDates SpanError → Type 0
+IsSpan c shown from to options unit (Ok s) = AnswersBags c shown from to options unit s
+IsSpan c shown from to options unit (Err e) = RefusesBag c from to options e.side e.cause

@@ -1,14 +1,32 @@
 //! Dates of any calendar, and the difference of two.
+//!
+//! A [`Date`] has its calendar with it: one of a type of its own, as [`Iso`], or one that is chosen at run time,
+//! as [`AnyCalendar`]. All that a caller needs is passed on from here.
 #![tactic(auto)]
 
-mod any_calendars;
-mod dates;
+mod any_calendar;
+mod date;
+pub mod laws;
 mod span_parts;
 mod spans;
 #[cfg(test)]
 mod tests;
 
-pub use any_calendars::{AnyCalendar, AnyDateInner};
-pub use dates::Date;
+pub use any_calendar::{AnyCalendar, AnyDateInner};
+pub use cal_arith::Steps;
+pub use cal_base::{AsCalendar, Calendar, Iso, IsoDateInner, Ref};
+pub use cal_days::RataDie;
+pub use cal_gregory::{Gregorian, GregorianDateInner};
+pub use cal_julian::{Julian, JulianDateInner};
+pub use cal_types::{
+    CalendarAlgorithm, CyclicYear, DateAddError, DateAddOptions, DateDifferenceOptions,
+    DateDuration, DateDurationUnit, DateError, DateFields, DateFromFieldsError,
+    DateFromFieldsOptions, DateNewError, DayOfMonth, DayOfYear, EcmaReferenceYearError, EraYear,
+    HijriCalendarAlgorithm, IntoYearInfo, LeapStatus, LunisolarDateError, MismatchedCalendarError,
+    MissingFieldsStrategy, Month, MonthCode, MonthCodeParseError, MonthError, MonthInfo, Overflow,
+    RangeError, TinyAsciiStr, TinyStrError, UnknownEraError, Weekday, YearAmbiguity, YearInfo,
+    YearInput,
+};
+pub use date::Date;
 pub use span_parts::{BagSide, Span, SpanError};
 pub use spans::span;

@@ -1,11 +1,11 @@
 //! What the difference of two bags of fields answers.
 
-use crate::any_calendars::AnyCalendar;
-use crate::dates::Date;
+use crate::any_calendar::AnyCalendar;
+use crate::date::Date;
 use cal_types::{DateDuration, DateFromFieldsError};
 
 /// Two dates, the same days in a second calendar, and the difference from the first date to the second.
-#[derive(Clone, Copy)]
+#[derive(Clone, Copy, Debug)]
 pub struct Span {
     /// The date of the first bag.
     pub from: Date<AnyCalendar>,

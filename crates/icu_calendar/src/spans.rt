@@ -2,15 +2,14 @@
 
 ghost use Rattle.std.specs.Prelude.{IfOk, Ok};
 ghost use Rattle.cal_types.specs.Bag.{bag_of};
-ghost use Rattle.cal_model.specs.Resolving.{IsPlain, overflow_of};
 ghost use Rattle.cal_model.specs.Adding.{IsSum};
 ghost use Rattle.cal_model.specs.Difference.{largest_unit_of};
 ghost use Rattle.icu_calendar.specs.AnySystem.{any_system, any_date};
 ghost use Rattle.icu_calendar.specs.Spans.{IsSpan};
 ghost use Rattle.icu_calendar.specs.SpanAnswers.{span_answer, HasCalendars};
 
-use crate::any_calendars::AnyCalendar;
-use crate::dates::Date;
+use crate::any_calendar::AnyCalendar;
+use crate::date::Date;
 use crate::span_parts::{BagSide, Span, SpanError};
 use cal_types::{DateDifferenceOptions, DateFields, DateFromFieldsOptions, Overflow};
 
@@ -27,11 +26,15 @@ pub fn span(
     calendar: AnyCalendar,
     shown: AnyCalendar,
 ) -> Result<Span, SpanError>
-    requires from { IsPlain (bag_of from) }
-    requires to { IsPlain (bag_of to) }
     ensures calendars { IfOk result (HasCalendars calendar shown) }
-    ensures leads_back { IfOk result (λ s. IsSum (any_system calendar).list (any_system calendar).year_shift (any_date s.from.inner) s.duration Overflow.Constrain (Ok (any_date s.to.inner))) }
-    ensures spans { IsSpan (any_system calendar).list (any_system shown).list (bag_of from.entry) (bag_of to.entry) (overflow_of options.overflow) (largest_unit_of difference.largest_unit) (span_answer result) }
+    ensures leads_back { let system = any_system calendar in
+        IfOk result (λ s. let from = any_date calendar s.from.inner in
+        let to = any_date calendar s.to.inner in
+        IsSum system.list system.year_shift from s.duration Overflow.Constrain (Ok to)) }
+    ensures spans { let c = any_system calendar in
+        let list = (any_system shown).list in
+        let unit = largest_unit_of difference.largest_unit in
+        IsSpan c list (bag_of from.entry) (bag_of to.entry) options unit (span_answer result) }
 {
     let first = match Date::try_from_fields(from, options, calendar) {
         Ok(date) => date,

@@ -1,17 +1,16 @@
 //! Dates of any calendar: known days and fields, sums and differences, and the first fault of two bags.
 
 ghost use Rattle.cal_days.specs.Day.{IsValidDay};
-ghost use Rattle.cal_types.specs.Bag.{bag_of};
-ghost use Rattle.cal_model.specs.Resolving.{IsPlain};
 
 mod comparing;
 mod conversions;
 mod differences;
+mod getters;
 mod spans;
 mod sums;
 
-use crate::any_calendars::AnyCalendar;
-use crate::dates::Date;
+use crate::any_calendar::AnyCalendar;
+use crate::date::Date;
 use cal_base::Iso;
 use cal_days::RataDie;
 use cal_gregory::Gregorian;
@@ -39,9 +38,7 @@ const IN_DAYS: DateDifferenceOptions = DateDifferenceOptions {
 };
 
 /// Fields with a year, a plain month and a day alone.
-fn fields(year: i32, month: u8, day: u8) -> DateFields<'static>
-    ensures { IsPlain (bag_of result) }
-{
+fn fields(year: i32, month: u8, day: u8) -> DateFields<'static> {
     DateFields {
         era: None,
         era_year: None,

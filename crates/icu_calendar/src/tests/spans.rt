@@ -28,57 +28,37 @@ fn span_has_the_days_and_both_dates(rt: HostRuntime) {
     }
 }
 
+/// A year, a month and a day.
+type Ymd = (i32, u8, u8);
+
+const LEAP_DAY: Ymd = (2020, 2, 29);
+
+const YEAR_LATER: Ymd = (2021, 2, 28);
+
+const FIRST: Ymd = (-999999, 1, 1);
+
+const LAST: Ymd = (999999, 12, 31);
+
 #[test]
 fn spans_are_counted_in_each_unit(rt: HostRuntime) {
     use DateDurationUnit::{Days, Months, Weeks, Years};
-    let (leap_day, year_later) = ((2020, 2, 29), (2021, 2, 28));
-    let (first, last) = ((-999999, 1, 1), (999999, 12, 31));
-    for (from, to, largest_unit, want) in [
-        (
-            leap_day,
-            year_later,
-            Some(Years),
-            duration(false, 0, 11, 0, 30),
-        ),
-        (
-            leap_day,
-            year_later,
-            Some(Months),
-            duration(false, 0, 11, 0, 30),
-        ),
-        (
-            leap_day,
-            year_later,
-            Some(Weeks),
-            duration(false, 0, 0, 52, 1),
-        ),
-        (
-            leap_day,
-            year_later,
-            Some(Days),
-            duration(false, 0, 0, 0, 365),
-        ),
-        (leap_day, year_later, None, duration(false, 0, 0, 0, 365)),
-        (
-            year_later,
-            leap_day,
-            Some(Years),
-            duration(true, 0, 11, 0, 28),
-        ),
+    for (from, to, largest_unit, (is_negative, years, months, weeks, days)) in [
+        (LEAP_DAY, YEAR_LATER, Some(Years), (false, 0, 11, 0, 30)),
+        (LEAP_DAY, YEAR_LATER, Some(Months), (false, 0, 11, 0, 30)),
+        (LEAP_DAY, YEAR_LATER, Some(Weeks), (false, 0, 0, 52, 1)),
+        (LEAP_DAY, YEAR_LATER, Some(Days), (false, 0, 0, 0, 365)),
+        (LEAP_DAY, YEAR_LATER, None, (false, 0, 0, 0, 365)),
+        (YEAR_LATER, LEAP_DAY, Some(Years), (true, 0, 11, 0, 28)),
         (
             (2021, 1, 31),
-            year_later,
+            YEAR_LATER,
             Some(Months),
-            duration(false, 0, 0, 0, 28),
+            (false, 0, 0, 0, 28),
         ),
-        (
-            first,
-            last,
-            Some(Years),
-            duration(false, 1999998, 11, 0, 30),
-        ),
+        (FIRST, LAST, Some(Years), (false, 1999998, 11, 0, 30)),
     ] {
         let options = DateDifferenceOptions { largest_unit };
+        let want = duration(is_negative, years, months, weeks, days);
         let (first, second) = (fields(from.0, from.1, from.2), fields(to.0, to.1, to.2));
         match span(first, second, REJECT, options, ISO, ISO) {
             Ok(found) => assert_eq!(rt; found.duration, want),
@@ -135,45 +115,33 @@ fn first_bag_at_fault_is_named(rt: HostRuntime) {
     }
 }
 
+/// Eras and years of the dates that were shown in a calendar.
+type Named = (&'static str, i32);
+
 #[test]
 fn each_calendar_names_the_year(rt: HostRuntime) {
-    for (calendar, shown, from, from_shown, to, to_shown) in [
-        (
-            ISO,
-            GREGORIAN,
-            ("default", 2020),
-            ("ce", 2020),
-            ("default", -4),
-            ("bce", 5),
-        ),
-        (
-            GREGORIAN,
-            ISO,
-            ("ce", 2020),
-            ("default", 2020),
-            ("bce", 5),
-            ("default", -4),
-        ),
-        (
-            GREGORIAN,
-            GREGORIAN,
-            ("ce", 2020),
-            ("ce", 2020),
-            ("bce", 5),
-            ("bce", 5),
-        ),
+    let in_iso: (Named, Named) = (("default", 2020), ("default", -4));
+    let in_gregorian: (Named, Named) = (("ce", 2020), ("bce", 5));
+    for (calendar, shown, (from, to), (from_shown, to_shown)) in [
+        (ISO, GREGORIAN, in_iso, in_gregorian),
+        (GREGORIAN, ISO, in_gregorian, in_iso),
+        (GREGORIAN, GREGORIAN, in_gregorian, in_gregorian),
     ] {
-        let first = fields(2020, 2, 29);
-        let second = fields(-4, 12, 31);
-        match span(first, second, REJECT, IN_DAYS, calendar, shown) {
+        match span(
+            fields(2020, 2, 29),
+            fields(-4, 12, 31),
+            REJECT,
+            IN_DAYS,
+            calendar,
+            shown,
+        ) {
             Ok(found) => {
                 assert!(rt; is_named(found.from.year(), 2020, from.0, from.1));
                 assert!(rt; is_named(found.from_shown.year(), 2020, from_shown.0, from_shown.1));
                 assert!(rt; is_named(found.to.year(), -4, to.0, to.1));
                 assert!(rt; is_named(found.to_shown.year(), -4, to_shown.0, to_shown.1));
                 assert_eq!(rt; found.to.to_rata_die().to_i64_date(), -1461);
-                assert_eq!(rt; found.duration.days, 738945);
-                assert!(rt; found.duration.is_negative);
+                assert_eq!(rt; found.duration, duration(true, 0, 0, 0, 738945));
                 assert_eq!(rt; found.to_shown.month().ordinal, 12);
                 assert_eq!(rt; found.to_shown.day_of_month().0, 31);
             }

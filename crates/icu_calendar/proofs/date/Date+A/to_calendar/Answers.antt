@@ -1,6 +1,6 @@
 use Rattle.std.proofs.Common.{subst, sym, ℤ}
 use Rattle.cal_days.specs.Day.{IsValidDay}
-use Rattle.icu_calendar.proofs.dates.Date+A.to_calendar.Goals as goal
+use Rattle.icu_calendar.proofs.date.Date+A.to_calendar.Goals as goal
 
 pub from_rata_die-inner-requires : goal.from_rata_die-inner-requires
 from_rata_die-inner-requires g c =

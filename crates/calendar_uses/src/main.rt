@@ -1,0 +1,71 @@
+//! Uses of `icu_calendar`, as its callers write them, and a program that prints them.
+#![tactic(auto)]
+
+mod uses;
+
+use icu_calendar::{AnyCalendar, Date, DateDuration, Gregorian, Iso, Julian, RataDie};
+use std::io;
+use uses::{age, date_of_form, in_chosen_calendar, is_earlier, months_later, there_and_back};
+
+const GREGORIAN: AnyCalendar = AnyCalendar::Gregorian(Gregorian);
+
+/// The date of a form that is filled in rightly, and the fault of one that isn't.
+fn print_forms(rt: &HostRuntime) -> io::Result<()> {
+    for day in [29, 30] {
+        match date_of_form(2020, 2, day, GREGORIAN) {
+            Ok(date) => println!(rt; "form of 2020-02-{day}: {date:?}, a {:?}", date.weekday())?,
+            Err(fault) => println!(rt; "form of 2020-02-{day}: {fault}")?,
+        }
+    }
+    Ok(())
+}
+
+/// 2020-02-29 in the Julian calendar.
+fn print_chosen_calendar(rt: &HostRuntime) -> io::Result<()> {
+    let iso = Date::from_rata_die(RataDie::new(737484), Iso);
+    let julian = in_chosen_calendar(&iso, AnyCalendar::Julian(Julian));
+    let (day, days) = (julian.day_of_year().0, julian.days_in_year());
+    println!(rt; "the same day: {iso:?} is {julian:?}, day {day} of {days}")
+}
+
+/// One month and two months after 2020-01-31.
+fn print_recurrence(rt: &HostRuntime) -> io::Result<()> {
+    let first = Date::from_rata_die(RataDie::new(737455), GREGORIAN);
+    for months in [1, 2] {
+        match months_later(first, months) {
+            Ok(date) => println!(rt; "{months} months after the first: {date:?}")?,
+            Err(fault) => println!(rt; "{months} months after the first: {fault}")?,
+        }
+    }
+    Ok(())
+}
+
+/// The age on 2021-02-28 of who was born on 2000-02-29, and the way back.
+fn print_age(rt: &HostRuntime) -> io::Result<()> {
+    let birth = Date::from_rata_die(RataDie::new(730179), Gregorian);
+    let today = Date::from_rata_die(RataDie::new(737849), Gregorian);
+    let DateDuration {
+        years,
+        months,
+        days,
+        ..
+    } = age(&birth, &today);
+    println!(rt; "age: {years} years, {months} months and {days} days")?;
+    println!(rt; "there and back: {:?}", there_and_back(birth, &today))
+}
+
+/// The last Julian and the first Gregorian day of Britain.
+fn print_order(rt: &HostRuntime) -> io::Result<()> {
+    let last = Date::from_rata_die(RataDie::new(639796), Julian);
+    let first = Date::from_rata_die(RataDie::new(639797), Gregorian);
+    let order = is_earlier(&last, &first);
+    println!(rt; "{last:?} is earlier than {first:?}: {order}")
+}
+
+fn main(rt: HostRuntime) -> io::Result<()> {
+    print_forms(&rt)?;
+    print_chosen_calendar(&rt)?;
+    print_recurrence(&rt)?;
+    print_age(&rt)?;
+    print_order(&rt)
+}

@@ -1,0 +1,124 @@
+//! What a form, a settings page, a recurrence rule, an age, an undo and a list of events ask of dates.
+
+ghost use Rattle.std.specs.Prelude.{◌≡◌, ◌↔◌, ◌<◌, ◌<ℤ◌, IsTrue, IfOk, Err};
+ghost use Rattle.icu_calendar.specs.CalendarList.{day_number};
+ghost use Rattle.icu_calendar.specs.CalendarSystem.{resolve_fields};
+ghost use Rattle.icu_calendar.specs.Adding.{IsSum};
+ghost use Rattle.icu_calendar.specs.Difference.{IsDifference};
+ghost use Rattle.icu_calendar.specs.Dates.{answer_by};
+ghost use Rattle.icu_calendar.specs.IsoSystem.{iso_list, iso_date};
+ghost use Rattle.icu_calendar.specs.GregorianSystem.{gregorian_system, gregorian_date};
+ghost use Rattle.icu_calendar.specs.AnySystem.{any_system, any_date};
+ghost use Rattle.calendar_uses.specs.Forms.{form_fields, strictly};
+ghost use Rattle.calendar_uses.specs.Recurrence.{later_by};
+
+use icu_calendar::laws::sum_with_difference;
+use icu_calendar::{
+    AnyCalendar, AsCalendar, Calendar, Date, DateAddError, DateAddOptions, DateDifferenceOptions,
+    DateDuration, DateDurationUnit, DateFields, DateFromFieldsError, DateFromFieldsOptions,
+    Gregorian, Iso, Month, Overflow,
+};
+
+/// A form: the date that a year, the number of a month and a day name in a calendar, or the first thing that is
+/// wrong with them.
+pub fn date_of_form(
+    extended_year: i32,
+    month: u8,
+    day: u8,
+    calendar: AnyCalendar,
+) -> Result<Date<AnyCalendar>, DateFromFieldsError>
+    ensures named { let fields = form_fields extended_year month day in
+        answer_by (λ d. any_date calendar d.inner) result ≡ resolve_fields (any_system calendar) fields strictly }
+    ensures calendar { IfOk result (λ d. d.calendar ≡ calendar) }
+{
+    let fields = DateFields {
+        era: None,
+        era_year: None,
+        extended_year: Some(extended_year),
+        month: Some(Month::new(month)),
+        month_code: None,
+        ordinal_month: None,
+        day: Some(day),
+    };
+    let reject = DateFromFieldsOptions {
+        overflow: Some(Overflow::Reject),
+        missing_fields_strategy: None,
+    };
+    Date::try_from_fields(fields, reject, calendar)
+}
+
+/// A settings page: the same day in the calendar that a reader chose.
+pub fn in_chosen_calendar(date: &Date<Iso>, calendar: AnyCalendar) -> Date<AnyCalendar>
+    ensures { let shown = day_number (any_system calendar).list (any_date calendar result.inner) in
+        shown ≡ day_number iso_list (iso_date date.now.inner) }
+{
+    date.to_calendar(calendar)
+}
+
+/// A recurrence rule: the date so many months after the first one. A month that lacks the first one's day has
+/// none, and the refusal names the month's last day.
+pub fn months_later(
+    first: Date<AnyCalendar>,
+    months: u32,
+) -> Result<Date<AnyCalendar>, DateAddError>
+    ensures sum { let s = any_system first.calendar in
+        let t = any_date first.calendar first.inner in
+        let answer = answer_by (λ d. any_date first.calendar d.inner) result in
+        IsSum s.list s.year_shift t (later_by months) Overflow.Reject answer }
+    ensures lacks_day { let t = any_date first.calendar first.inner in
+        (last : _) → result ≡ Err (DateAddError.InvalidDay last) → last < t.day }
+    ensures calendar { IfOk result (λ d. d.calendar ≡ first.calendar) }
+{
+    let later = DateDuration {
+        is_negative: false,
+        years: 0,
+        months,
+        weeks: 0,
+        days: 0,
+    };
+    let reject = DateAddOptions {
+        overflow: Some(Overflow::Reject),
+    };
+    first.try_added_with_options(later, reject)
+}
+
+/// An age: the years, months and days from one date to another.
+pub fn age(birth: &Date<Gregorian>, today: &Date<Gregorian>) -> DateDuration
+    ensures { let list = gregorian_system.list in
+        let from = gregorian_date birth.now.inner in
+        IsDifference list from (gregorian_date today.now.inner) DateDurationUnit.Years result }
+{
+    let in_years = DateDifferenceOptions {
+        largest_unit: Some(DateDurationUnit::Years),
+    };
+    match birth.try_until_with_options(today, in_years) {
+        Ok(between) => between,
+        // All Gregorian calendars are compatible.
+        Err(_) => unreachable!(),
+    }
+}
+
+/// An undo: the difference from one date to another, added to the first, is the other.
+pub fn there_and_back(first: Date<Gregorian>, second: &Date<Gregorian>) -> Date<Gregorian>
+    ensures { gregorian_date result.inner ≡ gregorian_date second.now.inner }
+{
+    match sum_with_difference(first, second, DateDifferenceOptions::default()) {
+        Ok(sum) => sum,
+        // All Gregorian calendars are compatible.
+        Err(_) => unreachable!(),
+    }
+}
+
+/// A list of events: whether one day comes before another, in whatever calendars they are written.
+pub fn is_earlier<A: AsCalendar, B: AsCalendar>(first: &Date<A>, second: &Date<B>) -> bool
+where
+    A::Calendar: Calendar,
+    B::Calendar: Calendar,
+    ensures { let c = A.cal_of first.now.calendar in
+        let other = B.cal_of second.now.calendar in
+        let day = day_number (A.Calendar.system c).list (A.Calendar.date_of c first.now.inner) in
+        let other_day = day_number (B.Calendar.system other).list (B.Calendar.date_of other second.now.inner) in
+        IsTrue result ↔ day <ℤ other_day }
+{
+    first.to_rata_die() < second.to_rata_die()
+}
