@@ -1,5 +1,9 @@
 #!/usr/bin/env python3
-"""Compares the built program with the cases beside this file, and runs it on small broken inputs."""
+"""Compares the built program with the cases beside this file, and runs it on small broken inputs.
+
+The cases' answers were made by an independent implementation, written in another language from the same definitions. Which
+answer a broken line gets, `long`, `unbuilt`, `syntax` or that of a request, is told here by a grammar of its own.
+"""
 
 import random
 import re
@@ -9,25 +13,64 @@ from pathlib import Path
 
 HERE = Path(__file__).resolve().parent
 PROGRAM = [str(HERE.parent / "calspan"), "span"]
-NAMES = ["first_path", "arithmetic"]
+NAMES = ["first_path", "arithmetic", "bags", "grammar"]
 DATE = r"-?\d+/[a-z]+\.-?\d+/M\d\dL?/\d\d@-?\d+"
 DURATION = r"-?P(0D|(\d+Y)?(\d+M)?(\d+W)?(\d+D)?)"
 CAUSE = r"(NotEnoughFields|TooManyFields|Overflow|InvalidEra|InconsistentYear|MonthCodeInvalidSyntax|MonthNotInCalendar" \
         r"|MonthNotInYear|InconsistentMonth|InvalidOrdinalMonth \d+|InvalidDay \d+)"
-ANSWER = re.compile(
-    rf"ok {DATE} {DATE} {DATE} {DATE} {DURATION}|err (from|to) {CAUSE}|err line (\d+) (long|unbuilt)".encode()
-)
+ANSWER = re.compile(rf"ok {DATE} {DATE} {DATE} {DATE} {DURATION}|err (from|to) {CAUSE}".encode())
 BROKEN_INPUTS = 3000
+LONGEST_LINE = 512
+
 CALENDARS = [b"iso", b"gregorian", b"julian"]
+UNBUILT_CALENDARS = [
+    *[b"buddhist", b"chinese", b"coptic", b"dangi", b"ethiopic", b"ethioaa", b"hebrew", b"indian", b"islamic-civil"],
+    *[b"islamic-simulated", b"islamic-tbla", b"islamic-umalqura", b"japanese", b"persian", b"roc"],
+]
 UNITS = [b"years", b"months", b"weeks", b"days", b"none"]
-# What may stand as a word of a request, by its place: each word of the form, and a near miss of it.
+OVERFLOWS = [b"constrain", b"reject", b"none"]
+STRATEGIES = [b"reject", b"ecma", b"none"]
+
+# The grammar of a request. INT has an optional sign and 1 to 9 digits; BYTE has 1 to 3 digits and is at most 255.
+INT = rb"-?[0-9]{1,9}"
+BYTE = rb"(?:[01]?[0-9]{1,2}|2[0-4][0-9]|25[0-5])"
+BYTES = rb"[^ \n]*"
+FIELD = rb"|".join([
+    *[rb"era=" + BYTES, rb"era-year=" + INT, rb"year=" + INT, rb"month=M[0-9]{2}L?", rb"month-code=" + BYTES],
+    *[rb"ordinal=" + BYTE, rb"day=" + BYTE],
+])
+BAG = rb"((?: (?:" + FIELD + rb"))*)"
+
+
+def one_of(words: list[bytes]) -> bytes:
+    return rb"(" + rb"|".join(words) + rb")"
+
+
+CALENDAR = one_of([*CALENDARS, *UNBUILT_CALENDARS])
+OPTIONS = rb" ".join([one_of(UNITS), one_of(OVERFLOWS), one_of(STRATEGIES)])
+REQUEST = re.compile(rb"span " + CALENDAR + rb" " + CALENDAR + rb" " + OPTIONS + rb" from" + BAG + rb" to" + BAG)
+
+# What may stand as a word of a request, by its place: each word of the form, and near misses of some.
 WORDS = {
-    1: [*CALENDARS, b"julia", b"Iso"],
-    2: [*CALENDARS, b"gregory", b""],
+    0: [b"span", b"spans", b"row"],
+    1: [*CALENDARS, *UNBUILT_CALENDARS, b"julia", b"Iso"],
+    2: [*CALENDARS, b"roc", b"gregory", b"islamic", b""],
     3: [*UNITS, b"year", b"hours", b"Days"],
-    4: [b"reject", b"none", b"years"],
-    5: [b"reject", b"none", b"rejects"],
+    4: [*OVERFLOWS, b"constrained", b"ecma"],
+    5: [*STRATEGIES, b"ecm", b"constrain"],
 }
+# What may stand in a bag: fields of all keys, at the ends of what they take and past them.
+FIELDS = [
+    *[b"era=", b"era=ce", b"era=ad", b"era=bce", b"era=bc", b"era=default", b"era=ce=", b"era=\xc3\xa9", b"eras=ce", b"era"],
+    *[b"era-year=1", b"era-year=-999999999", b"era-year=1000000000", b"era-year=1040001", b"era-year=+1", b"era_year=1"],
+    *[b"year=0", b"year=-000000001", b"year=0000000001", b"year=999999", b"year=-", b"year=", b"year=--1", b"Year=1"],
+    *[b"month=M00", b"month=M01", b"month=M02", b"month=M12", b"month=M13", b"month=M02L"],
+    *[b"month=M1", b"month=M001", b"month=m01", b"month=M02l", b"month=2", b"month="],
+    *[b"month-code=", b"month-code=M02", b"month-code=M02L", b"month-code=M13", b"month-code=M1", b"month-codes=M02"],
+    *[b"ordinal=0", b"ordinal=2", b"ordinal=012", b"ordinal=13", b"ordinal=255", b"ordinal=256", b"ordinal=-1"],
+    *[b"day=0", b"day=1", b"day=031", b"day=32", b"day=199", b"day=256", b"day=0001", b"day=", b"day=1d", b"days=1"],
+    *[b"from", b"to", b""],
+]
 
 
 def answers(data: bytes) -> tuple[int, list[bytes]]:
@@ -56,11 +99,22 @@ def compare(name: str) -> int:
 
 
 def request_like(chance: random.Random, request: bytes) -> bytes:
-    """The request, with some of its words exchanged for others."""
+    """The request, with some of its words exchanged for others, and some left out of its bags, put in or moved."""
     words = request.split(b" ")
     for at, choices in WORDS.items():
-        if chance.random() < 0.4:
+        if at < len(words) and chance.random() < (0.02 if at == 0 else 0.1):
             words[at] = chance.choice(choices)
+    for _ in range(chance.choice([0, 0, 0, 1, 1, 2])):
+        at = chance.randrange(min(6, len(words) - 1), len(words))
+        kind = chance.randrange(4)
+        if kind == 0:
+            words[at] = chance.choice(FIELDS)
+        elif kind == 1:
+            words.insert(at + 1, chance.choice(FIELDS))
+        elif kind == 2:
+            words.insert(at + 1, words.pop(chance.randrange(len(words))))
+        elif len(words) > 1:
+            del words[at]
     return b" ".join(words)
 
 
@@ -69,13 +123,13 @@ def broken_input(chance: random.Random, requests: list[bytes]) -> bytes:
         return bytes(chance.choice(b"\r\n #=-0123456789spanio\x00\xff") for _ in range(chance.randrange(120)))
     pieces = []
     for _ in range(chance.randrange(1, 4)):
-        line = bytearray(request_like(chance, chance.choice(requests)))
-        for _ in range(chance.randrange(3)):
+        line = bytearray(request_like(chance, chance.choice(requests)) or b" ")
+        for _ in range(chance.choice([0, 0, 1, 2])):
             at = chance.randrange(len(line))
             kind = chance.randrange(3)
             if kind == 0:
                 line[at] = chance.randrange(256)
-            elif kind == 1:
+            elif kind == 1 and len(line) > 1:
                 del line[at]
             else:
                 line.insert(at, chance.choice(b" =-0123456789\r"))
@@ -83,13 +137,30 @@ def broken_input(chance: random.Random, requests: list[bytes]) -> bytes:
     return chance.choice([b"\n", b"\r\n", b"\n\n"]).join(pieces) + chance.choice([b"", b"\n"])
 
 
-def asking_lines(data: bytes) -> list[int]:
-    """The numbers of the lines that are answered."""
+def asking_lines(data: bytes) -> list[tuple[int, bytes]]:
+    """The lines that are answered, with their numbers, and with a CR at the end as it stands."""
     lines = data.split(b"\n")
     if not lines[-1]:
         lines.pop()
-    kept = [(n, line[:-1] if line.endswith(b"\r") else line) for n, line in enumerate(lines, 1)]
-    return [n for n, line in kept if line and not line.startswith(b"#")]
+    numbered = list(enumerate(lines, 1))
+    return [(n, line) for n, line in numbered if line not in (b"", b"\r") and not line.startswith(b"#")]
+
+
+def fault_of_line(line: bytes) -> str | None:
+    """What is wrong with a line that is answered; None where it is a request."""
+    if len(line) > LONGEST_LINE:
+        return "long"
+    line = line.removesuffix(b"\r")
+    if line == b"row" or line.startswith(b"row "):
+        return "unbuilt"
+    match = REQUEST.fullmatch(line)
+    if not match:
+        return "syntax"
+    for bag in match.groups()[-2:]:
+        keys = [field.split(b"=")[0] for field in bag.split(b" ")[1:]]
+        if len(set(keys)) < len(keys):
+            return "syntax"
+    return None if {match[1], match[2]} <= set(CALENDARS) else "unbuilt"
 
 
 def check_broken(chance: random.Random, requests: list[bytes]) -> None:
@@ -99,12 +170,11 @@ def check_broken(chance: random.Random, requests: list[bytes]) -> None:
     if len(got) != len(asking):
         raise SystemExit(f"{len(got)} answers to {data!r}")
     refused = False
-    for number, answer in zip(asking, got):
-        match = ANSWER.fullmatch(answer)
-        if not match:
-            raise SystemExit(f"{answer!r} is no answer, for {data!r}")
-        if answer.startswith(b"err line") and not answer.startswith(b"err line %d " % number):
-            raise SystemExit(f"{answer!r} names the wrong line, for {data!r}")
+    for (number, line), answer in zip(asking, got):
+        fault = fault_of_line(line)
+        wanted = fault and b"err line %d %s" % (number, fault.encode())
+        if not (answer == wanted if fault else ANSWER.fullmatch(answer)):
+            raise SystemExit(f"{answer!r} is no answer to {line!r}, in {data!r}")
         refused = refused or answer.startswith(b"err")
     if status != int(refused):
         raise SystemExit(f"status {status} for {data!r}")

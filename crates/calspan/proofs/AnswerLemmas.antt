@@ -3,36 +3,44 @@ use Rattle.std.proofs.Common.{◌≡◌, ℕ, ◌+◌, Bool, true, false, cond, 
 use Rattle.std.proofs.lemmas.List.{append-nil, append_assoc}
 use Rattle.line_reader.specs.Lines.{closed_lines, open_line, lines_in}
 use Rattle.line_reader.proofs.PartLemmas.{closed_lines-front}
-use Rattle.calspan.specs.Texts.{about_line}
-use Rattle.cal_model.specs.Resolving.{overflow_of}
 use Rattle.cal_model.specs.Difference.{largest_unit_of}
 use Rattle.icu_calendar.specs.AnySystem.{any_system}
 use Rattle.icu_calendar.specs.AnyLaws.{any_lawful}
 use Rattle.icu_calendar.proofs.SpanLemmas.{span-exists, span-unique}
-use Rattle.calspan.specs.Lines.{Line, Nothing, Long, Asks, Unbuilt, line_of}
-use Rattle.calspan.specs.Replies.{reply_text, is_refusal}
-use Rattle.calspan.specs.Answers.{Standing, begin, refusing, replied, IsAnswerTo, AreAnswers, status_of}
+use Rattle.calspan.specs.Lines.{Line, Nothing, Long, Asks, Unbuilt, Malformed, line_of}
+use Rattle.calspan.proofs.LineLemmas.{line_says, line_is}
+use Rattle.calspan.specs.Replies.{reply_text, is_refusal, options_of}
+use Rattle.calspan.specs.Answers.{Standing, begin, refusal, refusing, replied, IsAnswerTo, AnswersLine, AreAnswers, status_of}
 use Rattle.calspan.specs.Laws.{EveryInputHasAnswers, AnswersAreUnique, AnswersToFrontAreFront}
 
 -- there is an answer to each line
 pub answer_exists : (line : Line) (n : ℕ) (s : Standing) → (text : List ℕ) × (next : Standing) × IsAnswerTo line n s text next
 answer_exists Nothing n s = ([], s, (refl, refl))
-answer_exists Long n s = (about_line (codes "err line ") n (codes "long"), refusing s, (refl, refl))
-answer_exists (Asks r) n s =
-    let c = any_system r.calendar in let shown = any_system r.shown in
-    let found = span-exists c.list shown.list (any_lawful r.calendar) (any_lawful r.shown) r.from r.to (overflow_of r.overflow) (largest_unit_of r.unit) in
+answer_exists Long n s = (refusal n (codes "long"), refusing s, (refl, refl))
+answer_exists (Asks calendar other r) n s =
+    let c = any_system calendar in let shown = any_system other in
+    let found = span-exists c shown.list (any_lawful calendar) (any_lawful other) r.from r.to (options_of r) (largest_unit_of r.unit) in
     (reply_text c shown found.0, replied s (is_refusal found.0), (is_refusal found.0, record { answer = found.0; span = found.1; says = refl; refuses = refl }, refl))
-answer_exists Unbuilt n s = (about_line (codes "err line ") n (codes "unbuilt"), refusing s, (refl, refl))
+answer_exists Unbuilt n s = (refusal n (codes "unbuilt"), refusing s, (refl, refl))
+answer_exists Malformed n s = (refusal n (codes "syntax"), refusing s, (refl, refl))
 
 -- there is one answer to a line
 pub answer_unique : (line : Line) (n : ℕ) (s : Standing) (a b : List ℕ) (p q : Standing) → IsAnswerTo line n s a p → IsAnswerTo line n s b q → (a ≡ b) × (p ≡ q)
 answer_unique Nothing n s a b p q (x, e) (y, f) = (x ∙ sym y, e ∙ sym f)
 answer_unique Long n s a b p q (x, e) (y, f) = (x ∙ sym y, e ∙ sym f)
-answer_unique (Asks r) n s a b p q (f, x, e) (g, y, h) =
-    let c = any_system r.calendar in let shown = any_system r.shown in
-    let same = span-unique c.list shown.list r.from r.to (overflow_of r.overflow) (largest_unit_of r.unit) x.answer y.answer x.span y.span in
+answer_unique (Asks calendar other r) n s a b p q (f, x, e) (g, y, h) =
+    let c = any_system calendar in let shown = any_system other in
+    let same = span-unique c shown.list r.from r.to (options_of r) (largest_unit_of r.unit) x.answer y.answer x.span y.span in
     (x.says ∙ (ap (reply_text c shown) same ∙ sym y.says), e ∙ (ap (replied s) (x.refuses ∙ (ap is_refusal same ∙ sym y.refuses)) ∙ sym h))
 answer_unique Unbuilt n s a b p q (x, e) (y, f) = (x ∙ sym y, e ∙ sym f)
+answer_unique Malformed n s a b p q (x, e) (y, f) = (x ∙ sym y, e ∙ sym f)
+
+-- what answers a line as it is read, answers it
+answers_line : (line : List ℕ) (n : ℕ) (s : Standing) (text : List ℕ) (next : Standing) → IsAnswerTo (line_of line) n s text next → AnswersLine line n s text next
+answers_line line n s text next answer = record { said = line_of line; says = line_says line; answer = answer }
+
+answers_as_read : (line : List ℕ) (n : ℕ) (s : Standing) (text : List ℕ) (next : Standing) → AnswersLine line n s text next → IsAnswerTo (line_of line) n s text next
+answers_as_read line n s text next h = subst (λ (l : Line). IsAnswerTo l n s text next) (line_is line h.said h.says) h.answer
 
 -- there are answers to lines
 pub answers_exist : (lines : List (List ℕ)) (n : ℕ) (s : Standing) → (text : List ℕ) × (end : Standing) × AreAnswers lines n s text end
@@ -40,13 +48,13 @@ answers_exist [] n s = ([], s, (refl, refl))
 answers_exist (line ∷ more) n s =
     let (added, next, answer) = answer_exists (line_of line) n s in
     let (rest, end, answers) = answers_exist more (n + 1) next in
-    (added ++ rest, end, (added, rest, next, answer, refl, answers))
+    (added ++ rest, end, (added, rest, next, answers_line line n s added next answer, refl, answers))
 
 -- there is one text for lines, and one standing behind them
 pub answers_unique : (lines : List (List ℕ)) (n : ℕ) (s : Standing) (a b : List ℕ) (p q : Standing) → AreAnswers lines n s a p → AreAnswers lines n s b q → (a ≡ b) × (p ≡ q)
 answers_unique [] n s a b p q (x, e) (y, f) = (x ∙ sym y, e ∙ sym f)
 answers_unique (line ∷ more) n s a b p q (added, rest, next, answer, x, answers) (added', rest', next', answer', y, answers') =
-    let (same, stands) = answer_unique (line_of line) n s added added' next next' answer answer' in
+    let (same, stands) = answer_unique (line_of line) n s added added' next next' (answers_as_read line n s added next answer) (answers_as_read line n s added' next' answer') in
     let others : AreAnswers more (n + 1) next rest' q = subst (λ (t : Standing). AreAnswers more (n + 1) t rest' q) (sym stands) answers' in
     let (same_rest, ends) = answers_unique more (n + 1) next rest rest' p q answers others in
     (x ∙ (ap (λ t. t ++ rest) same ∙ (ap (λ t. added' ++ t) same_rest ∙ sym y)), ends)
@@ -68,7 +76,7 @@ pub AreAnswers-push : (lines : List (List ℕ)) (line : List ℕ) (number : ℕ)
 AreAnswers-push lines line number s m e a b is answers answer =
     let count : number ≡ 1 + length lines = omega arith in
     AreAnswers-append lines (line ∷ []) 1 s m e a b answers
-    (b, [], e, subst (λ (k : ℕ). IsAnswerTo (line_of line) k m b e) count answer, sym (append-nil b), (refl, refl))
+    (b, [], e, answers_line line (1 + length lines) m b e (subst (λ (k : ℕ). IsAnswerTo (line_of line) k m b e) count answer), sym (append-nil b), (refl, refl))
 
 -- the answers to the first lines are a front of the answers to all
 pub answers_front : (lines more : List (List ℕ)) (s m : Standing) (a : List ℕ) → AreAnswers lines 1 s a m → (rest : List ℕ) × (end : Standing) × AreAnswers (lines ++ more) 1 s (a ++ rest) end

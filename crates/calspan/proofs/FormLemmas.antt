@@ -1,19 +1,14 @@
 -- Words are read as a request exactly where they are of the form of a request line.
-use Rattle.std.proofs.Common.{◌≡◌, ℕ, Bool, true, false, cond, List, [], ◌∷◌, ◌++◌, Option, Some, None, length, drop, nat_eq, refl, ◌∙◌, sym, ap, subst, codes}
-use Rattle.std.proofs.lemmas.Bool.Decides.{Decides-eqb}
-use Rattle.std.proofs.lemmas.Slice.Eq.{slice_eq-Decides, starts_is}
-use Rattle.std.proofs.lemmas.List.{drop_at}
-use Rattle.std.specs.Cmp.Lexicographic.{pointwise}
-use Rattle.std.specs.List.{starts_with}
+use Rattle.std.proofs.Common.{◌≡◌, ℕ, Bool, true, false, cond, List, [], ◌∷◌, ◌++◌, Option, Some, None, refl, ◌∙◌, sym, ap, subst, codes}
 use Rattle.std.specs.Option.{option_map}
-use Rattle.cal_types.specs.Month.{month_read}
 use Rattle.cal_types.specs.Bag.{Bag}
-use Rattle.calspan.specs.Words.{int_of, byte_of}
-use Rattle.calspan.specs.Reading.{Read, next_word, and_then, keyed}
-use Rattle.cal_types.specs.declared.options.Overflow.TheVariants as on_overflow
-use Rattle.cal_types.specs.declared.options.MissingFieldsStrategy.TheVariants as on_missing
-use Rattle.calspan.specs.Requests.{Request, Header, calendar_named, unit_named, option_word, fixed_word, bag_read, header_read, request_read, request_of, at_end, plain_bag}
-use Rattle.calspan.specs.Forms.{BagTexts, Texts, bag_words, request_words, SaysBag, Says, IsRequest, RequestsHaveOneForm}
+use Rattle.calspan.specs.Command.{is_text}
+use Rattle.calspan.specs.Reading.{Read, next_word, and_then}
+use Rattle.calspan.specs.Bags.{no_fields, bag_before_to, bag_of_all}
+use Rattle.calspan.specs.BagForms.{SaysBag}
+use Rattle.calspan.specs.Requests.{Request, Header, calendar_named, unit_named, overflow_named, missing_fields_named, fixed_word, header_read, request_read, request_of}
+use Rattle.calspan.specs.Forms.{RequestWords, all_words, Says, IsRequest, RequestsHaveOneForm}
+use Rattle.calspan.proofs.BagLemmas.{same_text, is_same_text, some_pair, bag_is, bag_reads, before_is, before_reads}
 
 -- a next word was read
 pub record IsNext {T U : Type 0} (read : List ℕ → Option T) (words : List (List ℕ)) (next : T → List (List ℕ) → Option U) (z : U) : Type 0 where
@@ -24,7 +19,8 @@ pub record IsNext {T U : Type 0} (read : List ℕ → Option T) (words : List (L
   pub reads : read word ≡ Some x
   pub then : next x rest ≡ Some z
 
-pub next_is : {T U : Type 0} (read : List ℕ → Option T) (words : List (List ℕ)) (next : T → List (List ℕ) → Option U) (z : U) → and_then (next_word read words) next ≡ Some z → IsNext read words next z
+pub next_is : {T U : Type 0} (read : List ℕ → Option T) (words : List (List ℕ)) (next : T → List (List ℕ) → Option U) (z : U)
+    → and_then (next_word read words) next ≡ Some z → IsNext read words next z
 next_is read [] next z e = cc
 next_is {T} read (word ∷ words) next z e = by (read word) refl e
   where
@@ -39,7 +35,8 @@ pub record IsThen {T U : Type 0} (reading : Read T) (next : T → List (List ℕ
   pub reads : reading ≡ Some (x, rest)
   pub then : next x rest ≡ Some z
 
-pub then_is : {T U : Type 0} (reading : Read T) (next : T → List (List ℕ) → Option U) (z : U) → and_then reading next ≡ Some z → IsThen reading next z
+pub then_is : {T U : Type 0} (reading : Read T) (next : T → List (List ℕ) → Option U) (z : U) → and_then reading next ≡ Some z
+    → IsThen reading next z
 then_is None next z e = cc
 then_is (Some (x, words)) next z e = record { x = x; rest = words; reads = refl; then = e }
 
@@ -47,72 +44,29 @@ then_is (Some (x, words)) next z e = record { x = x; rest = words; reads = refl;
 pub fixed_is : (name word : List ℕ) (x : Unit {0}) → fixed_word name word ≡ Some x → word ≡ name
 fixed_is name word x e = by _ refl e
   where
-    by : (t : Bool) → t ≡ (pointwise nat_eq word name) → cond t (Some tt) None ≡ Some x → word ≡ name
-    by true q e = (slice_eq-Decides Decides-eqb word name true q).0 refl
+    by : (t : Bool) → t ≡ is_text word name → cond t (Some tt) None ≡ Some x → word ≡ name
+    by true q e = same_text word name (sym q)
     by false q e = cc
 
 pub fixed_reads : (name : List ℕ) → fixed_word name name ≡ Some tt
-fixed_reads name = ap (λ t. cond t (Some tt) None) ((slice_eq-Decides Decides-eqb name name _ refl).1 refl)
-
--- a key and what it names
-pub record IsKeyed {T : Type 0} (key : List ℕ) (read : List ℕ → Option T) (word : List ℕ) (x : T) : Type 0 where
-  pub value : List ℕ
-  pub is : word ≡ key ++ value
-  pub reads : read value ≡ Some x
-
-pub keyed_is : {T : Type 0} (key : List ℕ) (read : List ℕ → Option T) (word : List ℕ) (x : T) → keyed key read word ≡ Some x → IsKeyed key read word x
-keyed_is {T} key read word x e = by (starts_with nat_eq word key) refl e
-  where
-    by : (t : Bool) → t ≡ starts_with nat_eq word key → cond t (read (drop (length key) word)) None ≡ Some x → IsKeyed key read word x
-    by true q e = record { value = drop (length key) word; is = (starts_is Decides-eqb word key true q).0 refl; reads = e }
-    by false q e = cc
-
-pub keyed_reads : {T : Type 0} (key : List ℕ) (read : List ℕ → Option T) (value : List ℕ) (x : T) → read value ≡ Some x → keyed key read (key ++ value) ≡ Some x
-keyed_reads key read value x e =
-    let starts : starts_with nat_eq (key ++ value) key ≡ true = (starts_is Decides-eqb (key ++ value) key _ refl).1 value refl in
-    let behind : drop (length key) (key ++ value) ≡ value = drop_at key value (length key) refl in
-    ap (λ t. cond t (read (drop (length key) (key ++ value))) None) starts ∙ (ap read behind ∙ e)
+fixed_reads name = ap (λ t. cond t (Some tt) None) (is_same_text name name refl)
 
 -- a next word is read
-pub next_reads : {T U : Type 0} (read : List ℕ → Option T) (word : List ℕ) (rest : List (List ℕ)) (next : T → List (List ℕ) → Option U) (x : T) → read word ≡ Some x → and_then (next_word read (word ∷ rest)) next ≡ next x rest
+pub next_reads : {T U : Type 0} (read : List ℕ → Option T) (word : List ℕ) (rest : List (List ℕ)) (next : T → List (List ℕ) → Option U) (x : T)
+    → read word ≡ Some x → and_then (next_word read (word ∷ rest)) next ≡ next x rest
 next_reads read word rest next x e = ap (λ o. and_then (option_map (λ y. (y, rest)) o) next) e
 
-pub some_pair : {T U : Type 0} (a b : T) (x y : U) → ◌≡◌ {A = Option (T × U)} (Some (a, x)) (Some (b, y)) → (a ≡ b) × (x ≡ y)
-some_pair {T} {U} a b x y e =
-    let same : ◌≡◌ {A = T × U} (a, x) (b, y) = cc in
-    (ap (λ (p : T × U). p.0) same, ap (λ (p : T × U). p.1) same)
+-- a reading that something was made of
+record IsMapped {T U : Type 0} (f : T → U) (o : Option T) (z : U) : Type 0 where
+  pub x : T
+  pub reads : o ≡ Some x
+  pub is : f x ≡ z
 
--- a bag was read
-pub record IsBagRead (words : List (List ℕ)) (bag : Bag) (rest : List (List ℕ)) : Type 0 where
-  pub texts : BagTexts
-  pub form : words ≡ bag_words texts rest
-  pub says : SaysBag texts bag
-
-pub bag_is : (words : List (List ℕ)) (bag : Bag) (rest : List (List ℕ)) → bag_read words ≡ Some (bag, rest) → IsBagRead words bag rest
-unfolding bag_read
-bag_is words bag rest e =
-    let y = next_is (keyed (codes "year=") int_of) words _ (bag, rest) e in
-    let m = next_is (keyed (codes "month=") month_read) y.rest _ (bag, rest) y.then in
-    let d = next_is (keyed (codes "day=") byte_of) m.rest _ (bag, rest) m.then in
-    let ky = keyed_is (codes "year=") int_of y.word y.x y.reads in
-    let km = keyed_is (codes "month=") month_read m.word m.x m.reads in
-    let kd = keyed_is (codes "day=") byte_of d.word d.x d.reads in
-    let (bag_e, rest_e) = some_pair (plain_bag y.x m.x d.x) bag d.rest rest d.then in
-    let third : m.rest ≡ (codes "day=" ++ kd.value) ∷ rest = d.is ∙ λ i. kd.is i ∷ rest_e i in
-    let second : y.rest ≡ (codes "month=" ++ km.value) ∷ (codes "day=" ++ kd.value) ∷ rest = m.is ∙ λ i. km.is i ∷ third i in
-    record {
-      texts = record { year = ky.value; month = km.value; day = kd.value };
-      form = y.is ∙ λ i. ky.is i ∷ second i;
-      says = record { year = y.x; month = m.x; day = d.x; says_year = ky.reads; says_month = km.reads; says_day = kd.reads; is = sym bag_e };
-    }
-
-pub bag_reads : (t : BagTexts) (bag : Bag) (rest : List (List ℕ)) → SaysBag t bag → bag_read (bag_words t rest) ≡ Some (bag, rest)
-unfolding bag_read
-bag_reads t bag rest s =
-    next_reads (keyed (codes "year=") int_of) (codes "year=" ++ t.year) ((codes "month=" ++ t.month) ∷ (codes "day=" ++ t.day) ∷ rest) _ s.year (keyed_reads (codes "year=") int_of t.year s.year s.says_year)
-    ∙ (next_reads (keyed (codes "month=") month_read) (codes "month=" ++ t.month) ((codes "day=" ++ t.day) ∷ rest) _ s.month (keyed_reads (codes "month=") month_read t.month s.month s.says_month)
-    ∙ (next_reads (keyed (codes "day=") byte_of) (codes "day=" ++ t.day) rest _ s.day (keyed_reads (codes "day=") byte_of t.day s.day s.says_day)
-    ∙ ap (λ b. Some (b, rest)) (sym s.is)))
+mapped_is : {T U : Type 0} (f : T → U) (o : Option T) (z : U) → option_map f o ≡ Some z → IsMapped f o z
+mapped_is f None z e = cc
+mapped_is f (Some x) z e =
+    let same : f x ≡ z = cc in
+    record { x = x; reads = refl; is = same }
 
 -- a header was read
 pub record IsHeaderRead (words : List (List ℕ)) (h : Header) (rest : List (List ℕ)) : Type 0 where
@@ -125,18 +79,19 @@ pub record IsHeaderRead (words : List (List ℕ)) (h : Header) (rest : List (Lis
   pub says_calendar : calendar_named calendar ≡ Some h.calendar
   pub says_shown : calendar_named shown ≡ Some h.shown
   pub says_unit : unit_named unit ≡ Some h.unit
-  pub says_overflow : option_word (codes "reject") on_overflow.Reject overflow ≡ Some h.overflow
-  pub says_missing : option_word (codes "reject") on_missing.Reject missing_fields ≡ Some h.missing_fields
+  pub says_overflow : overflow_named overflow ≡ Some h.overflow
+  pub says_missing : missing_fields_named missing_fields ≡ Some h.missing_fields
 
-pub header_is : (words : List (List ℕ)) (h : Header) (rest : List (List ℕ)) → header_read words ≡ Some (h, rest) → IsHeaderRead words h rest
+pub header_is : (words : List (List ℕ)) (h : Header) (rest : List (List ℕ)) → header_read words ≡ Some (h, rest)
+    → IsHeaderRead words h rest
 unfolding header_read
 header_is words h rest e =
     let a = next_is (fixed_word (codes "span")) words _ (h, rest) e in
     let b = next_is calendar_named a.rest _ (h, rest) a.then in
     let c = next_is calendar_named b.rest _ (h, rest) b.then in
     let d = next_is unit_named c.rest _ (h, rest) c.then in
-    let f = next_is (option_word (codes "reject") on_overflow.Reject) d.rest _ (h, rest) d.then in
-    let g = next_is (option_word (codes "reject") on_missing.Reject) f.rest _ (h, rest) f.then in
+    let f = next_is overflow_named d.rest _ (h, rest) d.then in
+    let g = next_is missing_fields_named f.rest _ (h, rest) f.then in
     let k = next_is (fixed_word (codes "from")) g.rest _ (h, rest) g.then in
     let span = fixed_is (codes "span") a.word a.x a.reads in
     let from = fixed_is (codes "from") k.word k.x k.reads in
@@ -163,54 +118,45 @@ pub request_is : (words : List (List ℕ)) (r : Request) → request_read words 
 unfolding request_read
 request_is words r e =
     let h = then_is (header_read words) _ r e in
-    let f = then_is (bag_read h.rest) _ r h.then in
-    let t = next_is (fixed_word (codes "to")) f.rest _ r f.then in
-    let u = then_is (bag_read t.rest) _ r t.then in
+    let f = then_is (bag_before_to (Some no_fields) h.rest) _ r h.then in
+    let t = mapped_is (request_of h.x f.x) (bag_of_all (Some no_fields) f.rest) r f.then in
     let header = header_is words h.x h.rest h.reads in
-    let from = bag_is h.rest f.x f.rest f.reads in
-    let to = bag_is t.rest u.x u.rest u.reads in
-    let word = fixed_is (codes "to") t.word t.x t.reads in
-    let end = at_end_is (request_of h.x f.x u.x) u.rest r u.then in
-    let is : request_of h.x f.x u.x ≡ r = end.1 in
-    let second : f.rest ≡ codes "to" ∷ bag_words to.texts [] = t.is ∙ λ i. word i ∷ (to.form ∙ ap (bag_words to.texts) end.0) i in
-    let first : h.rest ≡ bag_words from.texts (codes "to" ∷ bag_words to.texts []) = from.form ∙ ap (bag_words from.texts) second in
+    let front = before_is h.rest no_fields f.x f.rest f.reads in
+    let is : request_of h.x f.x t.x ≡ r = t.is in
+    let from = bag_is front.front f.x front.reads in
+    let to = bag_is f.rest t.x t.reads in
     record {
-      texts = record { calendar = header.calendar; shown = header.shown; unit = header.unit; overflow = header.overflow; missing_fields = header.missing_fields; from = from.texts; to = to.texts };
-      form = header.form ∙ ap (λ l. codes "span" ∷ header.calendar ∷ header.shown ∷ header.unit ∷ header.overflow ∷ header.missing_fields ∷ codes "from" ∷ l) first;
+      parts = record { calendar = header.calendar; shown = header.shown; unit = header.unit; overflow = header.overflow; missing_fields = header.missing_fields; from = front.front; to = f.rest };
+      form = header.form ∙ ap (λ l. codes "span" ∷ header.calendar ∷ header.shown ∷ header.unit ∷ header.overflow ∷ header.missing_fields ∷ codes "from" ∷ l) front.form;
       says = record {
         calendar = header.says_calendar ∙ ap (λ (t : Request). Some t.calendar) is;
         shown = header.says_shown ∙ ap (λ (t : Request). Some t.shown) is;
         unit = header.says_unit ∙ ap (λ (t : Request). Some t.unit) is;
         overflow = header.says_overflow ∙ ap (λ (t : Request). Some t.overflow) is;
         missing_fields = header.says_missing ∙ ap (λ (t : Request). Some t.missing_fields) is;
-        from = subst (λ (r : Request). SaysBag from.texts r.from) is from.says;
-        to = subst (λ (r : Request). SaysBag to.texts r.to) is to.says;
+        from = subst (λ (r : Request). SaysBag front.front r.from) is from;
+        to = subst (λ (r : Request). SaysBag f.rest r.to) is to;
       };
     }
-  where
-    at_end_is : (x : Request) (words : List (List ℕ)) (r : Request) → at_end x words ≡ Some r → (words ≡ []) × (x ≡ r)
-    at_end_is x [] r e = (refl, cc)
-    at_end_is x (word ∷ words) r e = cc
 
-pub header_reads : (t : Texts) (r : Request) (rest : List (List ℕ)) → Says t r → header_read (codes "span" ∷ t.calendar ∷ t.shown ∷ t.unit ∷ t.overflow ∷ t.missing_fields ∷ codes "from" ∷ rest) ≡ Some (record { calendar = r.calendar; shown = r.shown; unit = r.unit; overflow = r.overflow; missing_fields = r.missing_fields }, rest)
+pub header_reads : (t : RequestWords) (r : Request) (rest : List (List ℕ)) → Says t r
+    → header_read (codes "span" ∷ t.calendar ∷ t.shown ∷ t.unit ∷ t.overflow ∷ t.missing_fields ∷ codes "from" ∷ rest) ≡ Some (record { calendar = r.calendar; shown = r.shown; unit = r.unit; overflow = r.overflow; missing_fields = r.missing_fields }, rest)
 unfolding header_read
 header_reads t r rest s =
     next_reads calendar_named t.calendar (t.shown ∷ t.unit ∷ t.overflow ∷ t.missing_fields ∷ codes "from" ∷ rest) _ r.calendar s.calendar
     ∙ (next_reads calendar_named t.shown (t.unit ∷ t.overflow ∷ t.missing_fields ∷ codes "from" ∷ rest) _ r.shown s.shown
     ∙ (next_reads unit_named t.unit (t.overflow ∷ t.missing_fields ∷ codes "from" ∷ rest) _ r.unit s.unit
-    ∙ (next_reads (option_word (codes "reject") on_overflow.Reject) t.overflow (t.missing_fields ∷ codes "from" ∷ rest) _ r.overflow s.overflow
-    ∙ (next_reads (option_word (codes "reject") on_missing.Reject) t.missing_fields (codes "from" ∷ rest) _ r.missing_fields s.missing_fields))))
+    ∙ (next_reads overflow_named t.overflow (t.missing_fields ∷ codes "from" ∷ rest) _ r.overflow s.overflow
+    ∙ (next_reads missing_fields_named t.missing_fields (codes "from" ∷ rest) _ r.missing_fields s.missing_fields))))
 
-pub request_reads : (t : Texts) (r : Request) → Says t r → request_read (request_words t) ≡ Some r
+pub request_reads : (w : RequestWords) (r : Request) → Says w r → request_read (all_words w) ≡ Some r
 unfolding request_read
-request_reads t r s =
+request_reads w r s =
     let h : Header = record { calendar = r.calendar; shown = r.shown; unit = r.unit; overflow = r.overflow; missing_fields = r.missing_fields } in
-    let to = bag_words t.to [] in
-    let header = header_reads t r (bag_words t.from (codes "to" ∷ to)) s in
-    ap (λ o. and_then o (λ h words. and_then (bag_read words) (λ from words. and_then (next_word (fixed_word (codes "to")) words) (λ _ words. and_then (bag_read words) (λ to words. at_end (request_of h from to) words))))) header
-    ∙ (ap (λ o. and_then o (λ from words. and_then (next_word (fixed_word (codes "to")) words) (λ _ words. and_then (bag_read words) (λ to words. at_end (request_of h from to) words)))) (bag_reads t.from r.from (codes "to" ∷ to) s.from)
-    ∙ (ap (λ o. and_then (option_map (λ y. (y, to)) o) (λ _ words. and_then (bag_read words) (λ to words. at_end (request_of h r.from to) words))) (fixed_reads (codes "to"))
-    ∙ ap (λ o. and_then o (λ to words. at_end (request_of h r.from to) words)) (bag_reads t.to r.to [] s.to)))
+    let header = header_reads w r (w.from ++ codes "to" ∷ w.to) s in
+    ap (λ o. and_then o (λ h words. and_then (bag_before_to (Some no_fields) words) (λ from words. option_map (request_of h from) (bag_of_all (Some no_fields) words)))) header
+    ∙ (ap (λ o. and_then o (λ from words. option_map (request_of h from) (bag_of_all (Some no_fields) words))) (before_reads w.from no_fields r.from w.to (bag_reads w.from r.from s.from))
+    ∙ ap (option_map (request_of h r.from)) (bag_reads w.to r.to s.to))
 
 pub one_form : RequestsHaveOneForm
-one_form words r = (request_is words r, λ f. ap request_read f.form ∙ request_reads f.texts r f.says)
+one_form words r = (request_is words r, λ f. ap request_read f.form ∙ request_reads f.parts r f.says)

@@ -1,5 +1,8 @@
 pub mod AnswerLemmas
 mod SplitLemmas
+mod FieldLemmas
+pub mod BagLemmas
+mod LineLemmas
 mod KnownLemmas
 pub mod FormLemmas
 mod RunLemmas

@@ -2,7 +2,7 @@
 use Rattle.std.specs.Prelude.{◌≡◌, ℕ, ◌+◌, Bool, true, false, List, [], ◌∷◌, ◌++◌, codes, if◌then◌else◌}
 use Rattle.line_reader.specs.Lines.{lines_in}
 use Rattle.calspan.specs.Texts.{about_line}
-use Rattle.calspan.specs.Lines.{Line, Nothing, Long, Asks, Unbuilt, line_of}
+use Rattle.calspan.specs.Lines.{Line, Nothing, Long, Asks, Unbuilt, Malformed, IsLine}
 use Rattle.calspan.specs.Replies.{IsReply}
 use Rattle.calspan.specs.declared.status.Status.{Status}
 use Rattle.calspan.specs.declared.status.Status.TheVariants.{Done, Refused}
@@ -23,18 +23,29 @@ refusing s = record { refused = true }
 abbrev pub replied : Standing → Bool → Standing
 replied s refused = if refused then refusing s else s
 
+-- the line that refuses the line of number n
+abbrev pub refusal : ℕ → List ℕ → List ℕ
+refusal n why = about_line (codes "err line ") n why
+
 -- the text that answers the line of number n, and what stands behind it
 abbrev pub IsAnswerTo : Line → ℕ → Standing → List ℕ → Standing → Type 0
 IsAnswerTo Nothing n s text next = (text ≡ []) × (next ≡ s)
-IsAnswerTo Long n s text next = (text ≡ about_line (codes "err line ") n (codes "long")) × (next ≡ refusing s)
-IsAnswerTo (Asks r) n s text next = (refused : Bool) × IsReply r text refused × (next ≡ replied s refused)
-IsAnswerTo Unbuilt n s text next = (text ≡ about_line (codes "err line ") n (codes "unbuilt")) × (next ≡ refusing s)
+IsAnswerTo Long n s text next = (text ≡ refusal n (codes "long")) × (next ≡ refusing s)
+IsAnswerTo (Asks c shown r) n s text next = (refused : Bool) × IsReply c shown r text refused × (next ≡ replied s refused)
+IsAnswerTo Unbuilt n s text next = (text ≡ refusal n (codes "unbuilt")) × (next ≡ refusing s)
+IsAnswerTo Malformed n s text next = (text ≡ refusal n (codes "syntax")) × (next ≡ refusing s)
+
+-- the text that answers what a line says
+pub record AnswersLine (line : List ℕ) (n : ℕ) (s : Standing) (text : List ℕ) (next : Standing) : Type 0 where
+  pub said : Line
+  pub says : IsLine line said
+  pub answer : IsAnswerTo said n s text next
 
 -- the text that answers some lines, the first of which has number n, and what stands behind them
 abbrev pub AreAnswers : List (List ℕ) → ℕ → Standing → List ℕ → Standing → Type 0
 AreAnswers [] n s text end = (text ≡ []) × (end ≡ s)
 AreAnswers (line ∷ more) n s text end =
-    (added rest : List ℕ) × (next : Standing) × IsAnswerTo (line_of line) n s added next × (text ≡ added ++ rest) × AreAnswers more (n + 1) next rest end
+    (added rest : List ℕ) × (next : Standing) × AnswersLine line n s added next × (text ≡ added ++ rest) × AreAnswers more (n + 1) next rest end
 
 -- the status where the input ends
 abbrev pub status_of : Standing → Status

@@ -3,12 +3,15 @@ pub mod WordsLeft
 pub mod Command
 pub mod Status
 pub mod Texts
-pub mod Lines
 pub mod RequestSaid
 pub mod LineSaid
 pub mod Reading
+pub mod Bags
+pub mod FieldSaid
 pub mod Requests
+pub mod BagForms
 pub mod Forms
+pub mod Lines
 pub mod Replies
 pub mod Answers
 pub mod Standing

@@ -1,25 +1,67 @@
 -- What a line says.
-use Rattle.std.specs.Prelude.{ℕ, Bool, List, ◌==◌, ◌||◌, nat_lt, length, slice_index, Option, Some, None, if◌then◌else◌}
+use Rattle.std.specs.Prelude.{◌≡◌, ℕ, Bool, true, false, List, ◌==◌, ◌⊎◌, ◌||◌, nat_lt, nat_eq, length, slice_index, Option, Some, None, codes, if◌then◌else◌}
+use Rattle.std.specs.List.{starts_with}
 use Rattle.std.specs.Str.Lines.{strip_carriage_return}
+use Rattle.icu_calendar.specs.declared.any_calendar.AnyCalendar.{AnyCalendar}
+use Rattle.calspan.specs.Command.{is_text}
 use Rattle.calspan.specs.Words.{words_of}
 use Rattle.calspan.specs.Requests.{Request, request_read}
+use Rattle.calspan.specs.Forms.{IsRequest}
+use Rattle.calspan.specs.declared.request.CalendarName.{CalendarName}
+use Rattle.calspan.specs.declared.request.CalendarName.TheVariants as name
 
--- a line that gives nothing, a request line that is too long, a request, and a line that can't be answered yet
+-- a line that gives nothing, a request line that is too long, a request in two calendars, a line that can't be answered yet, and one that is
+-- no request
 pub data Line : Type 0 where
   Nothing : Line
   Long : Line
-  Asks : Request → Line
+  Asks : AnyCalendar → AnyCalendar → Request → Line
   Unbuilt : Line
+  Malformed : Line
 
--- a line that says a request, or no request that can be answered yet
-abbrev pub asked : Option Request → Line
-asked None = Unbuilt
-asked (Some r) = Asks r
+-- a request in calendars of these names: it can't be answered yet where one isn't built
+abbrev pub asks : CalendarName → CalendarName → Request → Line
+asks (name.Built calendar) (name.Built shown) r = Asks calendar shown r
+asks (name.Built calendar) name.Unbuilt r = Unbuilt
+asks name.Unbuilt shown r = Unbuilt
+
+-- whether a line is a row line: `row`, alone or before a space
+abbrev pub is_row : List ℕ → Bool
+is_row text = is_text text (codes "row") || starts_with nat_eq text (codes "row ")
 
 -- without the carriage return at its end, it is empty or a comment
 abbrev pub is_silent : List ℕ → Bool
 is_silent line = length (strip_carriage_return line) == 0 || slice_index line 0 == 35
 
+-- the words are a request, and the line asks it
+pub record SaysRequest (text : List ℕ) (said : Line) : Type 0 where
+  pub request : Request
+  pub form : IsRequest (words_of text) request
+  pub asks_it : said ≡ asks request.calendar request.shown request
+
+-- the words are no request
+pub record SaysNone (text : List ℕ) (said : Line) : Type 0 where
+  pub none : (r : Request) → IsRequest (words_of text) r → ⊥
+  pub malformed : said ≡ Malformed
+
+-- what a line says that is silent or not, too long or not, and a row line or not
+abbrev pub SaysAs : Bool → Bool → Bool → List ℕ → Line → Type 0
+SaysAs true long row text said = said ≡ Nothing
+SaysAs false true row text said = said ≡ Long
+SaysAs false false true text said = said ≡ Unbuilt
+SaysAs false false false text said = SaysRequest text said ⊎ SaysNone text said
+
 -- what a line says, by its bytes without the LF
+abbrev pub IsLine : List ℕ → Line → Type 0
+IsLine line said = let text = strip_carriage_return line in SaysAs (is_silent line) (nat_lt 512 (length line)) (is_row text) text said
+
+-- the same, as it is read word after word
+abbrev pub asked : Option Request → Line
+asked None = Malformed
+asked (Some r) = asks r.calendar r.shown r
+
+abbrev pub said_by : List ℕ → Line
+said_by text = if is_row text then Unbuilt else asked (request_read (words_of text))
+
 abbrev pub line_of : List ℕ → Line
-line_of line = if is_silent line then Nothing else (if nat_lt 512 (length line) then Long else asked (request_read (words_of (strip_carriage_return line))))
+line_of line = if is_silent line then Nothing else (if nat_lt 512 (length line) then Long else said_by (strip_carriage_return line))

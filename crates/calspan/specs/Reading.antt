@@ -1,6 +1,5 @@
 -- Reading words one after another.
-use Rattle.std.specs.Prelude.{◌≡◌, List, [], ◌∷◌, ℕ, Option, Some, None, MatchOption, nat_eq, drop, length, if◌then◌else◌}
-use Rattle.std.specs.List.{starts_with}
+use Rattle.std.specs.Prelude.{◌≡◌, List, [], ◌∷◌, ℕ, Option, Some, None, MatchOption}
 use Rattle.std.specs.Option.{option_map}
 
 -- what the first of some words say, and the words behind them
@@ -16,10 +15,6 @@ next_word read (word ∷ words) = option_map (λ x. (x, words)) (read word)
 abbrev pub and_then : {T U : Type 0} → Read T → (T → List (List ℕ) → Option U) → Option U
 and_then None next = None
 and_then (Some (x, words)) next = next x words
-
--- what follows a key, as 5 in `day=5`
-abbrev pub keyed : {T : Type 0} → List ℕ → (List ℕ → Option T) → List ℕ → Option T
-keyed key read word = if starts_with nat_eq word key then read (drop (length key) word) else None
 
 -- a reading was made, and these words are left; or there is none
 abbrev pub IsReading : {T : Type 0} → Read T → Option T → List (List ℕ) → Type 0

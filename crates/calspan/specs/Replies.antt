@@ -10,10 +10,11 @@ use Rattle.cal_types.specs.declared.errors.DateFromFieldsError.{DateFromFieldsEr
 use Rattle.cal_types.specs.declared.errors.DateFromFieldsError.TheVariants as cause
 use Rattle.cal_model.specs.CalendarList.{Date, month_at, day_number}
 use Rattle.cal_model.specs.CalendarSystem.{CalendarSystem}
-use Rattle.cal_model.specs.Resolving.{overflow_of}
+use Rattle.cal_types.specs.declared.options.DateFromFieldsOptions.{DateFromFieldsOptions}
 use Rattle.cal_model.specs.Difference.{largest_unit_of}
 use Rattle.icu_calendar.specs.AnySystem.{any_system}
 use Rattle.icu_calendar.specs.Spans.{SpanDates, IsSpan}
+use Rattle.icu_calendar.specs.declared.any_calendar.AnyCalendar.{AnyCalendar}
 use Rattle.icu_calendar.specs.declared.span_parts.BagSide.{BagSide}
 use Rattle.icu_calendar.specs.declared.span_parts.BagSide.TheVariants.{From, To}
 use Rattle.icu_calendar.specs.declared.span_parts.SpanError.{SpanError}
@@ -25,11 +26,15 @@ abbrev pub year_text : YearInfo → List ℕ
 year_text (Era y) = y.era ++ 46 ∷ signed_decimal y.year
 year_text (Cyclic y) = codes "cycle." ++ decimal y.year
 
--- extended year, printed year, month code, day and day number, as `2020/ce.2020/M02/29@737484`
-abbrev pub date_text : CalendarSystem → Date → List ℕ
-date_text s t =
+-- extended year, printed year, month code, day and the text of a day number, as `2020/ce.2020/M02/29@737484`
+abbrev pub numbered_text : CalendarSystem → Date → List ℕ → List ℕ
+numbered_text s t number =
     signed_decimal t.year ++ 47 ∷ year_text (s.year_info t) ++ 47 ∷ code_text (month_at s.list t.year t.month)
-    ++ 47 ∷ two_digits t.day ++ 64 ∷ signed_decimal (day_number s.list t)
+    ++ 47 ∷ two_digits t.day ++ 64 ∷ number
+
+-- a date, with its day number
+abbrev pub date_text : CalendarSystem → Date → List ℕ
+date_text s t = numbered_text s t (signed_decimal (day_number s.list t))
 
 -- a part of a duration, where it isn't 0
 abbrev pub part_text : ℕ → ℕ → List ℕ
@@ -65,22 +70,41 @@ abbrev pub side_text : BagSide → List ℕ
 side_text From = codes "from"
 side_text To = codes "to"
 
--- both dates, each before the same day in the second calendar
-abbrev pub dates_text : CalendarSystem → CalendarSystem → SpanDates → List ℕ
-dates_text c shown s = date_text c s.from ++ 32 ∷ date_text shown s.from_shown ++ 32 ∷ date_text c s.to ++ 32 ∷ date_text shown s.to_shown
+-- a date, and the same day in the second calendar
+abbrev pub day_text : CalendarSystem → CalendarSystem → Date → Date → List ℕ
+day_text c shown t u = date_text c t ++ 32 ∷ date_text shown u
+
+-- both days, and the difference
+abbrev pub span_text : CalendarSystem → CalendarSystem → SpanDates → List ℕ
+span_text c shown s =
+    codes "ok " ++ day_text c shown s.from s.from_shown ++ 32 ∷ day_text c shown s.to s.to_shown
+    ++ 32 ∷ duration_text s.duration ++ 10 ∷ []
+
+-- which bag is at fault, and why
+abbrev pub error_text : SpanError → List ℕ
+error_text e = codes "err " ++ side_text e.side ++ 32 ∷ cause_text e.cause ++ 10 ∷ []
 
 -- both dates with the same days in the second calendar, and the difference; or the first fault
 abbrev pub reply_text : CalendarSystem → CalendarSystem → Result SpanDates SpanError → List ℕ
-reply_text c shown (Ok s) = codes "ok " ++ dates_text c shown s ++ 32 ∷ duration_text s.duration ++ 10 ∷ []
-reply_text c shown (Err e) = codes "err " ++ side_text e.side ++ 32 ∷ cause_text e.cause ++ 10 ∷ []
+reply_text c shown (Ok s) = span_text c shown s
+reply_text c shown (Err e) = error_text e
 
 abbrev pub is_refusal : Result SpanDates SpanError → Bool
 is_refusal (Ok s) = false
 is_refusal (Err e) = true
 
--- the text that answers a request, and whether it is a refusal
-pub record IsReply (r : Request) (text : List ℕ) (refused : Bool) : Type 0 where
+-- the shown dates have the day numbers of the dates
+pub record ShowsDays (c shown : CalendarSystem) (s : SpanDates) : Type 0 where
+  pub from : day_number shown.list s.from_shown ≡ day_number c.list s.from
+  pub to : day_number shown.list s.to_shown ≡ day_number c.list s.to
+
+-- how a request's bags are to be resolved
+abbrev pub options_of : Request → DateFromFieldsOptions
+options_of r = record { overflow = r.overflow; missing_fields_strategy = r.missing_fields }
+
+-- the text that answers a request in a calendar, shown in a second one, and whether it is a refusal
+pub record IsReply (c shown : AnyCalendar) (r : Request) (text : List ℕ) (refused : Bool) : Type 0 where
   pub answer : Result SpanDates SpanError
-  pub span : IsSpan (any_system r.calendar).list (any_system r.shown).list r.from r.to (overflow_of r.overflow) (largest_unit_of r.unit) answer
-  pub says : text ≡ reply_text (any_system r.calendar) (any_system r.shown) answer
+  pub span : IsSpan (any_system c) (any_system shown).list r.from r.to (options_of r) (largest_unit_of r.unit) answer
+  pub says : text ≡ reply_text (any_system c) (any_system shown) answer
   pub refuses : refused ≡ is_refusal answer

@@ -1,6 +1,5 @@
 -- What the program reads of a request.
 use Rattle.cal_types.specs.Bag.{bag_of}
-use Rattle.cal_model.specs.Resolving.{IsPlain}
 use Rattle.calspan.specs.Requests as requests
 use Rattle.calspan.specs.declared.request.Header.{Header}
 use Rattle.calspan.specs.declared.request.Request.{Request}
@@ -12,8 +11,3 @@ header_said h = record { calendar = h.calendar; shown = h.shown; unit = h.differ
 -- the request that the program's value stands for
 abbrev pub request_said : Request → requests.Request
 request_said r = requests.request_of (header_said r.header) (bag_of r.from) (bag_of r.to)
-
--- a request that can be answered
-pub record IsAnswerable (r : Request) : Type 0 where
-  pub from : IsPlain (bag_of r.from)
-  pub to : IsPlain (bag_of r.to)

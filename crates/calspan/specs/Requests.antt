@@ -1,6 +1,5 @@
 -- What a request line asks: two bags of fields of one calendar, a second calendar, and a largest unit.
-use Rattle.std.specs.Prelude.{ℕ, ℤ, List, [], ◌∷◌, Option, Some, None, codes, if◌then◌else◌}
-use Rattle.cal_types.specs.Month.{MonthParts, month_read}
+use Rattle.std.specs.Prelude.{ℕ, Bool, ◌||◌, List, [], ◌∷◌, Option, Some, None, option_map, codes, if◌then◌else◌}
 use Rattle.cal_types.specs.Bag.{Bag}
 use Rattle.cal_types.specs.declared.options.Overflow.{Overflow}
 use Rattle.cal_types.specs.declared.options.Overflow.TheVariants as overflow
@@ -8,27 +7,37 @@ use Rattle.cal_types.specs.declared.options.MissingFieldsStrategy.{MissingFields
 use Rattle.cal_types.specs.declared.options.MissingFieldsStrategy.TheVariants as missing
 use Rattle.cal_types.specs.declared.duration.DateDurationUnit.{DateDurationUnit}
 use Rattle.cal_types.specs.declared.duration.DateDurationUnit.TheVariants.{Years, Months, Weeks, Days}
-use Rattle.icu_calendar.specs.declared.any_calendars.AnyCalendar.{AnyCalendar}
-use Rattle.icu_calendar.specs.declared.any_calendars.AnyCalendar.TheVariants as calendar
+use Rattle.icu_calendar.specs.declared.any_calendar.AnyCalendar.TheVariants as calendar
 use Rattle.calspan.specs.Command.{is_text}
-use Rattle.calspan.specs.Words.{int_of, byte_of}
-use Rattle.calspan.specs.Reading.{Read, next_word, and_then, keyed}
+use Rattle.calspan.specs.Reading.{Read, next_word, and_then}
+use Rattle.calspan.specs.Bags.{no_fields, bag_before_to, bag_of_all}
+use Rattle.calspan.specs.declared.request.CalendarName.{CalendarName}
+use Rattle.calspan.specs.declared.request.CalendarName.TheVariants.{Built, Unbuilt}
 
 pub record Request : Type 0 where
-  pub calendar : AnyCalendar
-  pub shown : AnyCalendar
+  pub calendar : CalendarName
+  pub shown : CalendarName
   pub unit : Option DateDurationUnit
   pub overflow : Option Overflow
   pub missing_fields : Option MissingFieldsStrategy
   pub from : Bag
   pub to : Bag
 
+-- whether a word is the program name of a calendar that isn't built
+abbrev pub is_unbuilt_name : List ℕ → Bool
+is_unbuilt_name word =
+    is_text word (codes "buddhist") || is_text word (codes "chinese") || is_text word (codes "coptic") || is_text word (codes "dangi")
+    || is_text word (codes "ethiopic") || is_text word (codes "ethioaa") || is_text word (codes "hebrew") || is_text word (codes "indian")
+    || is_text word (codes "islamic-civil") || is_text word (codes "islamic-simulated") || is_text word (codes "islamic-tbla")
+    || is_text word (codes "islamic-umalqura") || is_text word (codes "japanese") || is_text word (codes "persian") || is_text word (codes "roc")
+
 -- the calendar of a program name
-abbrev pub calendar_named : List ℕ → Option AnyCalendar
+abbrev pub calendar_named : List ℕ → Option CalendarName
 calendar_named word =
-    if is_text word (codes "iso") then Some (calendar.Iso (record {}))
-    else (if is_text word (codes "gregorian") then Some (calendar.Gregorian (record {}))
-    else (if is_text word (codes "julian") then Some (calendar.Julian (record {})) else None))
+    if is_text word (codes "iso") then Some (Built (calendar.Iso (record {})))
+    else (if is_text word (codes "gregorian") then Some (Built (calendar.Gregorian (record {})))
+    else (if is_text word (codes "julian") then Some (Built (calendar.Julian (record {})))
+    else (if is_unbuilt_name word then Some Unbuilt else None)))
 
 -- the largest unit of a word; `none` where it is left out
 abbrev pub unit_named : List ℕ → Option (Option DateDurationUnit)
@@ -39,60 +48,59 @@ unit_named word =
     else (if is_text word (codes "days") then Some (Some Days)
     else (if is_text word (codes "none") then Some None else None))))
 
--- a word for an option's value, or `none` where the option is left out
-abbrev pub option_word : {T : Type 0} → List ℕ → T → List ℕ → Option (Option T)
-option_word name value word = if is_text word name then Some (Some value) else (if is_text word (codes "none") then Some None else None)
+-- what becomes of a month or a day that isn't there; `none` where the option is left out
+abbrev pub overflow_named : List ℕ → Option (Option Overflow)
+overflow_named word =
+    if is_text word (codes "constrain") then Some (Some overflow.Constrain)
+    else (if is_text word (codes "reject") then Some (Some overflow.Reject)
+    else (if is_text word (codes "none") then Some None else None))
+
+-- what becomes of fields that aren't given; `none` where the option is left out
+abbrev pub missing_fields_named : List ℕ → Option (Option MissingFieldsStrategy)
+missing_fields_named word =
+    if is_text word (codes "reject") then Some (Some missing.Reject)
+    else (if is_text word (codes "ecma") then Some (Some missing.Ecma)
+    else (if is_text word (codes "none") then Some None else None))
 
 -- a word that says nothing of its own
 abbrev pub fixed_word : List ℕ → List ℕ → Option (Unit {0})
 fixed_word name word = if is_text word name then Some tt else None
 
--- a bag that names its date by an extended year, a month and a day
-abbrev pub plain_bag : ℤ → MonthParts → ℕ → Bag
-plain_bag year month day = record { era = None; era_year = None; extended_year = Some year; month = Some month; month_code = None; ordinal_month = None; day = Some day }
-
--- `year=INT month=CODE day=BYTE`
-unfoldable pub bag_read : List (List ℕ) → Read Bag
-bag_read words =
-    and_then (next_word (keyed (codes "year=") int_of) words) (λ year words.
-    and_then (next_word (keyed (codes "month=") month_read) words) (λ month words.
-    and_then (next_word (keyed (codes "day=") byte_of) words) (λ day words.
-    Some (plain_bag year month day, words))))
-
--- no words are left
-abbrev pub at_end : {T : Type 0} → T → List (List ℕ) → Option T
-at_end x [] = Some x
-at_end x (word ∷ words) = None
-
 -- what stands before the bags
 pub record Header : Type 0 where
-  pub calendar : AnyCalendar
-  pub shown : AnyCalendar
+  pub calendar : CalendarName
+  pub shown : CalendarName
   pub unit : Option DateDurationUnit
   pub overflow : Option Overflow
   pub missing_fields : Option MissingFieldsStrategy
 
--- `span CALENDAR SHOWN UNIT OVERFLOW MISSING from`
+-- `span CAL SHOWN UNIT OVERFLOW MISSING from`
 unfoldable pub header_read : List (List ℕ) → Read Header
 header_read words =
     and_then (next_word (fixed_word (codes "span")) words) (λ _ words.
     and_then (next_word calendar_named words) (λ calendar words.
     and_then (next_word calendar_named words) (λ shown words.
     and_then (next_word unit_named words) (λ unit words.
-    and_then (next_word (option_word (codes "reject") overflow.Reject) words) (λ overflow words.
-    and_then (next_word (option_word (codes "reject") missing.Reject) words) (λ missing_fields words.
+    and_then (next_word overflow_named words) (λ overflow words.
+    and_then (next_word missing_fields_named words) (λ missing_fields words.
     and_then (next_word (fixed_word (codes "from")) words) (λ _ words.
     Some (record { calendar = calendar; shown = shown; unit = unit; overflow = overflow; missing_fields = missing_fields }, words))))))))
 
 -- a header and two bags
 abbrev pub request_of : Header → Bag → Bag → Request
-request_of h from to = record { calendar = h.calendar; shown = h.shown; unit = h.unit; overflow = h.overflow; missing_fields = h.missing_fields; from = from; to = to }
+request_of h from to = record {
+  calendar = h.calendar;
+  shown = h.shown;
+  unit = h.unit;
+  overflow = h.overflow;
+  missing_fields = h.missing_fields;
+  from = from;
+  to = to;
+}
 
--- `span CALENDAR SHOWN UNIT OVERFLOW MISSING from BAG to BAG`
+-- `span CAL SHOWN UNIT OVERFLOW MISSING from FIELDS to FIELDS`
 unfoldable pub request_read : List (List ℕ) → Option Request
 request_read words =
     and_then (header_read words) (λ header words.
-    and_then (bag_read words) (λ from words.
-    and_then (next_word (fixed_word (codes "to")) words) (λ _ words.
-    and_then (bag_read words) (λ to words.
-    at_end (request_of header from to) words))))
+    and_then (bag_before_to (Some no_fields) words) (λ from words.
+    option_map (request_of header from) (bag_of_all (Some no_fields) words)))

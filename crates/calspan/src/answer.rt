@@ -1,13 +1,14 @@
 //! The answer to a line.
-ghost use Rattle.std.specs.Prelude.{◌≡◌, ℕ, List, []};
+ghost use Rattle.std.specs.Prelude.{◌≡◌, ◌+◌, ◌≤◌, ◌++◌, ℕ, List, false, length};
+ghost use Rattle.arrayvec.specs.ArrayVec.{array_vec_len};
 ghost use Rattle.line_reader.specs.Buffer.{Holds};
-ghost use Rattle.calspan.specs.Lines.{line_of};
-ghost use Rattle.calspan.specs.Answers.{IsAnswerTo, begin};
+ghost use Rattle.calspan.specs.Lines.{is_silent as line_is_silent, line_of};
+ghost use Rattle.calspan.specs.Answers.{IsAnswerTo, begin, refusal, refusing};
 
-use crate::line::{Line, read_line};
+use crate::line::{Line, is_silent, read_line};
 use crate::reply::reply;
 use crate::status::Status;
-use crate::text::{Text, push_about};
+use crate::text::{Pending, push_about};
 use line_reader::LineBuffer;
 
 /// Where a run stands behind the lines that it has answered.
@@ -40,26 +41,49 @@ impl Progress {
     }
 }
 
-/// Writes the answer to the line of this number, counted from 1, into an empty text.
-pub fn answer(text: &mut Text, progress: &mut Progress, number: u64, line: &LineBuffer)
-    requires { text.old.items ≡ [] }
-    ensures { (whole : List ℕ) → Holds line.now whole
-        → IsAnswerTo (line_of whole) number (standing_of progress.old) text.new.items (standing_of progress.new) }
+// Refuses the line of this number.
+fn refuse(pending: &mut Pending, progress: &mut Progress, number: u64, why: &[u8])
+    requires { array_vec_len pending.old + length why.now + 40 ≤ 8192 }
+    ensures line { pending.new.items ≡ pending.old.items ++ refusal number why.now }
+    ensures refused { standing_of progress.new ≡ refusing (standing_of progress.old) }
+{
+    push_about(pending, b"err line ", number, why);
+    progress.refused = true;
+}
+
+// Answers a line that isn't silent. What a request needs is set up at the call, which a silent line is spared.
+#[inline(never)]
+fn answer_request(pending: &mut Pending, progress: &mut Progress, number: u64, line: &LineBuffer)
+    requires { array_vec_len pending.old + 512 ≤ 8192 }
+    ensures { (whole : List ℕ) → Holds line.now whole → line_is_silent whole ≡ false → (text : List ℕ)
+        × (pending.new.items ≡ pending.old.items ++ text)
+        × IsAnswerTo (line_of whole) number (standing_of progress.old) text (standing_of progress.new) }
 {
     match read_line(line) {
-        Line::Nothing => {}
-        Line::Long => {
-            push_about(text, b"err line ", number, b"long");
-            progress.refused = true;
-        }
-        Line::Asks(request) => {
-            if reply(text, &request) {
+        Line::Long => refuse(pending, progress, number, b"long"),
+        Line::Asks {
+            calendar,
+            shown,
+            request,
+        } => {
+            if reply(pending, calendar, shown, &request) {
                 progress.refused = true;
             }
         }
-        Line::Unbuilt => {
-            push_about(text, b"err line ", number, b"unbuilt");
-            progress.refused = true;
-        }
+        Line::Unbuilt => refuse(pending, progress, number, b"unbuilt"),
+        Line::Malformed => refuse(pending, progress, number, b"syntax"),
     }
+}
+
+/// Appends the answer to the line of this number, counted from 1, to those that are pending.
+pub fn answer(pending: &mut Pending, progress: &mut Progress, number: u64, line: &LineBuffer)
+    requires { array_vec_len pending.old + 512 ≤ 8192 }
+    ensures { (whole : List ℕ) → Holds line.now whole → (text : List ℕ)
+        × (pending.new.items ≡ pending.old.items ++ text)
+        × IsAnswerTo (line_of whole) number (standing_of progress.old) text (standing_of progress.new) }
+{
+    if is_silent(line) {
+        return;
+    }
+    answer_request(pending, progress, number, line);
 }

@@ -3,7 +3,8 @@ ghost use Rattle.calspan.specs.Forms.{RequestsHaveOneForm};
 ghost use Rattle.calspan.specs.Laws.{EveryInputHasAnswers, AnswersAreUnique, AnswersToFrontAreFront};
 
 /// Words are read as a request exactly where they are of the form
-/// `span CALENDAR SHOWN UNIT OVERFLOW MISSING from BAG to BAG`, each BAG `year=INT month=CODE day=BYTE`, and say it.
+/// `span CAL SHOWN UNIT OVERFLOW MISSING from FIELDS to FIELDS`, and say it. FIELDS are words `KEY=VALUE` of known
+/// keys, no key twice, each value one that its key may have; a bag's field is what the word of its key says.
 pub fn requests_have_one_form()
     ensures { RequestsHaveOneForm }
 {}

@@ -1,26 +1,35 @@
 //! What a line says.
-ghost use Rattle.std.specs.Prelude.{◌≡◌, ◌≤◌, ◌<◌, ℕ, List, length, take};
+ghost use Rattle.std.specs.Prelude.{◌≡◌, ℕ, List, false};
 ghost use Rattle.std.specs.Str.Lines.{strip_carriage_return};
 ghost use Rattle.line_reader.specs.Buffer.{Holds};
-ghost use Rattle.calspan.specs.Lines.{line_of};
+ghost use Rattle.calspan.specs.Lines.{is_row as text_is_row, is_silent as line_is_silent, asks, said_by, line_of};
 
-use crate::request::{Request, read_request};
+use crate::request::{CalendarName, Request, read_request};
+use icu_calendar::AnyCalendar;
 use line_reader::LineBuffer;
 
-/// What a line says.
+/// What a line says that isn't silent.
 #[derive(Clone, Copy, Debug)]
 pub enum Line<'a> {
-    /// It is empty or a comment, and gives nothing.
-    Nothing,
     /// It is a request line of more than 512 bytes.
     Long,
     /// It is a request.
-    Asks(Request<'a>),
-    /// It is a request line that can't be answered yet.
+    Asks {
+        /// The calendar of both bags.
+        calendar: AnyCalendar,
+        /// The calendar in which their days are shown.
+        shown: AnyCalendar,
+        /// The request.
+        request: Request<'a>,
+    },
+    /// It is a request or a row line that can't be answered yet.
     Unbuilt,
+    /// It is no request.
+    Malformed,
 }
 
-ghost use Rattle.calspan.specs.LineSaid.{line_said, CanBeAnswered};
+ghost use Rattle.calspan.specs.LineSaid.{line_said};
+ghost use Rattle.calspan.specs.RequestSaid.{request_said};
 
 // Without the one carriage return at its end.
 fn without_return(line: &[u8]) -> &[u8]
@@ -32,45 +41,67 @@ fn without_return(line: &[u8]) -> &[u8]
     }
 }
 
-// A line of at most 512 bytes.
-fn read_short<'a>(line: &'a [u8]) -> Line<'a>
-    requires { length line.now ≤ 512 }
-    ensures says { line_said result ≡ line_of line.now }
-    ensures answerable { CanBeAnswered result }
+// What a request asks, where its calendars are built.
+fn asked<'a>(request: Request<'a>) -> Line<'a>
+    ensures { let r = request_said request.entry in line_said result ≡ asks r.calendar r.shown r }
 {
-    let text = without_return(line);
-    if text.is_empty() || line[0] == b'#' {
-        return Line::Nothing;
+    let CalendarName::Built(calendar) = request.header.calendar else {
+        return Line::Unbuilt;
+    };
+    let CalendarName::Built(shown) = request.header.shown else {
+        return Line::Unbuilt;
+    };
+    Line::Asks {
+        calendar,
+        shown,
+        request,
+    }
+}
+
+// Whether a line is a row line: `row`, alone or before a space.
+fn is_row(text: &[u8]) -> bool
+    ensures { result ≡ text_is_row text.now }
+{
+    text == b"row".as_slice() || text.starts_with(b"row ")
+}
+
+// A line of at most 512 bytes, without the carriage return at its end.
+fn read_short<'a>(text: &'a [u8]) -> Line<'a>
+    ensures { line_said result ≡ said_by text.now }
+{
+    if is_row(text) {
+        return Line::Unbuilt;
     }
     match read_request(text) {
-        Some(request) => Line::Asks(request),
-        None => Line::Unbuilt,
+        Some(request) => asked(request),
+        None => Line::Malformed,
     }
 }
 
-// A longer line, by its first 512 bytes.
-fn read_long<'a>(front: &'a [u8]) -> Line<'a>
-    requires { length front.now ≡ 512 }
-    ensures answerable { CanBeAnswered result }
-    ensures says { (line : List ℕ) → front.now ≡ take 512 line
-        → 512 < length line → line_said result ≡ line_of line }
+// Whether bytes, as a line, give nothing.
+fn gives_nothing(line: &[u8]) -> bool
+    ensures { result ≡ line_is_silent line.now }
 {
-    if front[0] == b'#' {
-        return Line::Nothing;
-    }
-    Line::Long
+    without_return(line).is_empty() || line[0] == b'#'
 }
 
-/// What a line says. A carriage return at its end is dropped, and a line that is then empty, or that
-/// begins with `#`, gives nothing. Of the others one of more than 512 bytes, with the carriage
-/// return, is too long, and each other one is a request line.
+/// Whether a line gives nothing: without the carriage return at its end it is empty, or it begins with `#`.
+pub fn is_silent(line: &LineBuffer) -> bool
+    ensures { (whole : List ℕ) → Holds line.now whole → result ≡ line_is_silent whole }
+{
+    gives_nothing(&line.front)
+}
+
+/// What a line says that isn't silent. One of more than 512 bytes, with a carriage return at its end, is too
+/// long; of the others, one that is `row` or begins with `row ` is a row line, and each other one is a request
+/// or malformed.
 pub fn read_line<'a>(line: &'a LineBuffer) -> Line<'a>
-    ensures answerable { CanBeAnswered result }
-    ensures says { (whole : List ℕ) → Holds line.now whole → line_said result ≡ line_of whole }
+    ensures { (whole : List ℕ) → Holds line.now whole → line_is_silent whole ≡ false
+        → line_said result ≡ line_of whole }
 {
     if line.over {
-        read_long(&line.front)
+        Line::Long
     } else {
-        read_short(&line.front)
+        read_short(without_return(&line.front))
     }
 }

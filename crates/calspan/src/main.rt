@@ -2,6 +2,7 @@
 #![tactic(auto)]
 
 mod answer;
+mod bag;
 mod command;
 mod laws;
 mod line;
@@ -38,6 +39,8 @@ fn words_failed(error: &io::Error) -> Status
     }
 }
 
+// Runs on the words, the input and the output of the system, which tell no content: so no clause can say what this
+// answers, and `main`, on which no clause may stand, hands its code on.
 fn run_on_standard(rt: &HostRuntime) -> Status {
     let words = match env::args(rt) {
         Ok(args) => args.skip(1).collect::<Vec<String>>(rt.alloc()),

@@ -8,13 +8,9 @@ ghost use Rattle.calspan.specs.Answers.{Standing};
 ghost use Rattle.line_reader.specs.Buffer.{Holds};
 
 use crate::answer::{Progress, answer};
-use crate::text::Text;
-use arrayvec::ArrayVec;
+use crate::text::Pending;
 use byte_io::{Failed, Sink};
 use line_reader::LineBuffer;
-
-/// The answers that weren't written yet.
-pub type Pending = ArrayVec<u8, 8192>;
 
 // Writes all of a text, in as many pieces as the sink takes.
 fn write_all<K: Sink>(text: &[u8], sink: &mut K) -> Result<(), Failed>
@@ -46,13 +42,6 @@ pub fn flush<K: Sink>(pending: &mut Pending, sink: &mut K) -> Result<(), Failed>
     Ok(())
 }
 
-fn push_all(pending: &mut Pending, bytes: &[u8])
-    requires { array_vec_len pending.old + length bytes.now ≤ 8192 }
-    ensures { pending.new.items ≡ pending.old.items ++ bytes.now }
-{
-    let _fits = pending.try_extend_from_slice(bytes);
-}
-
 // Writes what is pending where there might be no room for an answer.
 fn make_room<K: Sink>(pending: &mut Pending, sink: &mut K) -> Result<(), Failed>
     ensures answered { (before : Option (List ℕ)) (lines : List (List ℕ)) (s : Standing)
@@ -79,14 +68,13 @@ pub fn respond<K: Sink>(
     ensures answered { (before : Option (List ℕ)) (lines : List (List ℕ)) (whole : List ℕ)
         → number ≡ length lines + 1 → Holds line.now whole
         → Stands before (K.taken sink.old) pending.old.items lines (standing_of progress.old)
-        → Answered result before (K.taken sink.new) pending.new.items (lines ++ whole ∷ []) (standing_of progress.new) }
+        → Answered result before (K.taken sink.new) pending.new.items (lines ++ whole ∷ [])
+        (standing_of progress.new) }
     ensures cause { HasCause (K.faults sink.old) (K.faults sink.new) result }
 {
     let Ok(()) = make_room(pending, sink) else {
         return Err(Failed);
     };
-    let mut text = Text::new();
-    answer(&mut text, progress, number, line);
-    push_all(pending, &text);
+    answer(pending, progress, number, line);
     Ok(())
 }

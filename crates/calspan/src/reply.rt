@@ -1,21 +1,23 @@
 //! The reply to a request: the texts of dates, durations and causes.
-ghost use Rattle.std.specs.Prelude.{◌≡◌, ◌+◌, ◌≤◌, ◌<◌, ◌++◌, ◌∷◌, [], ◌↔◌, IsTrue, Ok, length, codes, if◌then◌else◌};
+ghost use Rattle.std.specs.Prelude.{◌≡◌, ◌+◌, ◌≤◌, ◌<◌, ◌++◌, ◌∷◌, [], ◌↔◌, IsTrue, length, List, ℕ, if◌then◌else◌};
 ghost use Rattle.arrayvec.specs.ArrayVec.{array_vec_len};
 ghost use Rattle.cal_types.specs.declared.duration.DateDuration.{DateDuration};
 ghost use Rattle.icu_calendar.specs.AnySystem.{any_system, any_date};
 ghost use Rattle.icu_calendar.specs.SpanAnswers.{span_dates, HasCalendars};
-ghost use Rattle.icu_calendar.specs.declared.any_calendars.AnyCalendar.{AnyCalendar};
-ghost use Rattle.calspan.specs.Replies.{year_text, date_text, part_text, parts_text, duration_text, cause_text, side_text, dates_text, reply_text, IsReply};
-ghost use Rattle.calspan.specs.RequestSaid.{request_said, IsAnswerable};
+ghost use Rattle.icu_calendar.specs.declared.any_calendar.AnyCalendar.{AnyCalendar};
+ghost use Rattle.cal_model.specs.CalendarList.{day_number};
+ghost use Rattle.calspan.specs.Replies.{year_text, numbered_text, day_text, part_text, parts_text, duration_text, cause_text, side_text, error_text, span_text, ShowsDays, IsReply};
+ghost use Rattle.calspan.specs.RequestSaid.{request_said};
 
 use crate::request::Request;
-use crate::text::{Text, push_all, push_number, push_signed, push_two_digits};
+use crate::text::{Pending, push_all, push_number, push_signed, push_two_digits};
 use cal_types::{DateDuration, DateFromFieldsError, YearInfo};
 use icu_calendar::{AnyCalendar, BagSide, Date, Span, SpanError, span};
+use itoa::Buffer;
 
 // A year of an era, or of a cycle.
-fn push_year(text: &mut Text, year: &YearInfo)
-    requires { array_vec_len text.old ≤ 470 }
+fn push_year(text: &mut Pending, year: &YearInfo)
+    requires { array_vec_len text.old + 40 ≤ 8192 }
     ensures items { text.new.items ≡ text.old.items ++ year_text year.now }
     ensures len { array_vec_len text.new ≤ array_vec_len text.old + 40 }
 {
@@ -33,8 +35,8 @@ fn push_year(text: &mut Text, year: &YearInfo)
 }
 
 // A part of a duration, where it isn't 0.
-fn push_part(text: &mut Text, count: u32, letter: u8)
-    requires { array_vec_len text.old ≤ 490 }
+fn push_part(text: &mut Pending, count: u32, letter: u8)
+    requires { array_vec_len text.old + 21 ≤ 8192 }
     ensures items { text.new.items ≡ text.old.items ++ part_text count letter }
     ensures len { array_vec_len text.new ≤ array_vec_len text.old + 21 }
 {
@@ -45,8 +47,8 @@ fn push_part(text: &mut Text, count: u32, letter: u8)
 }
 
 // The parts of a duration that aren't 0, in the order of their units.
-fn push_parts(text: &mut Text, duration: &DateDuration)
-    requires { array_vec_len text.old ≤ 420 }
+fn push_parts(text: &mut Pending, duration: &DateDuration)
+    requires { array_vec_len text.old + 84 ≤ 8192 }
     ensures items { text.new.items ≡ text.old.items ++ parts_text duration.now }
     ensures len { array_vec_len text.new ≤ array_vec_len text.old + 84 }
 {
@@ -64,8 +66,8 @@ fn is_zero(duration: &DateDuration) -> bool
 }
 
 // The sign of a duration.
-fn push_sign(text: &mut Text, is_negative: bool)
-    requires { array_vec_len text.old ≤ 420 }
+fn push_sign(text: &mut Pending, is_negative: bool)
+    requires { array_vec_len text.old + 1 ≤ 8192 }
     ensures items { text.new.items ≡ text.old.items ++ (if is_negative then 45 ∷ [] else []) }
     ensures len { array_vec_len text.new ≤ array_vec_len text.old + 1 }
 {
@@ -75,8 +77,8 @@ fn push_sign(text: &mut Text, is_negative: bool)
 }
 
 // A duration.
-fn push_duration(text: &mut Text, duration: &DateDuration)
-    requires { array_vec_len text.old ≤ 410 }
+fn push_duration(text: &mut Pending, duration: &DateDuration)
+    requires { array_vec_len text.old + 90 ≤ 8192 }
     ensures items { text.new.items ≡ text.old.items ++ duration_text duration.now }
     ensures len { array_vec_len text.new ≤ array_vec_len text.old + 90 }
 {
@@ -90,8 +92,8 @@ fn push_duration(text: &mut Text, duration: &DateDuration)
 }
 
 // Why a bag names no date.
-fn push_cause(text: &mut Text, cause: DateFromFieldsError)
-    requires { array_vec_len text.old ≤ 100 }
+fn push_cause(text: &mut Pending, cause: DateFromFieldsError)
+    requires { array_vec_len text.old + 50 ≤ 8192 }
     ensures items { text.new.items ≡ text.old.items ++ cause_text cause }
     ensures len { array_vec_len text.new ≤ array_vec_len text.old + 50 }
 {
@@ -116,26 +118,37 @@ fn push_cause(text: &mut Text, cause: DateFromFieldsError)
     }
 }
 
-// Which bag is at fault, and why.
-fn push_error(text: &mut Text, error: SpanError)
-    requires { text.old.items ≡ [] }
-    ensures { text.new.items ≡ codes "err " ++ side_text error.side ++ 32 ∷ cause_text error.cause ++ 10 ∷ [] }
+// Which bag is at fault.
+fn push_side(text: &mut Pending, side: BagSide)
+    requires { array_vec_len text.old + 4 ≤ 8192 }
+    ensures items { text.new.items ≡ text.old.items ++ side_text side }
+    ensures len { array_vec_len text.new ≤ array_vec_len text.old + 4 }
 {
-    push_all(text, b"err ");
-    match error.side {
+    match side {
         BagSide::From => push_all(text, b"from"),
         BagSide::To => push_all(text, b"to"),
     }
+}
+
+// Which bag is at fault, and why.
+fn push_error(text: &mut Pending, error: SpanError)
+    requires { array_vec_len text.old + 60 ≤ 8192 }
+    ensures { text.new.items ≡ text.old.items ++ error_text error }
+{
+    push_all(text, b"err ");
+    push_side(text, error.side);
     text.push(b' ');
     push_cause(text, error.cause);
     text.push(b'\n');
 }
 
-// A date: its extended year, the year that it is printed in, its month code, its day, and its day number.
-fn push_date(text: &mut Text, date: &Date<AnyCalendar>)
-    requires { array_vec_len text.old ≤ 380 }
-    ensures items { text.new.items ≡ text.old.items ++ date_text (any_system date.now.calendar) (any_date date.now.inner) }
-    ensures len { array_vec_len text.new ≤ array_vec_len text.old + 90 }
+// A date: its extended year, the year that it is printed in, its month code, its day, and the text of
+// its day number.
+fn push_date(text: &mut Pending, date: &Date<AnyCalendar>, day_number: &[u8])
+    requires { array_vec_len text.old + length day_number.now + 70 ≤ 8192 }
+    ensures items { text.new.items ≡ text.old.items
+        ++ numbered_text (any_system date.now.calendar) (any_date date.now.calendar date.now.inner) day_number.now }
+    ensures len { array_vec_len text.new ≤ array_vec_len text.old + length day_number.now + 70 }
 {
     let year = date.year();
     push_signed(text, i64::from(year.extended_year()));
@@ -146,41 +159,52 @@ fn push_date(text: &mut Text, date: &Date<AnyCalendar>)
     text.push(b'/');
     push_two_digits(text, date.day_of_month().0);
     text.push(b'@');
-    push_signed(text, date.to_rata_die().to_i64_date());
+    push_all(text, day_number);
 }
 
-// Both dates of the first calendar, each before the same day in the second.
-fn push_dates(text: &mut Text, span: &Span)
-    requires { array_vec_len text.old ≤ 10 }
-    ensures items { (c shown : AnyCalendar) → HasCalendars c shown span.now → text.new.items ≡ text.old.items ++ dates_text (any_system c) (any_system shown) (span_dates span.now) }
-    ensures len { array_vec_len text.new ≤ array_vec_len text.old + 363 }
+// A date of the first calendar, and the same day in the second. Both have one day number.
+fn push_day(text: &mut Pending, date: &Date<AnyCalendar>, shown: &Date<AnyCalendar>)
+    requires { array_vec_len text.old + 181 ≤ 8192 }
+    ensures items { let c = any_system date.now.calendar in let t = any_date date.now.calendar date.now.inner in
+        let other = any_system shown.now.calendar in let u = any_date shown.now.calendar shown.now.inner in
+        day_number other.list u ≡ day_number c.list t
+        → text.new.items ≡ text.old.items ++ day_text c other t u }
+    ensures len { array_vec_len text.new ≤ array_vec_len text.old + 181 }
 {
-    push_date(text, &span.from);
+    let mut buffer = Buffer::new();
+    let number = buffer.format(date.to_rata_die().to_i64_date()).as_bytes();
+    push_date(text, date, number);
     text.push(b' ');
-    push_date(text, &span.from_shown);
-    text.push(b' ');
-    push_date(text, &span.to);
-    text.push(b' ');
-    push_date(text, &span.to_shown);
+    push_date(text, shown, number);
 }
 
-// The dates and the difference.
-fn push_span(text: &mut Text, span: &Span)
-    requires { text.old.items ≡ [] }
-    ensures { (c shown : AnyCalendar) → HasCalendars c shown span.now → text.new.items ≡ reply_text (any_system c) (any_system shown) (Ok (span_dates span.now)) }
+// Both days, and the difference.
+fn push_span(text: &mut Pending, span: &Span)
+    requires { array_vec_len text.old + 460 ≤ 8192 }
+    ensures { (c shown : AnyCalendar) → HasCalendars c shown span.now
+        → ShowsDays (any_system c) (any_system shown) (span_dates span.now)
+        → text.new.items ≡ text.old.items ++ span_text (any_system c) (any_system shown) (span_dates span.now) }
 {
     push_all(text, b"ok ");
-    push_dates(text, span);
+    push_day(text, &span.from, &span.from_shown);
+    text.push(b' ');
+    push_day(text, &span.to, &span.to_shown);
     text.push(b' ');
     push_duration(text, &span.duration);
     text.push(b'\n');
 }
 
-/// Writes the reply to a request into an empty text, and answers whether it is a refusal.
-pub fn reply(text: &mut Text, request: &Request) -> bool
-    requires empty { text.old.items ≡ [] }
-    requires answerable { IsAnswerable request.now }
-    ensures { IsReply (request_said request.now) text.new.items result }
+/// Appends the reply to a request in a calendar, shown in a second one, and answers whether it is a
+/// refusal.
+pub fn reply(
+    text: &mut Pending,
+    calendar: AnyCalendar,
+    shown: AnyCalendar,
+    request: &Request,
+) -> bool
+    requires { array_vec_len text.old + 512 ≤ 8192 }
+    ensures { (answer : List ℕ) × (text.new.items ≡ text.old.items ++ answer)
+        × IsReply calendar shown (request_said request.now) answer result }
 {
     let header = request.header;
     match span(
@@ -188,8 +212,8 @@ pub fn reply(text: &mut Text, request: &Request) -> bool
         request.to,
         header.options,
         header.difference,
-        header.calendar,
-        header.shown,
+        calendar,
+        shown,
     ) {
         Ok(span) => {
             push_span(text, &span);

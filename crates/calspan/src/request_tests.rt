@@ -25,7 +25,9 @@ struct Case {
     answer: &'static [u8],
 }
 
-const CASES: [Case; 19] = [
+// Years, months and days of all kinds, the units, a shorter month, months back, the widest difference, the Julian
+// calendar, and bags of all kinds.
+const CASES: [Case; 33] = [
     Case {
         line: b"span iso iso none none reject from year=2020 month=M02 day=29 to year=2021 month=M02 day=28",
         answer: b"ok 2020/default.2020/M02/29@737484 2020/default.2020/M02/29@737484 2021/default.2021/M02/28@737849 2021/default.2021/M02/28@737849 P365D\n",
@@ -41,14 +43,6 @@ const CASES: [Case; 19] = [
     Case {
         line: b"span gregorian iso days reject none from year=1000000 month=M01 day=1 to year=2000 month=M01 day=1",
         answer: b"err from Overflow\n",
-    },
-    Case {
-        line: b"span hebrew iso days none none from year=1 month=M01 day=1 to year=1 month=M01 day=1",
-        answer: b"err line 1 unbuilt\n",
-    },
-    Case {
-        line: b"span iso gregorian none none none from year=002020 month=M02 day=029 to year=2021 month=M02 day=28\r\n",
-        answer: LEAP_DAY_ANSWER,
     },
     Case {
         line: b"span iso iso days reject none from year=-999999 month=M01 day=1 to year=999999 month=M12 day=31",
@@ -87,52 +81,6 @@ const CASES: [Case; 19] = [
         answer: b"err from Overflow\n",
     },
     Case {
-        line: b"span iso iso year none none from year=1 month=M01 day=1 to year=1 month=M01 day=1",
-        answer: b"err line 1 unbuilt\n",
-    },
-    Case {
-        line: b"span iso iso days none none from year=1 month=M01 day=256 to year=1 month=M01 day=1",
-        answer: b"err line 1 unbuilt\n",
-    },
-    Case {
-        line: b"span iso iso days none none from year=1 month=M01 day=1 to year=1 month=M01 day=1 ",
-        answer: b"err line 1 unbuilt\n",
-    },
-    Case {
-        line: b"span iso iso days none none from year=1 day=1 month=M01 to year=1 month=M01 day=1",
-        answer: b"err line 1 unbuilt\n",
-    },
-];
-
-// Whether each line alone is answered so, in pieces of any size.
-fn assert_answers(rt: &impl Abort, alloc: Global, cases: &[Case]) -> Result<(), Fail> {
-    let words = span_word(alloc)?;
-    for case in cases {
-        for cut in [1, 13, 4096] {
-            let mut room = [0u8; 512];
-            let mut source = MemorySource::new(case.line, cut, &[]);
-            let mut sink = MemorySink::new(&mut room, cut, &[]);
-            let status = run(alloc, &words, &mut source, &mut sink);
-            assert_eq!(rt; sink.taken(), case.answer);
-            let refused = case.answer.starts_with(b"err ");
-            let wanted = if refused {
-                Status::Refused
-            } else {
-                Status::Done
-            };
-            assert_eq!(rt; status, wanted);
-        }
-    }
-    Ok(())
-}
-
-#[test]
-fn requests_in_any_pieces(rt: HostRuntime) -> Result<(), Fail> {
-    assert_answers(&rt, rt.alloc(), &CASES)
-}
-
-const LARGEST_UNITS: [Case; 5] = [
-    Case {
         line: b"span iso gregorian years reject none from year=2020 month=M02 day=29 to year=2021 month=M02 day=28",
         answer: b"ok 2020/default.2020/M02/29@737484 2020/ce.2020/M02/29@737484 2021/default.2021/M02/28@737849 2021/ce.2021/M02/28@737849 P11M30D\n",
     },
@@ -152,34 +100,6 @@ const LARGEST_UNITS: [Case; 5] = [
         line: b"span iso gregorian none reject none from year=2020 month=M02 day=29 to year=2021 month=M02 day=28",
         answer: b"ok 2020/default.2020/M02/29@737484 2020/ce.2020/M02/29@737484 2021/default.2021/M02/28@737849 2021/ce.2021/M02/28@737849 P365D\n",
     },
-];
-
-#[test]
-fn largest_unit_decides_the_parts(rt: HostRuntime) -> Result<(), Fail> {
-    assert_answers(&rt, rt.alloc(), &LARGEST_UNITS)
-}
-
-const SHORTER_MONTH: [Case; 1] = [Case {
-    line: b"span iso gregorian months reject none from year=2021 month=M01 day=31 to year=2021 month=M02 day=28",
-    answer: b"ok 2021/default.2021/M01/31@737821 2021/ce.2021/M01/31@737821 2021/default.2021/M02/28@737849 2021/ce.2021/M02/28@737849 P28D\n",
-}];
-
-#[test]
-fn no_month_where_the_day_is_not_reached(rt: HostRuntime) -> Result<(), Fail> {
-    assert_answers(&rt, rt.alloc(), &SHORTER_MONTH)
-}
-
-const MONTHS_BACK: [Case; 1] = [Case {
-    line: b"span iso gregorian years reject none from year=2021 month=M02 day=28 to year=2020 month=M02 day=29",
-    answer: b"ok 2021/default.2021/M02/28@737849 2021/ce.2021/M02/28@737849 2020/default.2020/M02/29@737484 2020/ce.2020/M02/29@737484 -P11M28D\n",
-}];
-
-#[test]
-fn months_back_are_counted_from_the_first_date(rt: HostRuntime) -> Result<(), Fail> {
-    assert_answers(&rt, rt.alloc(), &MONTHS_BACK)
-}
-
-const WIDEST: [Case; 2] = [
     Case {
         line: b"span iso gregorian years reject none from year=-999999 month=M01 day=1 to year=999999 month=M12 day=31",
         answer: b"ok -999999/default.-999999/M01/01@-365242499 -999999/bce.1000000/M01/01@-365242499 999999/default.999999/M12/31@365242134 999999/ce.999999/M12/31@365242134 P1999998Y11M30D\n",
@@ -188,21 +108,161 @@ const WIDEST: [Case; 2] = [
         line: b"span iso gregorian days reject none from year=-999999 month=M01 day=1 to year=999999 month=M12 day=31",
         answer: b"ok -999999/default.-999999/M01/01@-365242499 -999999/bce.1000000/M01/01@-365242499 999999/default.999999/M12/31@365242134 999999/ce.999999/M12/31@365242134 P730484633D\n",
     },
+    Case {
+        line: b"span iso gregorian months reject none from year=2021 month=M01 day=31 to year=2021 month=M02 day=28",
+        answer: b"ok 2021/default.2021/M01/31@737821 2021/ce.2021/M01/31@737821 2021/default.2021/M02/28@737849 2021/ce.2021/M02/28@737849 P28D\n",
+    },
+    Case {
+        line: b"span iso gregorian years reject none from year=2021 month=M02 day=28 to year=2020 month=M02 day=29",
+        answer: b"ok 2021/default.2021/M02/28@737849 2021/ce.2021/M02/28@737849 2020/default.2020/M02/29@737484 2020/ce.2020/M02/29@737484 -P11M28D\n",
+    },
+    Case {
+        line: b"span iso julian days none none from year=2022 month=M01 day=1 to year=2022 month=M01 day=1",
+        answer: b"ok 2022/default.2022/M01/01@738156 2021/ce.2021/M12/19@738156 2022/default.2022/M01/01@738156 2021/ce.2021/M12/19@738156 P0D\n",
+    },
+    Case {
+        line: b"span iso iso days none none from year=1 month=M01 month-code=M01 day=1 to",
+        answer: b"err from TooManyFields\n",
+    },
+    Case {
+        line: b"span iso iso days none none from to",
+        answer: b"err from NotEnoughFields\n",
+    },
+    Case {
+        line: b"span gregorian iso days constrain ecma from year=2004 ordinal=15 day=40 to year=2005 month=M01",
+        answer: b"ok 2004/ce.2004/M12/31@731946 2004/default.2004/M12/31@731946 2005/ce.2005/M01/01@731947 2005/default.2005/M01/01@731947 P1D\n",
+    },
+    Case {
+        line: b"span gregorian iso days reject ecma from year=2004 ordinal=15 day=40 to year=2005 month=M01",
+        answer: b"err from InvalidOrdinalMonth 12\n",
+    },
+    Case {
+        line: b"span gregorian iso days reject none from era=xx era-year=1040001 month=M01 day=1 to year=2000 month=M01 day=1",
+        answer: b"err from Overflow\n",
+    },
+    Case {
+        line: b"span gregorian iso days reject none from era=xx era-year=1 month=M01 day=1 to year=2000 month=M01 day=1",
+        answer: b"err from InvalidEra\n",
+    },
+    Case {
+        line: b"span gregorian iso days reject none from era=ce month=M01 day=1 to year=2000 month=M01 day=1",
+        answer: b"err from NotEnoughFields\n",
+    },
+    Case {
+        line: b"span gregorian iso days reject none from era=bce era-year=5 month=M12 day=31 to year=1 month=M01 day=1",
+        answer: b"ok -4/bce.5/M12/31@-1461 -4/default.-4/M12/31@-1461 1/ce.1/M01/01@1 1/default.1/M01/01@1 P1462D\n",
+    },
+    Case {
+        line: b"span iso iso days none none from era= era-year=-1 month-code= day=0 to ordinal=255",
+        answer: b"err from InvalidEra\n",
+    },
+    Case {
+        line: b"span iso iso days none none from era=a=b era-year=000000001 to year=1 month=M01 day=1\r",
+        answer: b"err from NotEnoughFields\n",
+    },
+];
+
+// What the line alone is answered, in pieces of any size.
+fn assert_answer(rt: &impl Abort, alloc: Global, line: &[u8], answer: &[u8]) -> Result<(), Fail> {
+    let words = span_word(alloc)?;
+    for cut in [1, 13, 4096] {
+        let mut room = [0u8; 512];
+        let mut source = MemorySource::new(line, cut, &[]);
+        let mut sink = MemorySink::new(&mut room, cut, &[]);
+        let status = run(alloc, &words, &mut source, &mut sink);
+        assert_eq!(rt; sink.taken(), answer);
+        let refused = answer.starts_with(b"err ");
+        let wanted = if refused {
+            Status::Refused
+        } else {
+            Status::Done
+        };
+        assert_eq!(rt; status, wanted);
+    }
+    Ok(())
+}
+
+#[test]
+fn requests_in_any_pieces(rt: HostRuntime) -> Result<(), Fail> {
+    for case in &CASES {
+        assert_answer(&rt, rt.alloc(), case.line, case.answer)?;
+    }
+    Ok(())
+}
+
+// The leap day's request, written in other ways.
+const LEAP_DAYS: [&[u8]; 4] = [
+    LEAP_DAY,
+    b"span iso gregorian none none none from year=002020 month=M02 day=029 to year=2021 month=M02 day=28\r\n",
+    b"span iso gregorian days constrain ecma from day=29 year=2020 month=M02 to month=M02 day=28 year=2021",
+    b"span iso gregorian days reject reject from month=M02 day=29 year=2020 to day=28 month=M02 year=2021\r",
 ];
 
 #[test]
-fn widest_difference_in_years_and_in_days(rt: HostRuntime) -> Result<(), Fail> {
-    assert_answers(&rt, rt.alloc(), &WIDEST)
+fn fields_in_any_order(rt: HostRuntime) -> Result<(), Fail> {
+    for line in LEAP_DAYS {
+        assert_answer(&rt, rt.alloc(), line, LEAP_DAY_ANSWER)?;
+    }
+    Ok(())
 }
 
-const SHOWN_JULIAN: [Case; 1] = [Case {
-    line: b"span iso julian days none none from year=2022 month=M01 day=1 to year=2022 month=M01 day=1",
-    answer: b"ok 2022/default.2022/M01/01@738156 2021/ce.2021/M12/19@738156 2022/default.2022/M01/01@738156 2021/ce.2021/M12/19@738156 P0D\n",
-}];
+// Lines that are on the grammar, but in a calendar that isn't built, with a bag that isn't plain, or a row line.
+const UNBUILT: [&[u8]; 7] = [
+    b"span hebrew iso days none none from year=1 month=M01 day=1 to year=1 month=M01 day=1",
+    b"span iso islamic-umalqura days none none from year=1 month=M01 day=1 to year=1 month=M01 day=1",
+    b"span roc roc none constrain ecma from to",
+    b"row",
+    b"row ",
+    b"row hijri 1445 738720 sll",
+    b"row\r",
+];
+
+// Lines off the grammar.
+const MALFORMED: [&[u8]; 33] = [
+    b"span iso",
+    b"span iso iso year none none from year=1 month=M01 day=1 to year=1 month=M01 day=1",
+    b"span iso iso days ecma none from year=1 month=M01 day=1 to year=1 month=M01 day=1",
+    b"span iso iso days none constrain from year=1 month=M01 day=1 to year=1 month=M01 day=1",
+    b"span ISO iso days none none from year=1 month=M01 day=1 to year=1 month=M01 day=1",
+    b"span iso iso days none none year=1 month=M01 day=1 to year=1 month=M01 day=1",
+    b"span iso iso days none none from year=1 month=M01 day=1",
+    b"span iso iso days none none from year=1 month=M01 day=1 to year=1 month=M01 day=1 to",
+    b"span iso iso days none none from year=1 month=M01 day=1 to from year=1 month=M01 day=1",
+    b"span iso iso days none none from year=1 year=1 month=M01 day=1 to year=1 month=M01 day=1",
+    b"span iso iso days none none from era=ce era= to",
+    b"span iso iso days none none from year= month=M01 day=1 to year=1 month=M01 day=1",
+    b"span iso iso days none none from year=1234567890 month=M01 day=1 to year=1 month=M01 day=1",
+    b"span iso iso days none none from month= to",
+    b"span iso iso days none none from month=M1 to",
+    b"span iso iso days none none from month=m01 to",
+    b"span iso iso days none none from day=256 to",
+    b"span iso iso days none none from day=-1 to",
+    b"span iso iso days none none from ordinal=0001 to",
+    b"span iso iso days none none from ordinal= to",
+    b"span iso iso days none none from era-year=+1 to",
+    b"span iso iso days none none from Year=1 to",
+    b"span iso iso days none none from years=1 to",
+    b"span iso iso days none none from year to",
+    b"span iso iso days none none from =1 to",
+    b"span iso iso days none none from  to year=1 month=M01 day=1",
+    b"span  iso iso days none none from to",
+    b" span iso iso days none none from to",
+    b"span iso iso days none none from to ",
+    b"span iso iso days none none from to\r\r",
+    b"rows",
+    b"row\thijri",
+    b"\r\r",
+];
 
 #[test]
-fn new_year_is_earlier_in_the_julian_calendar(rt: HostRuntime) -> Result<(), Fail> {
-    assert_answers(&rt, rt.alloc(), &SHOWN_JULIAN)
+fn lines_on_and_off_the_grammar(rt: HostRuntime) -> Result<(), Fail> {
+    for line in UNBUILT {
+        assert_answer(&rt, rt.alloc(), line, b"err line 1 unbuilt\n")?;
+    }
+    for line in MALFORMED {
+        assert_answer(&rt, rt.alloc(), line, b"err line 1 syntax\n")?;
+    }
+    Ok(())
 }
 
 #[test]

@@ -1,8 +1,7 @@
 //! Reads lines, and writes their answers.
-ghost use Rattle.std.specs.Prelude.{◌≡◌, ◌≤◌, ◌+◌, ◌++◌, [], List, Option, ℕ, Some, None, IfOk, OnErr, IfSome, ◌↔◌, length, map, string_bytes};
+ghost use Rattle.std.specs.Prelude.{◌≡◌, ◌≤◌, List, Option, ℕ, Some, None, IfOk, OnErr, IfSome, ◌↔◌, length, map, string_bytes};
 ghost use Rattle.byte_io.specs.Faults.{HasCause};
 ghost use Rattle.line_reader.specs.Buffer.{Holds};
-ghost use Rattle.line_reader.specs.Reader.{lines_given};
 ghost use Rattle.calspan.specs.Command.{command_of};
 ghost use Rattle.calspan.specs.Standing.{standing_of};
 ghost use Rattle.calspan.specs.Written.{Stands, Concludes, with_open_line};
@@ -11,8 +10,9 @@ ghost use Rattle.calspan.specs.Underway.{IsUnderway};
 
 use crate::answer::Progress;
 use crate::command::{Command, read_command};
-use crate::pending::{Pending, flush, respond};
+use crate::pending::{flush, respond};
 use crate::status::Status;
+use crate::text::Pending;
 use byte_io::{Failed, Sink, Source};
 use line_reader::{Filled, LineBuffer, Next, Reader};
 use std::alloc::Global;
@@ -142,7 +142,8 @@ fn serve<S: Source, K: Sink>(source: &mut S, sink: &mut K) -> Status
 /// - `Done` and `Refused`: all answers to the input; `Refused` where one of them is `err`.
 /// - `Words`: nothing, and nothing was read. This comes exactly where the words aren't `span` alone.
 /// - `ReadFault`: the source counted a fault. The answers to all lines whose LF was read.
-/// - `WriteFault`: the sink counted a fault. A front of the answers.
+/// - `WriteFault`: the sink counted a fault. A front of the answers to what was read; nothing is promised of how
+///   long it is.
 /// - `TooLong`: the source gave more than 16777216 bytes. The answers to all lines whose LF is among
 ///   the first 16777216.
 /// - `NoMemory` and `TableRefused` don't come yet.
@@ -161,8 +162,8 @@ pub fn run<S: Source, K: Sink>(
         (outside (S.left source.new) (K.taken sink.new) (S.faults source.new) (K.faults sink.new)) }
 
     // Over every input within the limit, and with no fault, all answers are written.
-    ensures headline { command_of (map string_bytes words.now) ≡ Some Command.Span → IfSome (S.left source.old) (λ input.
-        length input ≤ limit → NoFault
+    ensures headline { command_of (map string_bytes words.now) ≡ Some Command.Span
+        → IfSome (S.left source.old) (λ input. length input ≤ limit → NoFault
         (outside (S.left source.old) (K.taken sink.old) (S.faults source.old) (K.faults sink.old))
         (outside (S.left source.new) (K.taken sink.new) (S.faults source.new) (K.faults sink.new))
         → IsAnswered

@@ -1,6 +1,6 @@
 use crate::run::run;
 use crate::status::{Status, code};
-use crate::text::{Text, push_signed, push_two_digits};
+use crate::text::{Pending, push_signed, push_two_digits};
 use crate::words::{Words, byte, int};
 use byte_io::{MemorySink, MemorySource, PlainSink, PlainSource, Source};
 use line_reader::LIMIT;
@@ -40,17 +40,17 @@ const TEXTS: [Case; 9] = [
     Case {
         input: b"span iso",
         status: Status::Refused,
-        text: b"err line 1 unbuilt\n",
+        text: b"err line 1 syntax\n",
     },
     Case {
         input: b"span iso\n",
         status: Status::Refused,
-        text: b"err line 1 unbuilt\n",
+        text: b"err line 1 syntax\n",
     },
     Case {
         input: b"\r\r\n",
         status: Status::Refused,
-        text: b"err line 1 unbuilt\n",
+        text: b"err line 1 syntax\n",
     },
     Case {
         input: b"row\r\n",
@@ -60,12 +60,12 @@ const TEXTS: [Case; 9] = [
     Case {
         input: b"# births\r\n\r\nspan iso\r\n\nspan",
         status: Status::Refused,
-        text: b"err line 3 unbuilt\nerr line 5 unbuilt\n",
+        text: b"err line 3 syntax\nerr line 5 syntax\n",
     },
     Case {
         input: b" # not a comment\n\nx\n#x",
         status: Status::Refused,
-        text: b"err line 1 unbuilt\nerr line 3 unbuilt\n",
+        text: b"err line 1 syntax\nerr line 3 syntax\n",
     },
 ];
 
@@ -106,11 +106,11 @@ fn other_words_read_and_write_nothing(rt: HostRuntime) -> Result<(), Fail> {
 fn long_lines(rt: HostRuntime) -> Result<(), Fail> {
     let words = words(rt.alloc(), &["span"])?;
     for (letters, first, end, text) in [
-        (512usize, b'x', "", b"err line 1 unbuilt\n".as_slice()),
+        (512usize, b'x', "", b"err line 1 syntax\n".as_slice()),
         (513, b'x', "", b"err line 1 long\n".as_slice()),
-        (512, b'x', "\n", b"err line 1 unbuilt\n".as_slice()),
+        (512, b'x', "\n", b"err line 1 syntax\n".as_slice()),
         (513, b'x', "\n", b"err line 1 long\n".as_slice()),
-        (511, b'x', "\r\n", b"err line 1 unbuilt\n".as_slice()),
+        (511, b'x', "\r\n", b"err line 1 syntax\n".as_slice()),
         (512, b'x', "\r\n", b"err line 1 long\n".as_slice()),
         (9000, b'x', "\n", b"err line 1 long\n".as_slice()),
         (600, b'#', "\n", b"".as_slice()),
@@ -137,13 +137,9 @@ fn read_fault_keeps_the_answers_to_whole_lines(rt: HostRuntime) -> Result<(), Fa
     let words = words(rt.alloc(), &["span"])?;
     for (cut, call, text) in [
         (9usize, 1u64, b"".as_slice()),
-        (9, 2, b"err line 1 unbuilt\n".as_slice()),
-        (12, 2, b"err line 1 unbuilt\n".as_slice()),
-        (
-            18,
-            2,
-            b"err line 1 unbuilt\nerr line 2 unbuilt\n".as_slice(),
-        ),
+        (9, 2, b"err line 1 syntax\n".as_slice()),
+        (12, 2, b"err line 1 syntax\n".as_slice()),
+        (18, 2, b"err line 1 syntax\nerr line 2 syntax\n".as_slice()),
     ] {
         let failing = [call];
         let mut room = [0u8; 256];
@@ -161,8 +157,8 @@ fn write_fault_keeps_a_front(rt: HostRuntime) -> Result<(), Fail> {
     let words = words(rt.alloc(), &["span"])?;
     for (cut, call, text) in [
         (4096usize, 1u64, b"".as_slice()),
-        (12, 2, b"err line 1 u".as_slice()),
-        (12, 4, b"err line 1 unbuilt\nerr line 2 unbuil".as_slice()),
+        (10, 2, b"err line 1".as_slice()),
+        (10, 4, b"err line 1 syntax\nerr line 2 s".as_slice()),
     ] {
         let failing = [call];
         let mut room = [0u8; 256];
@@ -175,7 +171,7 @@ fn write_fault_keeps_a_front(rt: HostRuntime) -> Result<(), Fail> {
     Ok(())
 }
 
-// A thousand answers are more than is kept pending: 9 of 19 bytes, 90 of 20, 900 of 21, 1 of 22.
+// A thousand answers are more than is kept pending: 9 of 18 bytes, 90 of 19, 900 of 20, 1 of 21.
 #[test]
 fn many_answers(rt: HostRuntime) -> Result<(), Fail> {
     let words = words(rt.alloc(), &["span"])?;
@@ -187,7 +183,7 @@ fn many_answers(rt: HostRuntime) -> Result<(), Fail> {
     let mut sink = PlainSink::new();
     let status = run(rt.alloc(), &words, &mut source, &mut sink);
     assert_eq!(rt; status, Status::Refused);
-    assert_eq!(rt; sink.count(), 20893);
+    assert_eq!(rt; sink.count(), 19893);
     Ok(())
 }
 
@@ -224,7 +220,7 @@ fn codes(rt: HostRuntime) {
 
 #[test]
 fn numbers_as_texts(rt: HostRuntime) {
-    let mut text = Text::new();
+    let mut text = Pending::new();
     push_signed(&mut text, -9223372036854775808);
     text.push(b' ');
     push_signed(&mut text, 20);

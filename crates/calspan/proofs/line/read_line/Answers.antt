@@ -1,10 +1,18 @@
-use Rattle.std.proofs.Common.{length, sym, ap, ◌∙◌}
+use Rattle.std.proofs.Common.{true, false, cond, length, sym, ap, ◌∙◌}
 use Rattle.std.proofs.lemmas.List.{take_all}
+use Rattle.std.specs.Str.Lines.{strip_carriage_return}
 use borrow.Author.Tests.{ltb-false}
-use Rattle.calspan.specs.Lines.{line_of}
+use Rattle.calspan.specs.Lines.{Line, Long, said_by}
+use Rattle.calspan.proofs.LineLemmas.{loud_is}
 use Rattle.calspan.proofs.line.read_line.Goals as goal
 
-pub returns-else-line-clause-says : goal.returns-else-line-clause-says
-returns-else-line-clause-says c whole hold =
-    let short = ltb-false 512 (length whole) (sym hold.over ∙ c.if-line.false) in
-    c.read_short.ensures.says ∙ ap line_of (c.deref-else-line.ensures.0 ∙ (hold.front ∙ take_all 512 whole short))
+pub returns-then-line : goal.returns-then-line
+returns-then-line c whole hold loud =
+    sym (loud_is whole loud ∙ ap (λ t. cond t Long (said_by (strip_carriage_return whole))) (sym hold.over ∙ c.if-line.true))
+
+pub returns-else-line : goal.returns-else-line
+returns-else-line c whole hold loud =
+    let over = sym hold.over ∙ c.if-line.false in
+    let short = ltb-false 512 (length whole) over in
+    let front = c.deref.ensures.0 ∙ (hold.front ∙ take_all 512 whole short) in
+    c.read_short.ensures ∙ (ap said_by (c.without_return.ensures ∙ ap strip_carriage_return front) ∙ sym (loud_is whole loud ∙ ap (λ t. cond t Long (said_by (strip_carriage_return whole))) over))

@@ -1,4 +1,4 @@
-use Rattle.std.proofs.Common.{◌++◌, ◌∷◌, [], ap, ◌∙◌}
+use Rattle.std.proofs.Common.{◌∷◌, []}
 use Rattle.calspan.proofs.RunLemmas.{stands_push, stands_short-more}
 use Rattle.calspan.proofs.pending.respond.Goals as goal
 
@@ -8,5 +8,5 @@ returns-in_default-clause-answered g c before lines whole is holds h =
 
 pub returns-clause-answered : goal.returns-clause-answered
 returns-clause-answered g c before lines whole is holds h =
-    stands_push before _ c.make_room.new.pending.items c.answer.new.text.items _ lines whole c.args.number _ _ (c.in-Ok.ensures.answered before lines _ h) is
-    (c.answer.ensures whole holds) (c.push_all.ensures ∙ ap (λ r. c.make_room.new.pending.items ++ r) c.deref.ensures.0)
+    let (text, added, answers) = c.answer.ensures whole holds in
+    stands_push before _ c.make_room.new.pending.items text c.answer.new.pending.items lines whole c.args.number _ _ (c.in-Ok.ensures.answered before lines _ h) is answers added

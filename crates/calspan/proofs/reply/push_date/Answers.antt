@@ -13,7 +13,7 @@ pub push_two_digits-requires-clause-small : goal.push_two_digits-requires-clause
 push_two_digits-requires-clause-small c =
     let d = c.args.date.now in
     let dated = (any_dated d.calendar d.inner d.belongs).date in
-    let most = ((any_lawful d.calendar).lengths (any_date d.inner).year (any_date d.inner).month dated.place).1 in
+    let most = ((any_lawful d.calendar).lengths (any_date d.calendar d.inner).year (any_date d.calendar d.inner).month dated.place).1 in
     omega (arith, dated.day, most, c.day_of_month.ensures)
 
 -- the parts of a date, one after another
@@ -21,24 +21,22 @@ pushed : (old a y m d n s t u v w x z q all : List ℕ) → s ≡ old ++ a → t
     → all ≡ old ++ (a ++ 47 ∷ y ++ 47 ∷ m ++ 47 ∷ d ++ 64 ∷ n)
 pushed old a y m d n s t u v w x z q all e1 e2 e3 e4 e5 e6 e7 e8 e9 = rw (e9, e8, e7, e6, e5, e4, e3, e2, e1) (simp append_assoc)
 
-same_parts : (a y m d n b z o e p : List ℕ) → a ≡ b → y ≡ z → m ≡ o → d ≡ e → n ≡ p → a ++ 47 ∷ y ++ 47 ∷ m ++ 47 ∷ d ++ 64 ∷ n ≡ b ++ 47 ∷ z ++ 47 ∷ o ++ 47 ∷ e ++ 64 ∷ p
-same_parts a y m d n b z o e p f g h i j = rw (f, g, h, i, j) refl
+same_parts : (a y m d b z o e n : List ℕ) → a ≡ b → y ≡ z → m ≡ o → d ≡ e → a ++ 47 ∷ y ++ 47 ∷ m ++ 47 ∷ d ++ 64 ∷ n ≡ b ++ 47 ∷ z ++ 47 ∷ o ++ 47 ∷ e ++ 64 ∷ n
+same_parts a y m d b z o e n f g h i = rw (f, g, h, i) refl
 
 pub returns-clause-items : goal.returns-clause-items
 returns-clause-items c =
     let date = c.args.date.now in
     let s = any_system date.calendar in
-    let t = any_date date.inner in
+    let t = any_date date.calendar date.inner in
     let old = c.args.text.now.items in
     let fits : FitsSigned w32 c.extended_year.result = search rules in
     let year_fits : to_z w32 (of_z w32 c.extended_year.result) ≡ c.extended_year.result = omega (arith, signed) in
     let year_kept : to_z w64 (of_z w64 c.from.result) ≡ c.from.result = omega (arith, signed) in
-    let number_kept : to_z w64 (of_z w64 c.to_i64_date.result) ≡ c.to_i64_date.result = omega (arith, signed) in
     let year = ap extended_year_of c.year-year.ensures ∙ any_named date.calendar t in
     let extended = ap signed_decimal (year_kept ∙ (c.from.ensures ∙ (year_fits ∙ (c.extended_year.ensures ∙ year)))) in
     let printed = ap year_text c.year-year.ensures in
     let code = c.as_bytes.ensures.value ∙ ap (λ (p : MonthInfoParts). p.standard_code) c.month.ensures in
     let day = ap two_digits c.day_of_month.ensures in
-    let number = ap signed_decimal (number_kept ∙ (c.to_i64_date.ensures.value ∙ c.to_rata_die.ensures)) in
-    pushed old _ _ _ _ _ _ _ _ _ _ _ _ _ c.push_signed-2.new.text.items c.push_signed.ensures.items c.push.ensures.items c.push_year.ensures.items c.push-2.ensures.items c.push_all.ensures c.push-3.ensures.items c.push_two_digits.ensures c.push-4.ensures.items c.push_signed-2.ensures.items
-    ∙ ap (λ (x : List ℕ). old ++ x) (same_parts _ _ _ _ _ _ _ _ _ _ extended printed code day number)
+    pushed old _ _ _ _ _ _ _ _ _ _ _ _ _ c.push_all-2.new.text.items c.push_signed.ensures.items c.push.ensures.items c.push_year.ensures.items c.push-2.ensures.items c.push_all.ensures c.push-3.ensures.items c.push_two_digits.ensures c.push-4.ensures.items c.push_all-2.ensures
+    ∙ ap (λ (x : List ℕ). old ++ x) (same_parts _ _ _ _ _ _ _ _ c.args.day_number.now extended printed code day)

@@ -1,0 +1,17 @@
+use Rattle.std.proofs.Common.{◌≡◌, ℕ, true, false, cond, List, [], ◌++◌, refl, sym, ap, ◌∙◌, subst}
+use Rattle.std.proofs.lemmas.List.{append-nil}
+use Rattle.calspan.specs.Standing.{standing_of}
+use Rattle.calspan.specs.Lines.{Line, Nothing, Long, is_silent, line_of}
+use Rattle.calspan.specs.Answers.{IsAnswerTo}
+use Rattle.calspan.proofs.LineLemmas.{silent_is}
+use Rattle.calspan.proofs.answer.answer.Goals as goal
+
+pub returns-then-is_silent : goal.returns-then-is_silent
+returns-then-is_silent c whole holds =
+    let s = standing_of c.args.progress.now in
+    let silent : is_silent whole ≡ true = sym (c.is_silent.ensures whole holds) ∙ c.if-is_silent.true in
+    ([], sym (append-nil c.args.pending.now.items), subst (λ (l : Line). IsAnswerTo l c.args.number s [] s) (sym (silent_is whole silent)) (refl, refl))
+
+pub returns : goal.returns
+returns c whole holds =
+    c.answer_request.ensures whole holds (sym (c.is_silent.ensures whole holds) ∙ c.if-is_silent.false)
