@@ -1,10 +1,12 @@
 -- Calls in turn, on the bytes that a source and a sink tell.
-use Rattle.std.proofs.Common.{ℕ, ◌+◌, ◌-◌, take, drop, length, subst, List, [], ◌++◌, Option, Some, None, refl, ◌∙◌, sym, ap}
+use Rattle.std.proofs.Common.{ℕ, ◌+◌, ◌-◌, take, drop, length, subst, List, [], ◌++◌, Option, Some, None, Result, Ok, Err, true≢false, refl, ◌∙◌, sym, ap}
 use Rattle.std.proofs.lemmas.List.{append-nil, append_assoc, take_rest, take-append-drop}
 use Rattle.std.proofs.Math.Seq.{take-add}
+use Rattle.std.specs.Result.{IsErr}
 use Rattle.std.specs.Io.KnownBytes.{Appends, Consumes, Keeps}
+use Rattle.byte_io.specs.declared.Failed.{Failed}
 use Rattle.byte_io.specs.Bytes.{IsPrefix}
-use Rattle.calspan.specs.Written.{WroteFront}
+use Rattle.calspan.specs.Written.{WroteFront, Wrote}
 
 pub appends_none : (a : Option (List ℕ)) → Appends a a []
 appends_none None = tt
@@ -62,6 +64,10 @@ sent_more a b c text at n p q =
 -- no more of it
 pub sent_front : (a b c : Option (List ℕ)) (text : List ℕ) (at : ℕ) → Appends a b (take at text) → Keeps b c → WroteFront a c text
 sent_front a b c text at p q = (take at text, appends_keeps a b c (take at text) p q, (drop at text, sym (take-append-drop at text)))
+
+pub wrote_err : {T : Type 0} (r : Result T Failed) (a b : Option (List ℕ)) (text : List ℕ) → IsErr r → WroteFront a b text → Wrote r a b text
+wrote_err (Ok x) a b text failed h = absurd (true≢false (sym failed))
+wrote_err (Err e) a b text failed h = h
 
 pub prefix_then : (x y z : List ℕ) → IsPrefix x y → IsPrefix y z → IsPrefix x z
 prefix_then x y z (r, e) (s, f) = (r ++ s, f ∙ (ap (λ t. t ++ s) e ∙ append_assoc x r s))

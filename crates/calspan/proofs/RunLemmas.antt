@@ -1,6 +1,7 @@
 -- A run, line by line.
-use Rattle.std.proofs.Common.{◌≡◌, ℕ, ◌+◌, ◌≤◌, Bool, true, false, cond, List, [], ◌∷◌, ◌++◌, length, take, Option, Some, None, Result, Ok, Err, IfOk, OnErr, IfSome, refl, arith, ◌∙◌, sym, ap, subst}
+use Rattle.std.proofs.Common.{◌≡◌, ℕ, ◌+◌, ◌≤◌, Bool, true, false, cond, List, [], ◌∷◌, ◌++◌, length, take, Option, Some, None, Result, Ok, Err, IfOk, OnErr, IfSome, true≢false, refl, arith, ◌∙◌, sym, ap, subst}
 use Rattle.std.proofs.lemmas.List.{append-nil, append_assoc, length_push, length-append}
+use Rattle.std.specs.Result.{IsErr}
 use Rattle.std.specs.Io.KnownBytes.{Appends, Consumes, IsAtEnd, Keeps}
 use Rattle.byte_io.specs.Faults.{Rose}
 use Rattle.byte_io.specs.declared.Failed.{Failed}
@@ -14,7 +15,7 @@ use Rattle.calspan.specs.declared.status.Status.{Status}
 use Rattle.calspan.specs.declared.status.Status.TheVariants.{Done, Refused, Words, ReadFault, WriteFault, NoMemory, TableRefused, TooLong}
 use Rattle.calspan.specs.Lines.{line_of}
 use Rattle.calspan.specs.Answers.{Standing, begin, IsAnswerTo, AreAnswers, IsAnswers, status_of}
-use Rattle.calspan.specs.Written.{WroteFront, Stands, StandsShort, AllWritten, Concludes, with_open_line}
+use Rattle.calspan.specs.Written.{WroteFront, Stands, StandsShort, Answered, AllWritten, Concludes, with_open_line}
 use Rattle.calspan.specs.Underway.{IsUnderway}
 use Rattle.calspan.specs.Run.{Outside, outside, AnsweredAll, StoppedReading, StoppedWriting, TookTooMuch, Serves, NoFault, IsAnswered, limit}
 use Rattle.calspan.proofs.AnswerLemmas.{AreAnswers-push, answers_front}
@@ -48,6 +49,15 @@ stands_short-more before now lines more h =
       answers = answers;
       wrote = (front, wrote, prefix_then front h.text (h.text ++ rest) begins (rest, refl));
     }
+
+-- where it failed, a front is written
+pub answered_err : {T : Type 0} (r : Result T Failed) (before now : Option (List ℕ)) (pending : List ℕ) (lines : List (List ℕ)) (s : Standing) → IsErr r → StandsShort before now lines → Answered r before now pending lines s
+answered_err (Ok x) before now pending lines s failed h = absurd (true≢false (sym failed))
+answered_err (Err e) before now pending lines s failed h = h
+
+pub concludes_err : (r : Result Status Failed) (before now : Option (List ℕ)) (lines : List (List ℕ)) → IsErr r → StandsShort before now lines → Concludes r before now lines
+concludes_err (Ok x) before now lines failed h = absurd (true≢false (sym failed))
+concludes_err (Err e) before now lines failed h = h
 
 -- one line more, its answer pending
 pub stands_push : (before now : Option (List ℕ)) (pending added new : List ℕ) (lines : List (List ℕ)) (line : List ℕ) (number : ℕ) (s next : Standing) → Stands before now pending lines s → number ≡ length lines + 1

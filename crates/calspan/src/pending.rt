@@ -19,10 +19,7 @@ fn write_all<K: Sink>(text: &[u8], sink: &mut K) -> Result<(), Failed>
 {
     let mut at = 0;
     while at < text.len() {
-        let Ok(count) = sink.write(&text[at..]) else {
-            return Err(Failed);
-        };
-        at += count;
+        at += sink.write(&text[at..])?;
     }
     Ok(())
 }
@@ -35,9 +32,7 @@ pub fn flush<K: Sink>(pending: &mut Pending, sink: &mut K) -> Result<(), Failed>
     ensures none { OnOk result (pending.new.items ≡ []) }
     ensures cause { HasCause (K.faults sink.old) (K.faults sink.new) result }
 {
-    let Ok(()) = write_all(pending, sink) else {
-        return Err(Failed);
-    };
+    write_all(pending, sink)?;
     pending.clear();
     Ok(())
 }
@@ -72,9 +67,7 @@ pub fn respond<K: Sink>(
         (standing_of progress.new) }
     ensures cause { HasCause (K.faults sink.old) (K.faults sink.new) result }
 {
-    let Ok(()) = make_room(pending, sink) else {
-        return Err(Failed);
-    };
+    make_room(pending, sink)?;
     answer(pending, progress, number, line);
     Ok(())
 }

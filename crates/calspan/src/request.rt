@@ -136,30 +136,17 @@ fn next_missing_fields(words: &mut Words) -> Option<Option<MissingFieldsStrategy
     }
 }
 
+#[tactic(auto, unfolding(crate::specs::Requests::header_read))]
 fn read_header(words: &mut Words) -> Option<Header>
     ensures { IsReading (header_read (words_left words.old)) (option_map header_said result) (words_left words.new) }
 {
-    let Some(()) = next_is(words, b"span") else {
-        return None;
-    };
-    let Some(calendar) = next_calendar(words) else {
-        return None;
-    };
-    let Some(shown) = next_calendar(words) else {
-        return None;
-    };
-    let Some(largest_unit) = next_unit(words) else {
-        return None;
-    };
-    let Some(overflow) = next_overflow(words) else {
-        return None;
-    };
-    let Some(missing_fields_strategy) = next_missing_fields(words) else {
-        return None;
-    };
-    let Some(()) = next_is(words, b"from") else {
-        return None;
-    };
+    next_is(words, b"span")?;
+    let calendar = next_calendar(words)?;
+    let shown = next_calendar(words)?;
+    let largest_unit = next_unit(words)?;
+    let overflow = next_overflow(words)?;
+    let missing_fields_strategy = next_missing_fields(words)?;
+    next_is(words, b"from")?;
     Some(Header {
         calendar,
         shown,
@@ -176,18 +163,13 @@ fn read_header(words: &mut Words) -> Option<Header>
 /// UNIT `years`, `months`, `weeks`, `days` or `none`, OVERFLOW `constrain`, `reject` or `none`, MISSING
 /// `reject`, `ecma` or `none`, and FIELDS zero or more words, each key at most once and in any order:
 /// `era=BYTES era-year=INT year=INT month=CODE month-code=BYTES ordinal=BYTE day=BYTE`.
+#[tactic(auto, unfolding(crate::specs::Requests::request_read))]
 pub fn read_request<'a>(line: &'a [u8]) -> Option<Request<'a>>
     ensures { option_map request_said result ≡ request_read (words_of line.now) }
 {
     let mut words = Words::new(line);
-    let Some(header) = read_header(&mut words) else {
-        return None;
-    };
-    let Some(from) = read_bag_to(&mut words) else {
-        return None;
-    };
-    let Some(to) = read_bag(&mut words) else {
-        return None;
-    };
+    let header = read_header(&mut words)?;
+    let from = read_bag_to(&mut words)?;
+    let to = read_bag(&mut words)?;
     Some(Request { header, from, to })
 }

@@ -28,9 +28,7 @@ fn conclude<K: Sink>(
         → Concludes result before (K.taken sink.new) lines }
     ensures cause { HasCause (K.faults sink.old) (K.faults sink.new) result }
 {
-    let Ok(()) = flush(pending, sink) else {
-        return Err(Failed);
-    };
+    flush(pending, sink)?;
     Ok(progress.status())
 }
 
@@ -53,9 +51,7 @@ fn finish<K: Sink>(
         return conclude(start, pending, sink);
     }
     let mut progress = start;
-    let Ok(()) = respond(&mut progress, lines + 1, line, pending, sink) else {
-        return Err(Failed);
-    };
+    respond(&mut progress, lines + 1, line, pending, sink)?;
     conclude(progress, pending, sink)
 }
 
