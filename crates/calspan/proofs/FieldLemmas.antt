@@ -1,9 +1,8 @@
 -- Words are read as fields by their keys.
-use Rattle.std.proofs.Common.{◌≡◌, ℕ, Bool, true, false, cond, List, Option, None, codes, drop, nat_eq, refl, ap, ◌∙◌}
+use Rattle.std.proofs.Common.{◌≡◌, ℕ, Bool, true, false, cond, List, None, codes, drop, refl, ap, ◌∙◌}
 use Rattle.std.specs.Option.{option_map}
 use Rattle.calspan.specs.Words.{int_of, byte_of}
-use Rattle.cal_types.specs.Month.{month_read}
-use Rattle.calspan.specs.Bags.{Field, Era, EraYear, ExtendedYear, Month, MonthCode, OrdinalMonth, Day, bytes_of, has_key, rarer_field_read, field_read}
+use Rattle.calspan.specs.Bags.{EraYear, OrdinalMonth, has_key, rarer_field_read, field_read}
 
 -- choices by three tests in a row
 behind_three : {T : Type 0} (a b c : Bool) (p q r rest : T) → a ≡ false → b ≡ false → c ≡ false

@@ -1,7 +1,6 @@
 -- Words are read as a request exactly where they are of the form of a request line.
 use Rattle.std.proofs.Common.{◌≡◌, ℕ, Bool, true, false, cond, List, [], ◌∷◌, ◌++◌, Option, Some, None, refl, ◌∙◌, sym, ap, subst, codes}
 use Rattle.std.specs.Option.{option_map}
-use Rattle.cal_types.specs.Bag.{Bag}
 use Rattle.calspan.specs.Command.{is_text}
 use Rattle.calspan.specs.Reading.{Read, next_word, and_then}
 use Rattle.calspan.specs.Bags.{no_fields, bag_before_to, bag_of_all}

@@ -1,5 +1,5 @@
 -- What lines say: it is what is read of them.
-use Rattle.std.proofs.Common.{◌≡◌, ◌≢◌, ℕ, ◌+◌, ◌-◌, ◌<◌, ◌≤◌, Bool, true, false, cond, ◌||◌, Option, Some, None, inl, inr, ◌⊎◌, ◌==◌, List, [], ◌∷◌, length, take, nat_lt, slice_index, refl, sym, ap, ◌∙◌, arith}
+use Rattle.std.proofs.Common.{◌≡◌, ℕ, ◌-◌, ◌≤◌, Bool, true, false, cond, ◌||◌, Option, Some, None, inl, inr, ◌⊎◌, ◌==◌, List, [], ◌∷◌, length, take, nat_lt, slice_index, refl, sym, ap, ◌∙◌, arith}
 use Rattle.std.specs.Str.Lines.{strip_carriage_return}
 use Rattle.std.proofs.lemmas.List.{take_all, length-take}
 use Rattle.std.proofs.lemmas.Bool.{ne_eqb}

@@ -1,7 +1,7 @@
 -- What the words of a bag say, as one statement of all of them.
-use Rattle.std.specs.Prelude.{◌≡◌, ◌≢◌, List, [], ◌∷◌, ◌++◌, ℕ, Option, Some, None, codes}
+use Rattle.std.specs.Prelude.{◌≡◌, ◌≢◌, List, [], ◌∷◌, ◌++◌, ℕ, Option, Some, codes}
 use Rattle.std.specs.Option.{option_or}
-use Rattle.cal_types.specs.Month.{MonthParts, month_read}
+use Rattle.cal_types.specs.Month.{month_read}
 use Rattle.cal_types.specs.Bag.{Bag}
 use Rattle.calspan.specs.Words.{int_of, byte_of}
 use Rattle.calspan.specs.Bags.{Field, Era, EraYear, ExtendedYear, Month, MonthCode, OrdinalMonth, Day, bytes_of, no_fields}

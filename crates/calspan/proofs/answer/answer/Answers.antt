@@ -1,7 +1,7 @@
-use Rattle.std.proofs.Common.{◌≡◌, ℕ, true, false, cond, List, [], ◌++◌, refl, sym, ap, ◌∙◌, subst}
+use Rattle.std.proofs.Common.{◌≡◌, true, [], refl, sym, ◌∙◌, subst}
 use Rattle.std.proofs.lemmas.List.{append-nil}
 use Rattle.calspan.specs.Standing.{standing_of}
-use Rattle.calspan.specs.Lines.{Line, Nothing, Long, is_silent, line_of}
+use Rattle.calspan.specs.Lines.{Line, is_silent}
 use Rattle.calspan.specs.Answers.{IsAnswerTo}
 use Rattle.calspan.proofs.LineLemmas.{silent_is}
 use Rattle.calspan.proofs.answer.answer.Goals as goal

@@ -2,7 +2,7 @@ use Rattle.std.proofs.Common.{◌≡◌, ℤ, Option, Some, FitsSigned, w32, to_
 use Rattle.std.specs.Option.{option_map}
 use Rattle.cal_days.proofs.Signed.{signed}
 use Rattle.calspan.specs.Words.{int_of}
-use Rattle.calspan.specs.Bags.{Field, EraYear}
+use Rattle.calspan.specs.Bags.{EraYear}
 use Rattle.calspan.specs.FieldSaid.{field_said}
 use Rattle.calspan.proofs.FieldLemmas.{reads_era_year, reads_no_field}
 use Rattle.calspan.proofs.bag.read_rarer_field.Goals as goal

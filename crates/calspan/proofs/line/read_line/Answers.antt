@@ -1,8 +1,8 @@
-use Rattle.std.proofs.Common.{true, false, cond, length, sym, ap, ◌∙◌}
+use Rattle.std.proofs.Common.{cond, length, sym, ap, ◌∙◌}
 use Rattle.std.proofs.lemmas.List.{take_all}
 use Rattle.std.specs.Str.Lines.{strip_carriage_return}
 use borrow.Author.Tests.{ltb-false}
-use Rattle.calspan.specs.Lines.{Line, Long, said_by}
+use Rattle.calspan.specs.Lines.{Long, said_by}
 use Rattle.calspan.proofs.LineLemmas.{loud_is}
 use Rattle.calspan.proofs.line.read_line.Goals as goal
 
