@@ -10,11 +10,12 @@ use Rattle.icu_calendar.proofs.SpanLemmas.{span-exists, span-unique}
 use Rattle.calspan.specs.Lines.{Line, Nothing, Long, Asks, Unbuilt, Malformed, line_of}
 use Rattle.calspan.proofs.LineLemmas.{line_says, line_is}
 use Rattle.calspan.specs.Replies.{reply_text, is_refusal, options_of}
-use Rattle.calspan.specs.Answers.{Standing, begin, refusal, refusing, replied, IsAnswerTo, AnswersLine, AreAnswers, status_of}
+use Rattle.calspan.specs.Answers.{begin, refusal, refusing, replied, IsAnswerTo, AnswersLine, AreAnswers, status_of}
+use Rattle.calspan.specs.declared.answer.Progress.{Progress}
 use Rattle.calspan.specs.Laws.{EveryInputHasAnswers, AnswersAreUnique, AnswersToFrontAreFront}
 
 -- there is an answer to each line
-pub answer_exists : (line : Line) (n : ℕ) (s : Standing) → (text : List ℕ) × (next : Standing) × IsAnswerTo line n s text next
+pub answer_exists : (line : Line) (n : ℕ) (s : Progress) → (text : List ℕ) × (next : Progress) × IsAnswerTo line n s text next
 answer_exists Nothing n s = ([], s, (refl, refl))
 answer_exists Long n s = (refusal n (codes "long"), refusing s, (refl, refl))
 answer_exists (Asks calendar other r) n s =
@@ -25,7 +26,7 @@ answer_exists Unbuilt n s = (refusal n (codes "unbuilt"), refusing s, (refl, ref
 answer_exists Malformed n s = (refusal n (codes "syntax"), refusing s, (refl, refl))
 
 -- there is one answer to a line
-pub answer_unique : (line : Line) (n : ℕ) (s : Standing) (a b : List ℕ) (p q : Standing) → IsAnswerTo line n s a p → IsAnswerTo line n s b q → (a ≡ b) × (p ≡ q)
+pub answer_unique : (line : Line) (n : ℕ) (s : Progress) (a b : List ℕ) (p q : Progress) → IsAnswerTo line n s a p → IsAnswerTo line n s b q → (a ≡ b) × (p ≡ q)
 answer_unique Nothing n s a b p q (x, e) (y, f) = (x ∙ sym y, e ∙ sym f)
 answer_unique Long n s a b p q (x, e) (y, f) = (x ∙ sym y, e ∙ sym f)
 answer_unique (Asks calendar other r) n s a b p q (f, x, e) (g, y, h) =
@@ -36,34 +37,34 @@ answer_unique Unbuilt n s a b p q (x, e) (y, f) = (x ∙ sym y, e ∙ sym f)
 answer_unique Malformed n s a b p q (x, e) (y, f) = (x ∙ sym y, e ∙ sym f)
 
 -- what answers a line as it is read, answers it
-answers_line : (line : List ℕ) (n : ℕ) (s : Standing) (text : List ℕ) (next : Standing) → IsAnswerTo (line_of line) n s text next → AnswersLine line n s text next
+answers_line : (line : List ℕ) (n : ℕ) (s : Progress) (text : List ℕ) (next : Progress) → IsAnswerTo (line_of line) n s text next → AnswersLine line n s text next
 answers_line line n s text next answer = record { said = line_of line; says = line_says line; answer = answer }
 
-answers_as_read : (line : List ℕ) (n : ℕ) (s : Standing) (text : List ℕ) (next : Standing) → AnswersLine line n s text next → IsAnswerTo (line_of line) n s text next
+answers_as_read : (line : List ℕ) (n : ℕ) (s : Progress) (text : List ℕ) (next : Progress) → AnswersLine line n s text next → IsAnswerTo (line_of line) n s text next
 answers_as_read line n s text next h = subst (λ (l : Line). IsAnswerTo l n s text next) (line_is line h.said h.says) h.answer
 
 -- there are answers to lines
-pub answers_exist : (lines : List (List ℕ)) (n : ℕ) (s : Standing) → (text : List ℕ) × (end : Standing) × AreAnswers lines n s text end
+pub answers_exist : (lines : List (List ℕ)) (n : ℕ) (s : Progress) → (text : List ℕ) × (end : Progress) × AreAnswers lines n s text end
 answers_exist [] n s = ([], s, (refl, refl))
 answers_exist (line ∷ more) n s =
     let (added, next, answer) = answer_exists (line_of line) n s in
     let (rest, end, answers) = answers_exist more (n + 1) next in
     (added ++ rest, end, (added, rest, next, answers_line line n s added next answer, refl, answers))
 
--- there is one text for lines, and one standing behind them
-pub answers_unique : (lines : List (List ℕ)) (n : ℕ) (s : Standing) (a b : List ℕ) (p q : Standing) → AreAnswers lines n s a p → AreAnswers lines n s b q → (a ≡ b) × (p ≡ q)
+-- there is one text for lines, and one progress behind them
+pub answers_unique : (lines : List (List ℕ)) (n : ℕ) (s : Progress) (a b : List ℕ) (p q : Progress) → AreAnswers lines n s a p → AreAnswers lines n s b q → (a ≡ b) × (p ≡ q)
 answers_unique [] n s a b p q (x, e) (y, f) = (x ∙ sym y, e ∙ sym f)
 answers_unique (line ∷ more) n s a b p q (added, rest, next, answer, x, answers) (added', rest', next', answer', y, answers') =
     let (same, stands) = answer_unique (line_of line) n s added added' next next' (answers_as_read line n s added next answer) (answers_as_read line n s added' next' answer') in
-    let others : AreAnswers more (n + 1) next rest' q = subst (λ (t : Standing). AreAnswers more (n + 1) t rest' q) (sym stands) answers' in
+    let others : AreAnswers more (n + 1) next rest' q = subst (λ (t : Progress). AreAnswers more (n + 1) t rest' q) (sym stands) answers' in
     let (same_rest, ends) = answers_unique more (n + 1) next rest rest' p q answers others in
     (x ∙ (ap (λ t. t ++ rest) same ∙ (ap (λ t. added' ++ t) same_rest ∙ sym y)), ends)
 
 -- the answers to some lines, and to those that follow
-pub AreAnswers-append : (lines more : List (List ℕ)) (n : ℕ) (s m e : Standing) (a b : List ℕ) → AreAnswers lines n s a m → AreAnswers more (n + length lines) m b e → AreAnswers (lines ++ more) n s (a ++ b) e
+pub AreAnswers-append : (lines more : List (List ℕ)) (n : ℕ) (s m e : Progress) (a b : List ℕ) → AreAnswers lines n s a m → AreAnswers more (n + length lines) m b e → AreAnswers (lines ++ more) n s (a ++ b) e
 AreAnswers-append [] more n s m e a b (x, stands) answers =
     let none : n + 0 ≡ n = omega arith in
-    let from_s : AreAnswers more (n + 0) s b e = subst (λ (t : Standing). AreAnswers more (n + 0) t b e) stands answers in
+    let from_s : AreAnswers more (n + 0) s b e = subst (λ (t : Progress). AreAnswers more (n + 0) t b e) stands answers in
     let at_n : AreAnswers more n s b e = subst (λ (k : ℕ). AreAnswers more k s b e) none from_s in
     subst (λ (t : List ℕ). AreAnswers more n s t e) (ap (λ t. t ++ b) (sym x)) at_n
 AreAnswers-append (line ∷ lines) more n s m e a b (added, rest, next, answer, x, answers) others =
@@ -72,14 +73,14 @@ AreAnswers-append (line ∷ lines) more n s m e a b (added, rest, next, answer, 
     (added, rest ++ b, next, answer, ap (λ t. t ++ b) x ∙ append_assoc added rest b, behind)
 
 -- one line more
-pub AreAnswers-push : (lines : List (List ℕ)) (line : List ℕ) (number : ℕ) (s m e : Standing) (a b : List ℕ) → number ≡ length lines + 1 → AreAnswers lines 1 s a m → IsAnswerTo (line_of line) number m b e → AreAnswers (lines ++ line ∷ []) 1 s (a ++ b) e
+pub AreAnswers-push : (lines : List (List ℕ)) (line : List ℕ) (number : ℕ) (s m e : Progress) (a b : List ℕ) → number ≡ length lines + 1 → AreAnswers lines 1 s a m → IsAnswerTo (line_of line) number m b e → AreAnswers (lines ++ line ∷ []) 1 s (a ++ b) e
 AreAnswers-push lines line number s m e a b is answers answer =
     let count : number ≡ 1 + length lines = omega arith in
     AreAnswers-append lines (line ∷ []) 1 s m e a b answers
     (b, [], e, answers_line line (1 + length lines) m b e (subst (λ (k : ℕ). IsAnswerTo (line_of line) k m b e) count answer), sym (append-nil b), (refl, refl))
 
 -- the answers to the first lines are a front of the answers to all
-pub answers_front : (lines more : List (List ℕ)) (s m : Standing) (a : List ℕ) → AreAnswers lines 1 s a m → (rest : List ℕ) × (end : Standing) × AreAnswers (lines ++ more) 1 s (a ++ rest) end
+pub answers_front : (lines more : List (List ℕ)) (s m : Progress) (a : List ℕ) → AreAnswers lines 1 s a m → (rest : List ℕ) × (end : Progress) × AreAnswers (lines ++ more) 1 s (a ++ rest) end
 answers_front lines more s m a answers =
     let (rest, end, others) = answers_exist more (1 + length lines) m in
     (rest, end, AreAnswers-append lines more 1 s m end a rest answers others)

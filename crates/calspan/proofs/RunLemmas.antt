@@ -14,7 +14,8 @@ use Rattle.line_reader.proofs.FrontLemmas.{given_in_all}
 use Rattle.calspan.specs.declared.status.Status.{Status}
 use Rattle.calspan.specs.declared.status.Status.TheVariants.{Done, Refused, Words, ReadFault, WriteFault, NoMemory, TableRefused, TooLong}
 use Rattle.calspan.specs.Lines.{line_of}
-use Rattle.calspan.specs.Answers.{Standing, begin, IsAnswerTo, AreAnswers, IsAnswers, status_of}
+use Rattle.calspan.specs.Answers.{begin, IsAnswerTo, AreAnswers, IsAnswers, status_of}
+use Rattle.calspan.specs.declared.answer.Progress.{Progress}
 use Rattle.calspan.specs.Written.{WroteFront, Stands, StandsShort, Answered, AllWritten, Concludes, with_open_line}
 use Rattle.calspan.specs.Underway.{IsUnderway}
 use Rattle.calspan.specs.Run.{Outside, outside, AnsweredAll, StoppedReading, StoppedWriting, TookTooMuch, Serves, NoFault, IsAnswered, limit}
@@ -22,7 +23,7 @@ use Rattle.calspan.proofs.AnswerLemmas.{AreAnswers-push, answers_front}
 use Rattle.calspan.proofs.KnownLemmas.{appends_then, consumes_then, consumes_keeps, wrote_behind, prefix_then}
 
 -- what was pending is written
-pub stands_written : (before mid now : Option (List ℕ)) (pending none : List ℕ) (lines : List (List ℕ)) (s : Standing) → Stands before mid pending lines s → Appends mid now pending → none ≡ [] → Stands before now none lines s
+pub stands_written : (before mid now : Option (List ℕ)) (pending none : List ℕ) (lines : List (List ℕ)) (s : Progress) → Stands before mid pending lines s → Appends mid now pending → none ≡ [] → Stands before now none lines s
 stands_written before mid now pending none lines s h wrote e = record {
   written = h.written ++ pending;
   wrote = appends_then before mid now h.written pending h.wrote wrote;
@@ -30,7 +31,7 @@ stands_written before mid now pending none lines s h wrote e = record {
 }
 
 -- a front of what was pending is written
-pub stands_short : (before mid now : Option (List ℕ)) (pending : List ℕ) (lines : List (List ℕ)) (s : Standing) → Stands before mid pending lines s → WroteFront mid now pending → StandsShort before now lines
+pub stands_short : (before mid now : Option (List ℕ)) (pending : List ℕ) (lines : List (List ℕ)) (s : Progress) → Stands before mid pending lines s → WroteFront mid now pending → StandsShort before now lines
 stands_short before mid now pending lines s h wrote = record {
   text = h.written ++ pending;
   end = s;
@@ -51,7 +52,7 @@ stands_short-more before now lines more h =
     }
 
 -- where it failed, a front is written
-pub answered_err : {T : Type 0} (r : Result T Failed) (before now : Option (List ℕ)) (pending : List ℕ) (lines : List (List ℕ)) (s : Standing) → IsErr r → StandsShort before now lines → Answered r before now pending lines s
+pub answered_err : {T : Type 0} (r : Result T Failed) (before now : Option (List ℕ)) (pending : List ℕ) (lines : List (List ℕ)) (s : Progress) → IsErr r → StandsShort before now lines → Answered r before now pending lines s
 answered_err (Ok x) before now pending lines s failed h = absurd (true≢false (sym failed))
 answered_err (Err e) before now pending lines s failed h = h
 
@@ -60,7 +61,7 @@ concludes_err (Ok x) before now lines failed h = absurd (true≢false (sym faile
 concludes_err (Err e) before now lines failed h = h
 
 -- one line more, its answer pending
-pub stands_push : (before now : Option (List ℕ)) (pending added new : List ℕ) (lines : List (List ℕ)) (line : List ℕ) (number : ℕ) (s next : Standing) → Stands before now pending lines s → number ≡ length lines + 1
+pub stands_push : (before now : Option (List ℕ)) (pending added new : List ℕ) (lines : List (List ℕ)) (line : List ℕ) (number : ℕ) (s next : Progress) → Stands before now pending lines s → number ≡ length lines + 1
     → IsAnswerTo (line_of line) number s added next → new ≡ pending ++ added → Stands before now new (lines ++ line ∷ []) next
 stands_push before now pending added new lines line number s next h is answer e = record {
   written = h.written;
@@ -70,7 +71,7 @@ stands_push before now pending added new lines line number s next h is answer e 
 }
 
 -- nothing is pending behind the last line
-pub all_written : (before now : Option (List ℕ)) (none : List ℕ) (lines : List (List ℕ)) (s : Standing) (status : Status) → Stands before now none lines s → none ≡ [] → status ≡ status_of s → AllWritten before now lines status
+pub all_written : (before now : Option (List ℕ)) (none : List ℕ) (lines : List (List ℕ)) (s : Progress) (status : Status) → Stands before now none lines s → none ≡ [] → status ≡ status_of s → AllWritten before now lines status
 all_written before now none lines s status h e ends = record {
   text = h.written;
   end = s;
@@ -80,7 +81,7 @@ all_written before now none lines s status h e ends = record {
 }
 
 -- the next line was answered
-pub line_on : (old : Outside) (l t t2 : Option (List ℕ)) (r w w2 : ℕ) (reader q : Reader) (line buffer cleared : LineBuffer) (pending new : List ℕ) (s next : Standing) → (h : IsUnderway old (outside l t r w) reader line pending s)
+pub line_on : (old : Outside) (l t t2 : Option (List ℕ)) (r w w2 : ℕ) (reader q : Reader) (line buffer cleared : LineBuffer) (pending new : List ℕ) (s next : Progress) → (h : IsUnderway old (outside l t r w) reader line pending s)
     → (f : GivesLine q buffer h.bytes h.lines) → lines_given q ≡ lines_given reader + 1 → Stands old.taken t2 new (h.lines ++ f.line ∷ []) next → Holds cleared [] → w ≤ w2
     → IsUnderway old (outside l t2 r w2) q cleared new next
 line_on old l t t2 r w w2 reader q line buffer cleared pending new s next h f counts stands empty later = record {
@@ -97,7 +98,7 @@ line_on old l t t2 r w w2 reader q line buffer cleared pending new s next h f co
 }
 
 -- the next chunk was read
-pub chunk_on : (old : Outside) (l l2 t t2 : Option (List ℕ)) (r r2 w w2 : ℕ) (reader mid q : Reader) (line buffer : LineBuffer) (pending none x : List ℕ) (s : Standing) → (h : IsUnderway old (outside l t r w) reader line pending s)
+pub chunk_on : (old : Outside) (l l2 t t2 : Option (List ℕ)) (r r2 w w2 : ℕ) (reader mid q : Reader) (line buffer : LineBuffer) (pending none x : List ℕ) (s : Progress) → (h : IsUnderway old (outside l t r w) reader line pending s)
     → (f : GivesAll mid buffer h.bytes h.lines) → lines_given mid ≡ lines_given reader → lines_given q ≡ lines_given mid → Stands old.taken t2 none h.lines s → Consumes l l2 x → IsAt q (h.bytes ++ x) h.lines (open_line h.bytes) → r ≤ r2 → w ≤ w2
     → IsUnderway old (outside l2 t2 r2 w2) q buffer none s
 chunk_on old l l2 t t2 r r2 w w2 reader mid q line buffer pending none x s h f same still stands took at read write = record {
@@ -139,7 +140,7 @@ stopped_within old l t2 r w w2 reader lines rest bytes took at later rose short 
     let (others, all) = given_in_all reader bytes lines rest at in
     stopped_writing old l t2 r w w2 bytes false lines others took all (λ no. cc) later rose short
 
-status_of-not_refused : (s : Standing) → status_of s ≡ TableRefused → ⊥
+status_of-not_refused : (s : Progress) → status_of s ≡ TableRefused → ⊥
 status_of-not_refused s h = sound s.refused h
   where
     sound : (c : Bool) → ◌≡◌ {A = Status} (cond c Refused Done) TableRefused → ⊥
@@ -147,7 +148,7 @@ status_of-not_refused s h = sound s.refused h
     sound false e = cc
 
 -- the answers to the lines of what has come
-all_answers : (before now : Option (List ℕ)) (bytes none : List ℕ) (whole : Bool) (lines : List (List ℕ)) (s : Standing) → none ≡ [] → lines_in bytes whole ≡ lines → (h : Stands before now none lines s) → IsAnswers bytes whole h.written (status_of s)
+all_answers : (before now : Option (List ℕ)) (bytes none : List ℕ) (whole : Bool) (lines : List (List ℕ)) (s : Progress) → none ≡ [] → lines_in bytes whole ≡ lines → (h : Stands before now none lines s) → IsAnswers bytes whole h.written (status_of s)
 all_answers before now bytes none whole lines s e all h = record {
   end = s;
   answers = subst (λ (y : List (List ℕ)). AreAnswers y 1 begin h.written s) (sym all) (subst (λ (t : List ℕ). AreAnswers lines 1 begin t s) (ap (λ t. h.written ++ t) e ∙ append-nil h.written) h.answers);
@@ -155,7 +156,7 @@ all_answers before now bytes none whole lines s e all h = record {
 }
 
 -- a read failed
-pub stopped_reading : (old : Outside) (l l2 t t2 : Option (List ℕ)) (r r2 w w2 : ℕ) (reader mid : Reader) (line buffer : LineBuffer) (pending none : List ℕ) (s : Standing) → (h : IsUnderway old (outside l t r w) reader line pending s)
+pub stopped_reading : (old : Outside) (l l2 t t2 : Option (List ℕ)) (r r2 w w2 : ℕ) (reader mid : Reader) (line buffer : LineBuffer) (pending none : List ℕ) (s : Progress) → (h : IsUnderway old (outside l t r w) reader line pending s)
     → GivesAll mid buffer h.bytes h.lines → Stands old.taken t2 none h.lines s → none ≡ [] → Keeps l l2 → Rose r r2 → StoppedReading old (outside l2 t2 r2 w2)
 stopped_reading old l l2 t t2 r r2 w w2 reader mid line buffer pending none s h f stands e keeps rose = record {
   bytes = h.bytes;
@@ -168,7 +169,7 @@ stopped_reading old l l2 t t2 r r2 w w2 reader mid line buffer pending none s h 
 }
 
 -- more bytes came than are read
-pub took_too_much : (old : Outside) (l t t2 : Option (List ℕ)) (r w w2 : ℕ) (reader : Reader) (line : LineBuffer) (pending none : List ℕ) (s : Standing) → (h : IsUnderway old (outside l t r w) reader line pending s)
+pub took_too_much : (old : Outside) (l t t2 : Option (List ℕ)) (r w w2 : ℕ) (reader : Reader) (line : LineBuffer) (pending none : List ℕ) (s : Progress) → (h : IsUnderway old (outside l t r w) reader line pending s)
     → GivesTooLong h.bytes h.lines → Stands old.taken t2 none h.lines s → none ≡ [] → TookTooMuch old (outside l t2 r w2)
 took_too_much old l t t2 r w w2 reader line pending none s h f stands e = record {
   bytes = h.bytes;

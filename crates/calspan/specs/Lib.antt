@@ -14,7 +14,6 @@ pub mod Forms
 pub mod Lines
 pub mod Replies
 pub mod Answers
-pub mod Standing
 pub mod Written
 pub mod Underway
 pub mod Run

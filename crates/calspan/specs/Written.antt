@@ -3,7 +3,8 @@ use Rattle.std.specs.Prelude.{◌≡◌, ℕ, List, [], ◌∷◌, ◌++◌, nat
 use Rattle.std.specs.Io.KnownBytes.{Appends}
 use Rattle.byte_io.specs.Bytes.{IsPrefix}
 use Rattle.byte_io.specs.declared.Failed.{Failed}
-use Rattle.calspan.specs.Answers.{Standing, AreAnswers, begin, status_of}
+use Rattle.calspan.specs.Answers.{AreAnswers, begin, status_of}
+use Rattle.calspan.specs.declared.answer.Progress.{Progress}
 use Rattle.calspan.specs.declared.status.Status.{Status}
 
 -- a front of a text was written
@@ -16,7 +17,7 @@ Wrote (Ok x) before now text = Appends before now text
 Wrote (Err e) before now text = WroteFront before now text
 
 -- what was written and what is pending are the answers to these lines
-pub record Stands (before now : Option (List ℕ)) (pending : List ℕ) (lines : List (List ℕ)) (s : Standing) : Type 0 where
+pub record Stands (before now : Option (List ℕ)) (pending : List ℕ) (lines : List (List ℕ)) (s : Progress) : Type 0 where
   pub written : List ℕ
   pub wrote : Appends before now written
   pub answers : AreAnswers lines 1 begin (written ++ pending) s
@@ -24,12 +25,12 @@ pub record Stands (before now : Option (List ℕ)) (pending : List ℕ) (lines :
 -- a front of the answers to these lines was written
 pub record StandsShort (before now : Option (List ℕ)) (lines : List (List ℕ)) : Type 0 where
   pub text : List ℕ
-  pub end : Standing
+  pub end : Progress
   pub answers : AreAnswers lines 1 begin text end
   pub wrote : WroteFront before now text
 
 -- behind these lines, or where a write failed
-abbrev pub Answered : {T : Type 0} → Result T Failed → Option (List ℕ) → Option (List ℕ) → List ℕ → List (List ℕ) → Standing → Type 0
+abbrev pub Answered : {T : Type 0} → Result T Failed → Option (List ℕ) → Option (List ℕ) → List ℕ → List (List ℕ) → Progress → Type 0
 Answered (Ok x) before now pending lines s = Stands before now pending lines s
 Answered (Err e) before now pending lines s = StandsShort before now lines
 
@@ -40,7 +41,7 @@ with_open_line closed open_line = if nat_lt 0 (length open_line) then closed ++ 
 -- the answers to all lines were written
 pub record AllWritten (before now : Option (List ℕ)) (lines : List (List ℕ)) (status : Status) : Type 0 where
   pub text : List ℕ
-  pub end : Standing
+  pub end : Progress
   pub wrote : Appends before now text
   pub answers : AreAnswers lines 1 begin text end
   pub ends : status ≡ status_of end

@@ -18,20 +18,19 @@ pub struct Progress {
     pub refused: bool,
 }
 
-ghost use Rattle.calspan.specs.Standing.{standing_of};
 ghost use Rattle.calspan.specs.Answers.{status_of};
 
 impl Progress {
     /// Before the first line.
     pub fn new() -> Self
-        ensures { standing_of result ≡ begin }
+        ensures { result ≡ begin }
     {
         Progress { refused: false }
     }
 
     /// How the run ends where the input ends here.
     pub fn status(self) -> Status
-        ensures { result ≡ status_of (standing_of self) }
+        ensures { result ≡ status_of self }
     {
         if self.refused {
             Status::Refused
@@ -45,7 +44,7 @@ impl Progress {
 fn refuse(pending: &mut Pending, progress: &mut Progress, number: u64, why: &[u8])
     requires { array_vec_len pending.old + length why.now + 40 ≤ 8192 }
     ensures line { pending.new.items ≡ pending.old.items ++ refusal number why.now }
-    ensures refused { standing_of progress.new ≡ refusing (standing_of progress.old) }
+    ensures refused { progress.new ≡ refusing progress.old }
 {
     push_about(pending, b"err line ", number, why);
     progress.refused = true;
@@ -57,7 +56,7 @@ fn answer_request(pending: &mut Pending, progress: &mut Progress, number: u64, l
     requires { array_vec_len pending.old + 512 ≤ 8192 }
     ensures { (whole : List ℕ) → Holds line.now whole → line_is_silent whole ≡ false → (text : List ℕ)
         × (pending.new.items ≡ pending.old.items ++ text)
-        × IsAnswerTo (line_of whole) number (standing_of progress.old) text (standing_of progress.new) }
+        × IsAnswerTo (line_of whole) number progress.old text progress.new }
 {
     match read_line(line) {
         Line::Long => refuse(pending, progress, number, b"long"),
@@ -80,7 +79,7 @@ pub fn answer(pending: &mut Pending, progress: &mut Progress, number: u64, line:
     requires { array_vec_len pending.old + 512 ≤ 8192 }
     ensures { (whole : List ℕ) → Holds line.now whole → (text : List ℕ)
         × (pending.new.items ≡ pending.old.items ++ text)
-        × IsAnswerTo (line_of whole) number (standing_of progress.old) text (standing_of progress.new) }
+        × IsAnswerTo (line_of whole) number progress.old text progress.new }
 {
     if is_silent(line) {
         return;

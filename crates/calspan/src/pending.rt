@@ -3,8 +3,6 @@ ghost use Rattle.std.specs.Prelude.{◌≡◌, ◌+◌, ◌≤◌, ◌++◌, [],
 ghost use Rattle.arrayvec.specs.ArrayVec.{array_vec_len};
 ghost use Rattle.byte_io.specs.Faults.{HasCause};
 ghost use Rattle.calspan.specs.Written.{Wrote, Stands, Answered};
-ghost use Rattle.calspan.specs.Standing.{standing_of};
-ghost use Rattle.calspan.specs.Answers.{Standing};
 ghost use Rattle.line_reader.specs.Buffer.{Holds};
 
 use crate::answer::{Progress, answer};
@@ -26,7 +24,7 @@ fn write_all<K: Sink>(text: &[u8], sink: &mut K) -> Result<(), Failed>
 
 /// Writes the pending answers. Where that fails, a front of them was written.
 pub fn flush<K: Sink>(pending: &mut Pending, sink: &mut K) -> Result<(), Failed>
-    ensures answered { (before : Option (List ℕ)) (lines : List (List ℕ)) (s : Standing)
+    ensures answered { (before : Option (List ℕ)) (lines : List (List ℕ)) (s : Progress)
         → Stands before (K.taken sink.old) pending.old.items lines s
         → Answered result before (K.taken sink.new) pending.new.items lines s }
     ensures none { OnOk result (pending.new.items ≡ []) }
@@ -39,7 +37,7 @@ pub fn flush<K: Sink>(pending: &mut Pending, sink: &mut K) -> Result<(), Failed>
 
 // Writes what is pending where there might be no room for an answer.
 fn make_room<K: Sink>(pending: &mut Pending, sink: &mut K) -> Result<(), Failed>
-    ensures answered { (before : Option (List ℕ)) (lines : List (List ℕ)) (s : Standing)
+    ensures answered { (before : Option (List ℕ)) (lines : List (List ℕ)) (s : Progress)
         → Stands before (K.taken sink.old) pending.old.items lines s
         → Answered result before (K.taken sink.new) pending.new.items lines s }
     ensures room { OnOk result (array_vec_len pending.new + 512 ≤ 8192) }
@@ -62,9 +60,8 @@ pub fn respond<K: Sink>(
 ) -> Result<(), Failed>
     ensures answered { (before : Option (List ℕ)) (lines : List (List ℕ)) (whole : List ℕ)
         → number ≡ length lines + 1 → Holds line.now whole
-        → Stands before (K.taken sink.old) pending.old.items lines (standing_of progress.old)
-        → Answered result before (K.taken sink.new) pending.new.items (lines ++ whole ∷ [])
-        (standing_of progress.new) }
+        → Stands before (K.taken sink.old) pending.old.items lines progress.old
+        → Answered result before (K.taken sink.new) pending.new.items (lines ++ whole ∷ []) progress.new }
     ensures cause { HasCause (K.faults sink.old) (K.faults sink.new) result }
 {
     make_room(pending, sink)?;

@@ -3,7 +3,6 @@ ghost use Rattle.std.specs.Prelude.{◌≡◌, ◌≤◌, List, Option, ℕ, Som
 ghost use Rattle.byte_io.specs.Faults.{HasCause};
 ghost use Rattle.line_reader.specs.Buffer.{Holds};
 ghost use Rattle.calspan.specs.Command.{command_of};
-ghost use Rattle.calspan.specs.Standing.{standing_of};
 ghost use Rattle.calspan.specs.Written.{Stands, Concludes, with_open_line};
 ghost use Rattle.calspan.specs.Run.{Outside, outside, Serves, NoFault, IsAnswered, limit};
 ghost use Rattle.calspan.specs.Underway.{IsUnderway};
@@ -24,7 +23,7 @@ fn conclude<K: Sink>(
     sink: &mut K,
 ) -> Result<Status, Failed>
     ensures concludes { (before : Option (List ℕ)) (lines : List (List ℕ))
-        → Stands before (K.taken sink.old) pending.old.items lines (standing_of progress)
+        → Stands before (K.taken sink.old) pending.old.items lines progress
         → Concludes result before (K.taken sink.new) lines }
     ensures cause { HasCause (K.faults sink.old) (K.faults sink.new) result }
 {
@@ -43,7 +42,7 @@ fn finish<K: Sink>(
     requires { lines ≤ 16777216 }
     ensures concludes { (before : Option (List ℕ)) (closed : List (List ℕ)) (last : List ℕ)
         → lines ≡ length closed → Holds line.now last
-        → Stands before (K.taken sink.old) pending.old.items closed (standing_of start)
+        → Stands before (K.taken sink.old) pending.old.items closed start
         → Concludes result before (K.taken sink.new) (with_open_line closed last) }
     ensures cause { HasCause (K.faults sink.old) (K.faults sink.new) result }
 {
@@ -77,7 +76,7 @@ fn serve_from<S: Source, K: Sink>(
 ) -> Status
     ensures { (old : Outside)
         → IsUnderway old (outside (S.left source.old) (K.taken sink.old) (S.faults source.old) (K.faults sink.old))
-        reader.old line.old pending.old.items (standing_of start)
+        reader.old line.old pending.old.items start
         → Serves result old (outside (S.left source.new) (K.taken sink.new) (S.faults source.new) (K.faults sink.new)) }
 {
     let mut progress = start;

@@ -1,6 +1,5 @@
 use Rattle.std.proofs.Common.{◌≡◌, true, [], refl, sym, ◌∙◌, subst}
 use Rattle.std.proofs.lemmas.List.{append-nil}
-use Rattle.calspan.specs.Standing.{standing_of}
 use Rattle.calspan.specs.Lines.{Line, is_silent}
 use Rattle.calspan.specs.Answers.{IsAnswerTo}
 use Rattle.calspan.proofs.LineLemmas.{silent_is}
@@ -8,7 +7,7 @@ use Rattle.calspan.proofs.answer.answer.Goals as goal
 
 pub returns-then-is_silent : goal.returns-then-is_silent
 returns-then-is_silent c whole holds =
-    let s = standing_of c.args.progress.now in
+    let s = c.args.progress.now in
     let silent : is_silent whole ≡ true = sym (c.is_silent.ensures whole holds) ∙ c.if-is_silent.true in
     ([], sym (append-nil c.args.pending.now.items), subst (λ (l : Line). IsAnswerTo l c.args.number s [] s) (sym (silent_is whole silent)) (refl, refl))
 
