@@ -34,7 +34,7 @@ pub trait Source {
     /// How many faults it has counted. A count is a `u64`, begins at 0 and never falls.
     ghost faults: { Self → ℕ };
 
-    /// Reads bytes into the front of `buf`, and says how many.
+    /// Reads bytes into a prefix of `buf`, and says how many.
     ///
     /// `Ok(0)` for a buffer that isn't empty is the end of the bytes: where they are told, none is
     /// left then. `Failed` comes only where the count of faults rose, or stands at the greatest
@@ -53,7 +53,7 @@ pub trait Sink {
     /// How many faults it has counted. A count is a `u64`, begins at 0 and never falls.
     ghost faults: { Self → ℕ };
 
-    /// Takes bytes from the front of `piece`, and says how many: at least one of a piece that
+    /// Takes the bytes of a prefix of `piece`, and says how many: at least one of a piece that
     /// isn't empty.
     ///
     /// `Failed` comes only where the count of faults rose, or stands at the greatest `u64`; nothing

@@ -69,8 +69,8 @@ impl<'a> Source for MemorySource<'a> {
             return Err(Failed);
         }
         let count = self.rest.len().min(buf.len()).min(self.cut);
-        let (front, rest) = self.rest.split_at(count);
-        buf[..count].copy_from_slice(front);
+        let (prefix, rest) = self.rest.split_at(count);
+        buf[..count].copy_from_slice(prefix);
         self.rest = rest;
         Ok(count)
     }

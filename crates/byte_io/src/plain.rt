@@ -40,8 +40,8 @@ impl<'a> Source for PlainSource<'a> {
         ensures count { IsOkAnd result (λ n. n ≡ min (length (plain_rest self.old)) (length buf.new)) }
     {
         let count = self.rest.len().min(buf.len());
-        let (front, rest) = self.rest.split_at(count);
-        buf[..count].copy_from_slice(front);
+        let (prefix, rest) = self.rest.split_at(count);
+        buf[..count].copy_from_slice(prefix);
         self.rest = rest;
         Ok(count)
     }

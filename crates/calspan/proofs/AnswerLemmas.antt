@@ -2,7 +2,7 @@
 use Rattle.std.proofs.Common.{◌≡◌, ℕ, ◌+◌, Bool, true, false, cond, List, [], ◌∷◌, ◌++◌, length, nat_lt, refl, arith, ◌∙◌, sym, ap, subst, codes}
 use Rattle.std.proofs.lemmas.List.{append-nil, append_assoc}
 use Rattle.line_reader.specs.Lines.{closed_lines, open_line, lines_in}
-use Rattle.line_reader.proofs.PartLemmas.{closed_lines-front}
+use Rattle.line_reader.proofs.PartLemmas.{closed_lines-prefix}
 use Rattle.cal_model.specs.Difference.{largest_unit_of}
 use Rattle.icu_calendar.specs.AnySystem.{any_system}
 use Rattle.icu_calendar.specs.AnyLaws.{any_lawful}
@@ -12,7 +12,7 @@ use Rattle.calspan.proofs.LineLemmas.{line_says, line_is}
 use Rattle.calspan.specs.Replies.{reply_text, is_refusal, options_of}
 use Rattle.calspan.specs.Answers.{begin, refusal, refusing, replied, IsAnswerTo, AnswersLine, AreAnswers, status_of}
 use Rattle.calspan.specs.declared.answer.Progress.{Progress}
-use Rattle.calspan.specs.Laws.{EveryInputHasAnswers, AnswersAreUnique, AnswersToFrontAreFront}
+use Rattle.calspan.specs.Laws.{EveryInputHasAnswers, AnswersAreUnique, AnswersToPrefixArePrefix}
 
 -- there is an answer to each line
 pub answer_exists : (line : Line) (n : ℕ) (s : Progress) → (text : List ℕ) × (next : Progress) × IsAnswerTo line n s text next
@@ -79,9 +79,9 @@ AreAnswers-push lines line number s m e a b is answers answer =
     AreAnswers-append lines (line ∷ []) 1 s m e a b answers
     (b, [], e, answers_line line (1 + length lines) m b e (subst (λ (k : ℕ). IsAnswerTo (line_of line) k m b e) count answer), sym (append-nil b), (refl, refl))
 
--- the answers to the first lines are a front of the answers to all
-pub answers_front : (lines more : List (List ℕ)) (s m : Progress) (a : List ℕ) → AreAnswers lines 1 s a m → (rest : List ℕ) × (end : Progress) × AreAnswers (lines ++ more) 1 s (a ++ rest) end
-answers_front lines more s m a answers =
+-- the answers to the first lines are a prefix of the answers to all
+pub answers_prefix : (lines more : List (List ℕ)) (s m : Progress) (a : List ℕ) → AreAnswers lines 1 s a m → (rest : List ℕ) × (end : Progress) × AreAnswers (lines ++ more) 1 s (a ++ rest) end
+answers_prefix lines more s m a answers =
     let (rest, end, others) = answers_exist more (1 + length lines) m in
     (rest, end, AreAnswers-append lines more 1 s m end a rest answers others)
 
@@ -96,19 +96,19 @@ are_unique bytes whole a b s t p q =
     (same, p.ends ∙ (ap status_of ends ∙ sym q.ends))
 
 -- the lines of what has come of an input are the first of those of what comes of it later
-pub lines_in-front : (bytes more : List ℕ) (whole : Bool) → (others : List (List ℕ)) × (lines_in (bytes ++ more) whole ≡ lines_in bytes false ++ others)
-lines_in-front bytes more false = closed_lines-front bytes more
-lines_in-front bytes more true =
-    let (others, e) = closed_lines-front bytes more in
+pub lines_in-prefix : (bytes more : List ℕ) (whole : Bool) → (others : List (List ℕ)) × (lines_in (bytes ++ more) whole ≡ lines_in bytes false ++ others)
+lines_in-prefix bytes more false = closed_lines-prefix bytes more
+lines_in-prefix bytes more true =
+    let (others, e) = closed_lines-prefix bytes more in
     opened (nat_lt 0 (length (open_line (bytes ++ more)))) (closed_lines (bytes ++ more)) (closed_lines bytes) others (open_line (bytes ++ more)) e
   where
     opened : (c : Bool) (all first others : List (List ℕ)) (last : List ℕ) → all ≡ first ++ others → (rest : List (List ℕ)) × (cond c (all ++ last ∷ []) all ≡ first ++ rest)
     opened true all first others last e = (others ++ last ∷ [], ap (λ t. t ++ last ∷ []) e ∙ append_assoc first others (last ∷ []))
     opened false all first others last e = (others, e)
 
-pub front_are_front : AnswersToFrontAreFront
-front_are_front bytes more whole a b s t p q =
-    let (others, e) = lines_in-front bytes more whole in
-    let (rest, end, answers) = answers_front (lines_in bytes false) others begin p.end a p.answers in
+pub prefix_are_prefix : AnswersToPrefixArePrefix
+prefix_are_prefix bytes more whole a b s t p q =
+    let (others, e) = lines_in-prefix bytes more whole in
+    let (rest, end, answers) = answers_prefix (lines_in bytes false) others begin p.end a p.answers in
     let all : AreAnswers (lines_in bytes false ++ others) 1 begin b q.end = subst (λ (l : List (List ℕ)). AreAnswers l 1 begin b q.end) e q.answers in
     (rest, (answers_unique (lines_in bytes false ++ others) 1 begin b (a ++ rest) q.end end all answers).0)

@@ -280,9 +280,9 @@ bag_reads words bag s =
 
 -- words before `to` that were read as a bag
 pub record IsReadBefore (b : Bag) (words : List (List ℕ)) (bag : Bag) (rest : List (List ℕ)) : Type 0 where
-  pub front : List (List ℕ)
-  pub form : words ≡ front ++ codes "to" ∷ rest
-  pub reads : bag_of_all (Some b) front ≡ Some bag
+  pub prefix : List (List ℕ)
+  pub form : words ≡ prefix ++ codes "to" ∷ rest
+  pub reads : bag_of_all (Some b) prefix ≡ Some bag
 
 pub before_is : (words : List (List ℕ)) (b bag : Bag) (rest : List (List ℕ)) → bag_before_to (Some b) words ≡ Some (bag, rest)
     → IsReadBefore b words bag rest
@@ -295,35 +295,35 @@ before_is (word ∷ words) b bag rest e = by (λ next e. before_is words next ba
     more others None q e = cc
     more others (Some next) q e =
         let h = others next e in
-        record { front = word ∷ h.front; form = ap (λ l. word ∷ l) h.form; reads = ap (λ o. bag_of_all o h.front) q ∙ h.reads }
+        record { prefix = word ∷ h.prefix; form = ap (λ l. word ∷ l) h.form; reads = ap (λ o. bag_of_all o h.prefix) q ∙ h.reads }
 
     by : ((next : Bag) → bag_before_to (Some next) words ≡ Some (bag, rest) → IsReadBefore next words bag rest) → (t : Bool)
         → is_text word (codes "to") ≡ t → cond t (Some (b, words)) (bag_before_to (with_word b word) words) ≡ Some (bag, rest)
         → IsReadBefore b (word ∷ words) bag rest
     by others true q e =
         let (same, last) = some_pair b bag words rest e in
-        record { front = []; form = λ i. same_text word (codes "to") q i ∷ last i; reads = ap (λ (c : Bag). Some c) same }
+        record { prefix = []; form = λ i. same_text word (codes "to") q i ∷ last i; reads = ap (λ (c : Bag). Some c) same }
     by others false q e = more others (with_word b word) refl e
 
-pub before_reads : (front : List (List ℕ)) (b bag : Bag) (rest : List (List ℕ)) → bag_of_all (Some b) front ≡ Some bag
-    → bag_before_to (Some b) (front ++ codes "to" ∷ rest) ≡ Some (bag, rest)
+pub before_reads : (prefix : List (List ℕ)) (b bag : Bag) (rest : List (List ℕ)) → bag_of_all (Some b) prefix ≡ Some bag
+    → bag_before_to (Some b) (prefix ++ codes "to" ∷ rest) ≡ Some (bag, rest)
 before_reads [] b bag rest e =
     let same : b ≡ bag = cc in
     ap (λ (c : Bag). Some (c, rest)) same
-before_reads (word ∷ front) b bag rest e = by (λ next e. before_reads front next bag rest e) (is_text word (codes "to")) refl
+before_reads (word ∷ prefix) b bag rest e = by (λ next e. before_reads prefix next bag rest e) (is_text word (codes "to")) refl
   where
     no_field : is_text word (codes "to") ≡ true → with_word b word ≡ None
     no_field q = ap (with_word b) (same_text word (codes "to") q)
 
-    more : ((next : Bag) → bag_of_all (Some next) front ≡ Some bag → bag_before_to (Some next) (front ++ codes "to" ∷ rest) ≡ Some (bag, rest))
-        → (o : Option Bag) → bag_of_all o front ≡ Some bag → bag_before_to o (front ++ codes "to" ∷ rest) ≡ Some (bag, rest)
+    more : ((next : Bag) → bag_of_all (Some next) prefix ≡ Some bag → bag_before_to (Some next) (prefix ++ codes "to" ∷ rest) ≡ Some (bag, rest))
+        → (o : Option Bag) → bag_of_all o prefix ≡ Some bag → bag_before_to o (prefix ++ codes "to" ∷ rest) ≡ Some (bag, rest)
     more others None e = cc
     more others (Some next) e = others next e
 
-    by : ((next : Bag) → bag_of_all (Some next) front ≡ Some bag → bag_before_to (Some next) (front ++ codes "to" ∷ rest) ≡ Some (bag, rest))
+    by : ((next : Bag) → bag_of_all (Some next) prefix ≡ Some bag → bag_before_to (Some next) (prefix ++ codes "to" ∷ rest) ≡ Some (bag, rest))
         → (t : Bool) → is_text word (codes "to") ≡ t
-        → cond t (Some (b, front ++ codes "to" ∷ rest)) (bag_before_to (with_word b word) (front ++ codes "to" ∷ rest)) ≡ Some (bag, rest)
+        → cond t (Some (b, prefix ++ codes "to" ∷ rest)) (bag_before_to (with_word b word) (prefix ++ codes "to" ∷ rest)) ≡ Some (bag, rest)
     by others true q =
-        let none : ◌≡◌ {A = Option Bag} None (Some bag) = ap (λ o. bag_of_all o front) (sym (no_field q)) ∙ e in
+        let none : ◌≡◌ {A = Option Bag} None (Some bag) = ap (λ o. bag_of_all o prefix) (sym (no_field q)) ∙ e in
         cc
     by others false q = more others (with_word b word) e

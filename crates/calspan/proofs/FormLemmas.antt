@@ -120,20 +120,20 @@ request_is words r e =
     let f = then_is (bag_before_to (Some no_fields) h.rest) _ r h.then in
     let t = mapped_is (request_of h.x f.x) (bag_of_all (Some no_fields) f.rest) r f.then in
     let header = header_is words h.x h.rest h.reads in
-    let front = before_is h.rest no_fields f.x f.rest f.reads in
+    let before = before_is h.rest no_fields f.x f.rest f.reads in
     let is : request_of h.x f.x t.x ≡ r = t.is in
-    let from = bag_is front.front f.x front.reads in
+    let from = bag_is before.prefix f.x before.reads in
     let to = bag_is f.rest t.x t.reads in
     record {
-      parts = record { calendar = header.calendar; shown = header.shown; unit = header.unit; overflow = header.overflow; missing_fields = header.missing_fields; from = front.front; to = f.rest };
-      form = header.form ∙ ap (λ l. codes "span" ∷ header.calendar ∷ header.shown ∷ header.unit ∷ header.overflow ∷ header.missing_fields ∷ codes "from" ∷ l) front.form;
+      parts = record { calendar = header.calendar; shown = header.shown; unit = header.unit; overflow = header.overflow; missing_fields = header.missing_fields; from = before.prefix; to = f.rest };
+      form = header.form ∙ ap (λ l. codes "span" ∷ header.calendar ∷ header.shown ∷ header.unit ∷ header.overflow ∷ header.missing_fields ∷ codes "from" ∷ l) before.form;
       says = record {
         calendar = header.says_calendar ∙ ap (λ (t : Request). Some t.calendar) is;
         shown = header.says_shown ∙ ap (λ (t : Request). Some t.shown) is;
         unit = header.says_unit ∙ ap (λ (t : Request). Some t.unit) is;
         overflow = header.says_overflow ∙ ap (λ (t : Request). Some t.overflow) is;
         missing_fields = header.says_missing ∙ ap (λ (t : Request). Some t.missing_fields) is;
-        from = subst (λ (r : Request). SaysBag front.front r.from) is from;
+        from = subst (λ (r : Request). SaysBag before.prefix r.from) is from;
         to = subst (λ (r : Request). SaysBag f.rest r.to) is to;
       };
     }

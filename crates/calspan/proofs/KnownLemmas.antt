@@ -6,7 +6,7 @@ use Rattle.std.specs.Result.{IsErr}
 use Rattle.std.specs.Io.KnownBytes.{Appends, Consumes, Keeps}
 use Rattle.byte_io.specs.declared.Failed.{Failed}
 use Rattle.byte_io.specs.Bytes.{IsPrefix}
-use Rattle.calspan.specs.Written.{WroteFront, Wrote}
+use Rattle.calspan.specs.Written.{WrotePrefix, Wrote}
 
 pub appends_none : (a : Option (List ℕ)) → Appends a a []
 appends_none None = tt
@@ -43,17 +43,17 @@ consumes_keeps (Some xs) (Some ys) (Some zs) x p q = p ∙ ap (λ r. x ++ r) (sy
 pub prefix_all : (x : List ℕ) → IsPrefix x x
 prefix_all x = ([], sym (append-nil x))
 
--- the front of a text is a front of what goes on from it
+-- a prefix of a text is a prefix of what goes on from it
 pub prefix_more : (x y z : List ℕ) → IsPrefix x y → IsPrefix x (y ++ z)
 prefix_more x y z (rest, e) = (rest ++ z, ap (λ r. r ++ z) e ∙ append_assoc x rest z)
 
--- behind a text, a front of the next
+-- behind a text, a prefix of the next
 pub prefix_behind : (w x y : List ℕ) → IsPrefix x y → IsPrefix (w ++ x) (w ++ y)
 prefix_behind w x y (rest, e) = (rest, ap (λ r. w ++ r) e ∙ sym (append_assoc w x rest))
 
--- what was written, and then a front of the next text
-pub wrote_behind : (a b c : Option (List ℕ)) (x y : List ℕ) → Appends a b x → WroteFront b c y → WroteFront a c (x ++ y)
-wrote_behind a b c x y p (front, q, more) = (x ++ front, appends_then a b c x front p q, prefix_behind x front y more)
+-- what was written, and then a prefix of the next text
+pub wrote_behind : (a b c : Option (List ℕ)) (x y : List ℕ) → Appends a b x → WrotePrefix b c y → WrotePrefix a c (x ++ y)
+wrote_behind a b c x y p (prefix, q, more) = (x ++ prefix, appends_then a b c x prefix p q, prefix_behind x prefix y more)
 
 -- a piece of a text more
 pub sent_more : (a b c : Option (List ℕ)) (text : List ℕ) (at n : ℕ) → Appends a b (take at text) → Appends b c (take n (take (length text - at) (drop at text))) → Appends a c (take (at + n) text)
@@ -62,10 +62,10 @@ sent_more a b c text at n p q =
     subst (λ (t : List ℕ). Appends a c t) (sym (take-add at n text)) (appends_then a b c (take at text) (take n (drop at text)) p r)
 
 -- no more of it
-pub sent_front : (a b c : Option (List ℕ)) (text : List ℕ) (at : ℕ) → Appends a b (take at text) → Keeps b c → WroteFront a c text
-sent_front a b c text at p q = (take at text, appends_keeps a b c (take at text) p q, (drop at text, sym (take-append-drop at text)))
+pub sent_prefix : (a b c : Option (List ℕ)) (text : List ℕ) (at : ℕ) → Appends a b (take at text) → Keeps b c → WrotePrefix a c text
+sent_prefix a b c text at p q = (take at text, appends_keeps a b c (take at text) p q, (drop at text, sym (take-append-drop at text)))
 
-pub wrote_err : {T : Type 0} (r : Result T Failed) (a b : Option (List ℕ)) (text : List ℕ) → IsErr r → WroteFront a b text → Wrote r a b text
+pub wrote_err : {T : Type 0} (r : Result T Failed) (a b : Option (List ℕ)) (text : List ℕ) → IsErr r → WrotePrefix a b text → Wrote r a b text
 wrote_err (Ok x) a b text failed h = absurd (true≢false (sym failed))
 wrote_err (Err e) a b text failed h = h
 

@@ -25,8 +25,8 @@ strip_some line h = by (slice_index line (length line - 1) == 13)
     by false = ne_eqb _ _ (omega arith)
 
 -- whether a line is silent, its first 512 bytes tell
-pub silent_front : (line : List ℕ) → is_silent (take 512 line) ≡ is_silent line
-silent_front line = by (nat_lt 512 (length line)) refl
+pub silent_prefix : (line : List ℕ) → is_silent (take 512 line) ≡ is_silent line
+silent_prefix line = by (nat_lt 512 (length line)) refl
   where
     first : (line : List ℕ) → slice_index (take 512 line) 0 ≡ slice_index line 0
     first [] = refl
@@ -36,9 +36,9 @@ silent_front line = by (nat_lt 512 (length line)) refl
     by false q = ap is_silent (take_all 512 line (ltb-false 512 (length line) q))
     by true q =
         let long = ltb-true 512 (length line) q in
-        let front = strip_some (take 512 line) (omega (arith, long, length-take 512 line)) in
+        let prefix = strip_some (take 512 line) (omega (arith, long, length-take 512 line)) in
         let whole = strip_some line (omega (arith, long)) in
-        ap (λ t. t || (slice_index (take 512 line) 0 == 35)) front ∙ (ap (λ (b : ℕ). false || (b == 35)) (first line) ∙ ap (λ t. t || (slice_index line 0 == 35)) (sym whole))
+        ap (λ t. t || (slice_index (take 512 line) 0 == 35)) prefix ∙ (ap (λ (b : ℕ). false || (b == 35)) (first line) ∙ ap (λ t. t || (slice_index line 0 == 35)) (sym whole))
 
 asked_is : (text : List ℕ)
     → SaysRequest text (asked (request_read (words_of text))) ⊎ SaysNone text (asked (request_read (words_of text)))

@@ -10,16 +10,16 @@ use Rattle.line_reader.specs.declared.buffer.LineBuffer.{LineBuffer}
 use Rattle.line_reader.specs.Buffer.{Holds}
 use Rattle.line_reader.specs.Lines.{lines_in, open_line}
 use Rattle.line_reader.specs.Reader.{IsAt, GivesLine, GivesAll, GivesTooLong, lines_given}
-use Rattle.line_reader.proofs.FrontLemmas.{given_in_all}
+use Rattle.line_reader.proofs.PrefixLemmas.{given_in_all}
 use Rattle.calspan.specs.declared.status.Status.{Status}
 use Rattle.calspan.specs.declared.status.Status.TheVariants.{Done, Refused, Words, ReadFault, WriteFault, NoMemory, TableRefused, TooLong}
 use Rattle.calspan.specs.Lines.{line_of}
 use Rattle.calspan.specs.Answers.{begin, IsAnswerTo, AreAnswers, IsAnswers, status_of}
 use Rattle.calspan.specs.declared.answer.Progress.{Progress}
-use Rattle.calspan.specs.Written.{WroteFront, Stands, StandsShort, Answered, AllWritten, Concludes, with_open_line}
+use Rattle.calspan.specs.Written.{WrotePrefix, Stands, StandsShort, Answered, AllWritten, Concludes, with_open_line}
 use Rattle.calspan.specs.Underway.{IsUnderway}
 use Rattle.calspan.specs.Run.{Outside, outside, AnsweredAll, StoppedReading, StoppedWriting, TookTooMuch, Serves, NoFault, IsAnswered, limit}
-use Rattle.calspan.proofs.AnswerLemmas.{AreAnswers-push, answers_front}
+use Rattle.calspan.proofs.AnswerLemmas.{AreAnswers-push, answers_prefix}
 use Rattle.calspan.proofs.KnownLemmas.{appends_then, consumes_then, consumes_keeps, wrote_behind, prefix_then}
 
 -- what was pending is written
@@ -30,8 +30,8 @@ stands_written before mid now pending none lines s h wrote e = record {
   answers = subst (λ (t : List ℕ). AreAnswers lines 1 begin t s) (sym (ap (λ t. (h.written ++ pending) ++ t) e ∙ append-nil (h.written ++ pending))) h.answers;
 }
 
--- a front of what was pending is written
-pub stands_short : (before mid now : Option (List ℕ)) (pending : List ℕ) (lines : List (List ℕ)) (s : Progress) → Stands before mid pending lines s → WroteFront mid now pending → StandsShort before now lines
+-- a prefix of what was pending is written
+pub stands_short : (before mid now : Option (List ℕ)) (pending : List ℕ) (lines : List (List ℕ)) (s : Progress) → Stands before mid pending lines s → WrotePrefix mid now pending → StandsShort before now lines
 stands_short before mid now pending lines s h wrote = record {
   text = h.written ++ pending;
   end = s;
@@ -39,19 +39,19 @@ stands_short before mid now pending lines s h wrote = record {
   wrote = wrote_behind before mid now h.written pending h.wrote wrote;
 }
 
--- a front of the answers to the first lines is a front of the answers to all
+-- a prefix of the answers to the first lines is a prefix of the answers to all
 pub stands_short-more : (before now : Option (List ℕ)) (lines more : List (List ℕ)) → StandsShort before now lines → StandsShort before now (lines ++ more)
 stands_short-more before now lines more h =
-    let (rest, end, answers) = answers_front lines more begin h.end h.text h.answers in
-    let (front, wrote, begins) = h.wrote in
+    let (rest, end, answers) = answers_prefix lines more begin h.end h.text h.answers in
+    let (prefix, wrote, begins) = h.wrote in
     record {
       text = h.text ++ rest;
       end = end;
       answers = answers;
-      wrote = (front, wrote, prefix_then front h.text (h.text ++ rest) begins (rest, refl));
+      wrote = (prefix, wrote, prefix_then prefix h.text (h.text ++ rest) begins (rest, refl));
     }
 
--- where it failed, a front is written
+-- where it failed, a prefix is written
 pub answered_err : {T : Type 0} (r : Result T Failed) (before now : Option (List ℕ)) (pending : List ℕ) (lines : List (List ℕ)) (s : Progress) → IsErr r → StandsShort before now lines → Answered r before now pending lines s
 answered_err (Ok x) before now pending lines s failed h = absurd (true≢false (sym failed))
 answered_err (Err e) before now pending lines s failed h = h
@@ -119,10 +119,10 @@ pub stopped_writing : (old : Outside) (l t2 : Option (List ℕ)) (r w w2 : ℕ) 
     → old.write_faults ≤ w → Rose w w2 → StandsShort old.taken t2 lines → StoppedWriting old (outside l t2 r w2)
 stopped_writing old l t2 r w w2 bytes whole lines others took all at_end later rose short =
     let more = stands_short-more old.taken t2 lines others short in
-    let (front, wrote, begins) = more.wrote in
+    let (prefix, wrote, begins) = more.wrote in
     record {
       bytes = bytes;
-      front = front;
+      prefix = prefix;
       text = more.text;
       whole = whole;
       status = status_of more.end;

@@ -12,6 +12,6 @@ EveryInputHasAnswers = (bytes : List ℕ) (whole : Bool) → (text : List ℕ) �
 abbrev pub AnswersAreUnique : Type 0
 AnswersAreUnique = (bytes : List ℕ) (whole : Bool) (a b : List ℕ) (s t : Status) → IsAnswers bytes whole a s → IsAnswers bytes whole b t → (a ≡ b) × (s ≡ t)
 
--- the answers to what has come of an input are a front of the answers to what comes of it later
-abbrev pub AnswersToFrontAreFront : Type 0
-AnswersToFrontAreFront = (bytes more : List ℕ) (whole : Bool) (a b : List ℕ) (s t : Status) → IsAnswers bytes false a s → IsAnswers (bytes ++ more) whole b t → IsPrefix a b
+-- the answers to what has come of an input are a prefix of the answers to what comes of it later
+abbrev pub AnswersToPrefixArePrefix : Type 0
+AnswersToPrefixArePrefix = (bytes more : List ℕ) (whole : Bool) (a b : List ℕ) (s t : Status) → IsAnswers bytes false a s → IsAnswers (bytes ++ more) whole b t → IsPrefix a b

@@ -46,16 +46,16 @@ pub record StoppedReading (old new : Outside) : Type 0 where
   pub answers : IsAnswers bytes false text status
   pub goes_on : status ≢ TableRefused
 
--- a fault of the sink: a front of the answers is written
+-- a fault of the sink: a prefix of the answers is written
 pub record StoppedWriting (old new : Outside) : Type 0 where
   pub bytes : List ℕ
-  pub front : List ℕ
+  pub prefix : List ℕ
   pub text : List ℕ
   pub whole : Bool
   pub status : Status
   pub rose : Rose old.write_faults new.write_faults
-  pub exchanged : Exchanged old new bytes front
-  pub begins : IsPrefix front text
+  pub exchanged : Exchanged old new bytes prefix
+  pub begins : IsPrefix prefix text
   pub answers : IsAnswers bytes whole text status
   pub at_end : whole ≡ true → IsAtEnd new.left
 

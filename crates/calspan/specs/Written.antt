@@ -7,14 +7,14 @@ use Rattle.calspan.specs.Answers.{AreAnswers, begin, status_of}
 use Rattle.calspan.specs.declared.answer.Progress.{Progress}
 use Rattle.calspan.specs.declared.status.Status.{Status}
 
--- a front of a text was written
-abbrev pub WroteFront : Option (List ℕ) → Option (List ℕ) → List ℕ → Type 0
-WroteFront before now text = (front : List ℕ) × Appends before now front × IsPrefix front text
+-- a prefix of a text was written
+abbrev pub WrotePrefix : Option (List ℕ) → Option (List ℕ) → List ℕ → Type 0
+WrotePrefix before now text = (prefix : List ℕ) × Appends before now prefix × IsPrefix prefix text
 
--- a text was written, or a front of it where that failed
+-- a text was written, or a prefix of it where that failed
 abbrev pub Wrote : {T : Type 0} → Result T Failed → Option (List ℕ) → Option (List ℕ) → List ℕ → Type 0
 Wrote (Ok x) before now text = Appends before now text
-Wrote (Err e) before now text = WroteFront before now text
+Wrote (Err e) before now text = WrotePrefix before now text
 
 -- what was written and what is pending are the answers to these lines
 pub record Stands (before now : Option (List ℕ)) (pending : List ℕ) (lines : List (List ℕ)) (s : Progress) : Type 0 where
@@ -22,12 +22,12 @@ pub record Stands (before now : Option (List ℕ)) (pending : List ℕ) (lines :
   pub wrote : Appends before now written
   pub answers : AreAnswers lines 1 begin (written ++ pending) s
 
--- a front of the answers to these lines was written
+-- a prefix of the answers to these lines was written
 pub record StandsShort (before now : Option (List ℕ)) (lines : List (List ℕ)) : Type 0 where
   pub text : List ℕ
   pub end : Progress
   pub answers : AreAnswers lines 1 begin text end
-  pub wrote : WroteFront before now text
+  pub wrote : WrotePrefix before now text
 
 -- behind these lines, or where a write failed
 abbrev pub Answered : {T : Type 0} → Result T Failed → Option (List ℕ) → Option (List ℕ) → List ℕ → List (List ℕ) → Progress → Type 0

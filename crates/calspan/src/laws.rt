@@ -1,6 +1,6 @@
 //! Laws of requests and answers, each proved as the contract of a function that does nothing.
 ghost use Rattle.calspan.specs.Forms.{RequestsHaveOneForm};
-ghost use Rattle.calspan.specs.Laws.{EveryInputHasAnswers, AnswersAreUnique, AnswersToFrontAreFront};
+ghost use Rattle.calspan.specs.Laws.{EveryInputHasAnswers, AnswersAreUnique, AnswersToPrefixArePrefix};
 
 /// Words are read as a request exactly where they are of the form
 /// `span CAL SHOWN UNIT OVERFLOW MISSING from FIELDS to FIELDS`, and say it. FIELDS are words `KEY=VALUE` of known
@@ -19,7 +19,7 @@ pub fn answers_are_unique()
     ensures { AnswersAreUnique }
 {}
 
-/// The answers to what has come of an input are a front of the answers to what comes of it later.
-pub fn answers_to_a_front_are_a_front()
-    ensures { AnswersToFrontAreFront }
+/// The answers to what has come of an input are a prefix of the answers to what comes of it later.
+pub fn answers_to_a_prefix_are_a_prefix()
+    ensures { AnswersToPrefixArePrefix }
 {}

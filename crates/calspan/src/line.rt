@@ -89,7 +89,7 @@ fn gives_nothing(line: &[u8]) -> bool
 pub fn is_silent(line: &LineBuffer) -> bool
     ensures { (whole : List ℕ) → Holds line.now whole → result ≡ line_is_silent whole }
 {
-    gives_nothing(&line.front)
+    gives_nothing(&line.prefix)
 }
 
 /// What a line says that isn't silent. One of more than 512 bytes, with a carriage return at its end, is too
@@ -102,6 +102,6 @@ pub fn read_line<'a>(line: &'a LineBuffer) -> Line<'a>
     if line.over {
         Line::Long
     } else {
-        read_short(without_return(&line.front))
+        read_short(without_return(&line.prefix))
     }
 }

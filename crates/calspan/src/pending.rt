@@ -22,7 +22,7 @@ fn write_all<K: Sink>(text: &[u8], sink: &mut K) -> Result<(), Failed>
     Ok(())
 }
 
-/// Writes the pending answers. Where that fails, a front of them was written.
+/// Writes the pending answers. Where that fails, a prefix of them was written.
 pub fn flush<K: Sink>(pending: &mut Pending, sink: &mut K) -> Result<(), Failed>
     ensures answered { (before : Option (List ℕ)) (lines : List (List ℕ)) (s : Progress)
         → Stands before (K.taken sink.old) pending.old.items lines s
@@ -50,7 +50,7 @@ fn make_room<K: Sink>(pending: &mut Pending, sink: &mut K) -> Result<(), Failed>
 }
 
 /// Answers the line of this number. The answer is pending then, and what was pending is written
-/// first where there might be no room for it. Where that fails, a front of the answers was written.
+/// first where there might be no room for it. Where that fails, a prefix of the answers was written.
 pub fn respond<K: Sink>(
     progress: &mut Progress,
     number: u64,

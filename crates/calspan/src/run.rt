@@ -137,7 +137,7 @@ fn serve<S: Source, K: Sink>(source: &mut S, sink: &mut K) -> Status
 /// - `Done` and `Refused`: all answers to the input; `Refused` where one of them is `err`.
 /// - `Words`: nothing, and nothing was read. This comes exactly where the words aren't `span` alone.
 /// - `ReadFault`: the source counted a fault. The answers to all lines whose LF was read.
-/// - `WriteFault`: the sink counted a fault. A front of the answers to what was read; nothing is promised of how
+/// - `WriteFault`: the sink counted a fault. A prefix of the answers to what was read; nothing is promised of how
 ///   long it is.
 /// - `TooLong`: the source gave more than 16777216 bytes. The answers to all lines whose LF is among
 ///   the first 16777216.

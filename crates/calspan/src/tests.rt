@@ -153,7 +153,7 @@ fn read_fault_keeps_the_answers_to_whole_lines(rt: HostRuntime) -> Result<(), Fa
 }
 
 #[test]
-fn write_fault_keeps_a_front(rt: HostRuntime) -> Result<(), Fail> {
+fn write_fault_keeps_a_prefix(rt: HostRuntime) -> Result<(), Fail> {
     let words = words(rt.alloc(), &["span"])?;
     for (cut, call, text) in [
         (4096usize, 1u64, b"".as_slice()),

@@ -1,4 +1,4 @@
--- The front of a line, as bytes follow.
+-- The prefix of a line, as bytes follow.
 use Rattle.std.proofs.Common.{◌≡◌, ℕ, ◌+◌, ◌-◌, ◌<◌, ◌≤◌, min, Bool, true, List, ◌++◌, length, take, arith, ◌∙◌, sym, ap, nat_lt, ⊎_elim}
 use Rattle.std.proofs.lemmas.List.{take-append-le, take_all, length-take, length-append, append-nil}
 use Rattle.std.proofs.Math.Seq.{take-append-add}

@@ -1,5 +1,5 @@
 pub mod PartLemmas
-pub mod FrontLemmas
+pub mod PrefixLemmas
 mod BufferLemmas
 mod LookLemmas
 mod ReaderLemmas

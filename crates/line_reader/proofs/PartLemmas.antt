@@ -5,7 +5,7 @@ use Rattle.std.proofs.lemmas.List.{append_assoc, append-nil}
 use Rattle.std.proofs.lemmas.List.Splits.{length-slice_split}
 use Rattle.std.proofs.lemmas.List.Sums.{count_by-le-length}
 use Rattle.std.proofs.lemmas.Bool.Decides.{eqb_tells}
-use Rattle.line_reader.specs.Lines.{front_of, last_of, parts_of, closed_lines, open_line}
+use Rattle.line_reader.specs.Lines.{prefix_of, last_of, parts_of, closed_lines, open_line}
 
 pub length-parts_of : (b : List ℕ) → 0 < length (parts_of b)
 length-parts_of b = omega (arith, length-slice_split (λ (x : ℕ). x == 10) b)
@@ -14,15 +14,15 @@ onto_first-append : (y : ℕ) (s t : List (List ℕ)) → 0 < length s → onto_
 onto_first-append y [] t h = absurd (omega arith)
 onto_first-append y (x ∷ s) t h = refl
 
-front_of-last_of : (s : List (List ℕ)) → 0 < length s → front_of s ++ last_of s ∷ [] ≡ s
-front_of-last_of [] h = absurd (omega arith)
-front_of-last_of (x ∷ []) h = refl
-front_of-last_of (x ∷ y ∷ more) h = ap (λ r. x ∷ r) (front_of-last_of (y ∷ more) (omega arith))
+prefix_of-last_of : (s : List (List ℕ)) → 0 < length s → prefix_of s ++ last_of s ∷ [] ≡ s
+prefix_of-last_of [] h = absurd (omega arith)
+prefix_of-last_of (x ∷ []) h = refl
+prefix_of-last_of (x ∷ y ∷ more) h = ap (λ r. x ∷ r) (prefix_of-last_of (y ∷ more) (omega arith))
 
-front_of-push : (s : List (List ℕ)) (x : List ℕ) → front_of (s ++ x ∷ []) ≡ s
-front_of-push [] x = refl
-front_of-push (y ∷ []) x = refl
-front_of-push (y ∷ z ∷ more) x = ap (λ r. y ∷ r) (front_of-push (z ∷ more) x)
+prefix_of-push : (s : List (List ℕ)) (x : List ℕ) → prefix_of (s ++ x ∷ []) ≡ s
+prefix_of-push [] x = refl
+prefix_of-push (y ∷ []) x = refl
+prefix_of-push (y ∷ z ∷ more) x = ap (λ r. y ∷ r) (prefix_of-push (z ∷ more) x)
 
 last_of-push : (s : List (List ℕ)) (x : List ℕ) → last_of (s ++ x ∷ []) ≡ x
 last_of-push [] x = refl
@@ -40,7 +40,7 @@ parts_of-push_lf (y ∷ b) =
 
 -- the last part goes on with x
 longer : List (List ℕ) → ℕ → List (List ℕ)
-longer s x = front_of s ++ (last_of s ++ x ∷ []) ∷ []
+longer s x = prefix_of s ++ (last_of s ++ x ∷ []) ∷ []
 
 other_step : (c : Bool) (y x : ℕ) (s : List (List ℕ)) → 0 < length s → cond c ([] ∷ longer s x) (onto_first y (longer s x)) ≡ longer (cond c ([] ∷ s) (onto_first y s)) x
 unfolding longer
@@ -56,18 +56,18 @@ parts_of-push_other (y ∷ b) x h =
     ap (λ r. cond (y == 10) ([] ∷ r) (onto_first y r)) (parts_of-push_other b x h) ∙ other_step (y == 10) y x (parts_of b) (length-parts_of b)
 
 pub closed_lines-push_lf : (b : List ℕ) → closed_lines (b ++ 10 ∷ []) ≡ closed_lines b ++ open_line b ∷ []
-closed_lines-push_lf b = ap front_of (parts_of-push_lf b) ∙ (front_of-push (parts_of b) [] ∙ sym (front_of-last_of (parts_of b) (length-parts_of b)))
+closed_lines-push_lf b = ap prefix_of (parts_of-push_lf b) ∙ (prefix_of-push (parts_of b) [] ∙ sym (prefix_of-last_of (parts_of b) (length-parts_of b)))
 
 pub open_line-push_lf : (b : List ℕ) → open_line (b ++ 10 ∷ []) ≡ []
 open_line-push_lf b = ap last_of (parts_of-push_lf b) ∙ last_of-push (parts_of b) []
 
 closed_lines-push_other : (b : List ℕ) (x : ℕ) → eqb x 10 ≡ false → closed_lines (b ++ x ∷ []) ≡ closed_lines b
 unfolding longer
-closed_lines-push_other b x h = ap front_of (parts_of-push_other b x h) ∙ front_of-push (front_of (parts_of b)) (last_of (parts_of b) ++ x ∷ [])
+closed_lines-push_other b x h = ap prefix_of (parts_of-push_other b x h) ∙ prefix_of-push (prefix_of (parts_of b)) (last_of (parts_of b) ++ x ∷ [])
 
 open_line-push_other : (b : List ℕ) (x : ℕ) → eqb x 10 ≡ false → open_line (b ++ x ∷ []) ≡ open_line b ++ x ∷ []
 unfolding longer
-open_line-push_other b x h = ap last_of (parts_of-push_other b x h) ∙ last_of-push (front_of (parts_of b)) (last_of (parts_of b) ++ x ∷ [])
+open_line-push_other b x h = ap last_of (parts_of-push_other b x h) ∙ last_of-push (prefix_of (parts_of b)) (last_of (parts_of b) ++ x ∷ [])
 
 -- no byte is an LF
 pub record HasNoLf (x : List ℕ) : Type 0 where
@@ -88,10 +88,10 @@ open_line-append b (y ∷ x) h =
     ∙ (ap (λ r. r ++ x) (open_line-push_other b y (h.none 0 (omega arith))) ∙ append_assoc (open_line b) (y ∷ []) x))
 
 -- what follows adds lines behind
-pub closed_lines-front : (g more : List ℕ) → (rest : List (List ℕ)) × (closed_lines (g ++ more) ≡ closed_lines g ++ rest)
-closed_lines-front g [] = ([], ap closed_lines (append-nil g) ∙ sym (append-nil (closed_lines g)))
-closed_lines-front g (x ∷ more) =
-    let (rest, e) = closed_lines-front (g ++ x ∷ []) more in
+pub closed_lines-prefix : (g more : List ℕ) → (rest : List (List ℕ)) × (closed_lines (g ++ more) ≡ closed_lines g ++ rest)
+closed_lines-prefix g [] = ([], ap closed_lines (append-nil g) ∙ sym (append-nil (closed_lines g)))
+closed_lines-prefix g (x ∷ more) =
+    let (rest, e) = closed_lines-prefix (g ++ x ∷ []) more in
     let on : closed_lines (g ++ x ∷ more) ≡ closed_lines (g ++ x ∷ []) ++ rest = ap closed_lines (sym (append_assoc g (x ∷ []) more)) ∙ e in
     ⊎_elim
     (λ (same : (eqb x 10 ≡ true) × (x ≡ 10)).
@@ -100,11 +100,11 @@ closed_lines-front g (x ∷ more) =
     (λ (other : (eqb x 10 ≡ false) × (x ≢ 10)). (rest, on ∙ ap (λ r. r ++ rest) (closed_lines-push_other g x other.0)))
     (eqb_tells x 10)
 
-length-front_of : (s : List (List ℕ)) → length (front_of s) ≡ length s - 1
-length-front_of [] = refl
-length-front_of (x ∷ []) = omega arith
-length-front_of (x ∷ y ∷ more) = omega (arith, length-front_of (y ∷ more))
+length-prefix_of : (s : List (List ℕ)) → length (prefix_of s) ≡ length s - 1
+length-prefix_of [] = refl
+length-prefix_of (x ∷ []) = omega arith
+length-prefix_of (x ∷ y ∷ more) = omega (arith, length-prefix_of (y ∷ more))
 
 -- each closed line took a byte
 pub length-closed_lines : (g : List ℕ) → length (closed_lines g) ≤ length g
-length-closed_lines g = omega (arith, length-front_of (parts_of g), length-slice_split (λ (x : ℕ). x == 10) g, count_by-le-length (λ (x : ℕ). x == 10) g)
+length-closed_lines g = omega (arith, length-prefix_of (parts_of g), length-slice_split (λ (x : ℕ). x == 10) g, count_by-le-length (λ (x : ℕ). x == 10) g)

@@ -4,5 +4,5 @@ use Rattle.line_reader.specs.declared.buffer.LineBuffer.{LineBuffer}
 
 -- the first 512 bytes of the line, and whether there are more
 pub record Holds (buffer : LineBuffer) (line : List ℕ) : Type 0 where
-  pub front : buffer.front.items ≡ take 512 line
+  pub prefix : buffer.prefix.items ≡ take 512 line
   pub over : buffer.over ≡ nat_lt 512 (length line)

@@ -3,10 +3,10 @@ use Rattle.std.specs.Prelude.{ℕ, Bool, List, [], ◌∷◌, ◌++◌, ◌==◌
 use Rattle.std.specs.List.{slice_split}
 
 -- all parts but the last
-abbrev pub front_of : List (List ℕ) → List (List ℕ)
-front_of [] = []
-front_of (x ∷ []) = []
-front_of (x ∷ y ∷ more) = x ∷ front_of (y ∷ more)
+abbrev pub prefix_of : List (List ℕ) → List (List ℕ)
+prefix_of [] = []
+prefix_of (x ∷ []) = []
+prefix_of (x ∷ y ∷ more) = x ∷ prefix_of (y ∷ more)
 
 -- the last part
 abbrev pub last_of : List (List ℕ) → List ℕ
@@ -20,7 +20,7 @@ parts_of bytes = slice_split (λ b. b == 10) bytes
 
 -- the lines whose LF is there
 abbrev pub closed_lines : List ℕ → List (List ℕ)
-closed_lines bytes = front_of (parts_of bytes)
+closed_lines bytes = prefix_of (parts_of bytes)
 
 -- what follows the last LF
 abbrev pub open_line : List ℕ → List ℕ

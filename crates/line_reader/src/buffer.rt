@@ -1,4 +1,4 @@
-//! The front of a line.
+//! A prefix of a line.
 ghost use Rattle.std.specs.Prelude.{◌≡◌, ◌+◌, ◌≤◌, ◌++◌, length, IsTrue};
 ghost use Rattle.arrayvec.specs.ArrayVec.{array_vec_len};
 
@@ -8,18 +8,18 @@ use arrayvec::ArrayVec;
 #[derive(Drop)]
 pub struct LineBuffer {
     /// The line, or its first 512 bytes.
-    pub front: ArrayVec<u8, 512>,
+    pub prefix: ArrayVec<u8, 512>,
     /// Whether the line has more than 512 bytes.
     pub over: bool,
-    ghost full: { IsTrue over → array_vec_len front ≡ 512 },
+    ghost full: { IsTrue over → array_vec_len prefix ≡ 512 },
 }
 
 // Appends bytes for which there is room.
-fn push_all(front: &mut ArrayVec<u8, 512>, bytes: &[u8])
-    requires { array_vec_len front.old + length bytes.now ≤ 512 }
-    ensures { front.new.items ≡ front.old.items ++ bytes.now }
+fn push_all(prefix: &mut ArrayVec<u8, 512>, bytes: &[u8])
+    requires { array_vec_len prefix.old + length bytes.now ≤ 512 }
+    ensures { prefix.new.items ≡ prefix.old.items ++ bytes.now }
 {
-    let _fits = front.try_extend_from_slice(bytes);
+    let _fits = prefix.try_extend_from_slice(bytes);
 }
 
 impl LineBuffer {
@@ -31,7 +31,7 @@ impl LineBuffer {
         ensures { Holds result [] }
     {
         LineBuffer {
-            front: ArrayVec::new(),
+            prefix: ArrayVec::new(),
             over: false,
         }
     }
@@ -40,7 +40,7 @@ impl LineBuffer {
     pub fn clear(&mut self)
         ensures { Holds self.new [] }
     {
-        self.front.clear();
+        self.prefix.clear();
         self.over = false;
     }
 
@@ -48,8 +48,8 @@ impl LineBuffer {
     pub fn extend(&mut self, bytes: &[u8])
         ensures { (line : List ℕ) → Holds self.old line → Holds self.new (line ++ bytes.now) }
     {
-        let count = bytes.len().min(self.front.remaining_capacity());
-        push_all(&mut self.front, &bytes[..count]);
+        let count = bytes.len().min(self.prefix.remaining_capacity());
+        push_all(&mut self.prefix, &bytes[..count]);
         if count < bytes.len() {
             self.over = true;
         }
@@ -59,6 +59,6 @@ impl LineBuffer {
     pub fn is_empty(&self) -> bool
         ensures { (line : List ℕ) → Holds self.now line → result ≡ (length line == 0) }
     {
-        self.front.is_empty()
+        self.prefix.is_empty()
     }
 }

@@ -1,7 +1,7 @@
 //! Reads the lines of any source, in chunks and without memory of its own.
 //!
 //! A [`Reader`] holds one chunk of bytes and looks for the next LF in it, and a [`LineBuffer`] holds
-//! the front of the line that is read. Reading is a pull: [`Reader::next_line`] looks at the chunk
+//! a prefix of the line that is read. Reading is a pull: [`Reader::next_line`] looks at the chunk
 //! alone, and [`Reader::fill`] reads the next chunk, so that a caller can do other work between the
 //! two.
 #![tactic(auto)]

@@ -104,7 +104,7 @@ impl Reader {
 
     /// Looks for the next LF in the chunk, and puts the bytes before it behind those in `line`.
     ///
-    /// After `Line` the line is whole: clear it before the next call. After `Spent` it is the front
+    /// After `Line` the line is whole: clear it before the next call. After `Spent` it is a prefix
     /// of a line, and a call after [`Reader::fill`] goes on with it. After `TooLong` the bytes up to
     /// the limit have no further LF.
     pub fn next_line(&mut self, line: &mut LineBuffer) -> Next

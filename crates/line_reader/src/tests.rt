@@ -1,7 +1,7 @@
 use crate::{Filled, LineBuffer, Next, Reader};
 use byte_io::{MemorySource, Source};
 
-// Reads the source to its end, and says how many lines it has, how many bytes the longest front
+// Reads the source to its end, and says how many lines it has, how many bytes the longest prefix
 // has, and how many bytes follow the last LF.
 fn lines_of<S: Source>(source: &mut S) -> (u64, usize, usize) {
     let mut reader = Reader::new();
@@ -10,7 +10,7 @@ fn lines_of<S: Source>(source: &mut S) -> (u64, usize, usize) {
     for _ in 0..10000u64 {
         match reader.next_line(&mut line) {
             Next::Line => {
-                longest = line.front.len().max(longest);
+                longest = line.prefix.len().max(longest);
                 line.clear();
                 continue;
             }
@@ -21,7 +21,7 @@ fn lines_of<S: Source>(source: &mut S) -> (u64, usize, usize) {
             break;
         }
     }
-    (reader.lines(), longest, line.front.len())
+    (reader.lines(), longest, line.prefix.len())
 }
 
 #[test]
@@ -35,7 +35,7 @@ fn lines_in_any_pieces(rt: HostRuntime) {
 }
 
 #[test]
-fn long_lines_keep_their_front(rt: HostRuntime) {
+fn long_lines_keep_their_prefix(rt: HostRuntime) {
     let mut bytes = [b'x'; 1200];
     bytes[512] = b'\n';
     bytes[1026] = b'\n';

@@ -14,5 +14,5 @@ pub returns-else-line : goal.returns-else-line
 returns-else-line c whole hold loud =
     let over = sym hold.over ∙ c.if-line.false in
     let short = ltb-false 512 (length whole) over in
-    let front = c.deref.ensures.0 ∙ (hold.front ∙ take_all 512 whole short) in
-    c.read_short.ensures ∙ (ap said_by (c.without_return.ensures ∙ ap strip_carriage_return front) ∙ sym (loud_is whole loud ∙ ap (λ t. cond t Long (said_by (strip_carriage_return whole))) over))
+    let prefix = c.deref.ensures.0 ∙ (hold.prefix ∙ take_all 512 whole short) in
+    c.read_short.ensures ∙ (ap said_by (c.without_return.ensures ∙ ap strip_carriage_return prefix) ∙ sym (loud_is whole loud ∙ ap (λ t. cond t Long (said_by (strip_carriage_return whole))) over))

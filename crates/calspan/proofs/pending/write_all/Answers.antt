@@ -1,5 +1,5 @@
 use Rattle.std.proofs.Common.{rules, arith}
-use Rattle.calspan.proofs.KnownLemmas.{sent_more, sent_front, wrote_err}
+use Rattle.calspan.proofs.KnownLemmas.{sent_more, sent_prefix, wrote_err}
 use Rattle.calspan.proofs.pending.write_all.Goals as goal
 
 pub loop-at-preserved : goal.loop-at-preserved
@@ -12,4 +12,4 @@ loop-at-preserved g c = record {
 pub returns-in_err-at-clause-wrote : goal.returns-in_err-at-clause-wrote
 returns-in_err-at-clause-wrote g c =
     wrote_err c.from_residual.result _ _ c.args.text.now c.from_residual.ensures.0
-    (sent_front _ _ _ c.args.text.now c.loop-at.at c.loop-at.invariant.wrote c.in_err-at.ensures.bytes)
+    (sent_prefix _ _ _ c.args.text.now c.loop-at.at c.loop-at.invariant.wrote c.in_err-at.ensures.bytes)

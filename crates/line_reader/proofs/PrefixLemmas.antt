@@ -4,12 +4,12 @@ use Rattle.std.proofs.lemmas.List.{append_assoc, take-append-drop}
 use Rattle.line_reader.specs.declared.reader.Reader.{Reader}
 use Rattle.line_reader.specs.Lines.{closed_lines}
 use Rattle.line_reader.specs.Reader.{IsAt, unseen, limit}
-use Rattle.line_reader.proofs.PartLemmas.{closed_lines-front}
+use Rattle.line_reader.proofs.PartLemmas.{closed_lines-prefix}
 
 -- of the bytes within the limit
 pub given_within : (r : Reader) (bytes : List ℕ) (lines : List (List ℕ)) (before : List ℕ) → IsAt r bytes lines before → (others : List (List ℕ)) × (closed_lines (take limit bytes) ≡ lines ++ others)
 given_within r bytes lines before m =
-    let (others, e) = closed_lines-front m.looked (unseen r.chunk r.at r.end) in
+    let (others, e) = closed_lines-prefix m.looked (unseen r.chunk r.at r.end) in
     (others, ap closed_lines (sym m.seen.parts) ∙ (e ∙ ap (λ y. y ++ others) m.given))
 
 -- of all bytes that came
@@ -17,5 +17,5 @@ pub given_in_all : (r : Reader) (bytes : List ℕ) (lines : List (List ℕ)) (be
 given_in_all r bytes lines before m =
     let rest = unseen r.chunk r.at r.end ++ drop limit bytes in
     let all : m.looked ++ rest ≡ bytes = sym (append_assoc m.looked (unseen r.chunk r.at r.end) (drop limit bytes)) ∙ (ap (λ y. y ++ drop limit bytes) m.seen.parts ∙ take-append-drop limit bytes) in
-    let (others, e) = closed_lines-front m.looked rest in
+    let (others, e) = closed_lines-prefix m.looked rest in
     (others, ap closed_lines (sym all) ∙ (e ∙ ap (λ y. y ++ others) m.given))
