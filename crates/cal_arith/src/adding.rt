@@ -13,7 +13,6 @@ use crate::dates::{Ymd, from_rata_die, to_rata_die};
 use crate::direction::Direction;
 use crate::getters::has_valid_day;
 use crate::months::{YearMonth, months_away};
-use crate::places::place_in;
 use crate::years::{YearShapes, Years};
 use cal_days::RataDie;
 use cal_days::ranges::{
@@ -26,13 +25,10 @@ use cal_types::{DateAddError, DateDuration, Overflow};
 fn can_be_added(duration: DateDuration) -> bool
     ensures { result ≡ is_addable duration }
 {
+    let days = 7 * u64::from(duration.weeks) + u64::from(duration.days);
     duration.years <= MAX_ADDED_YEARS
         && duration.months <= MAX_ADDED_MONTHS
-        && duration
-            .weeks
-            .saturating_mul(7)
-            .saturating_add(duration.days)
-            <= MAX_ADDED_DAYS
+        && days <= u64::from(MAX_ADDED_DAYS)
 }
 
 /// The date of a day number, where it is valid.
@@ -182,7 +178,7 @@ pub(crate) fn added<C: Years>(
         None => return Err(DateAddError::Overflow),
         Some(number) => cal.year_info_from_extended(number),
     };
-    match place_in(from.year, from.month, reached, overflow, cal) {
+    match cal.ordinal_in_other_year(from.year, from.month, reached, overflow) {
         None => Err(DateAddError::MonthNotInYear),
         Some(place) => {
             let there = months_away(reached, place, duration.months, direction, cal);

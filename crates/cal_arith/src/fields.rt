@@ -6,7 +6,7 @@ ghost use Rattle.cal_days.specs.Day.{IsRuleYear};
 ghost use Rattle.cal_types.specs.Bag.{bag_of};
 ghost use Rattle.cal_types.specs.MonthParts.{month_parts};
 ghost use Rattle.cal_model.specs.CalendarList.{spot};
-ghost use Rattle.cal_model.specs.Resolving.{after, day_or_first, in_reference_year, in_year, is_ecma, missing_fields_of, month_of_kind, month_said, or_plain_month, overflow_of, place_in_year, resolve, resolved_day, resolved_in_month, resolved_in_year, resolved_ordinal, resolved_place, same_place, same_year, valid_date, without_year, year_and_month, year_named, year_of_era};
+ghost use Rattle.cal_model.specs.Resolving.{after, day_or_first, in_reference_year, in_year, is_ecma, missing_fields_of, month_of_kind, month_said, or_plain_month, overflow_of, place_in_year, resolve, resolved_in_month, resolved_in_year, resolved_number, resolved_place, same_place, same_year, valid_date, without_year, year_and_month, year_named, year_of_era};
 ghost use Rattle.cal_arith.specs.Dates.{answer_by, answer_of, date_of, Belongs, IsGivenDate};
 ghost use Rattle.cal_arith.specs.FieldNames.{month_name, month_of_year, seen};
 ghost use Rattle.cal_arith.specs.Given.{HasMonth, IsGiven};
@@ -234,17 +234,23 @@ fn same_place(given: Option<u8>, place: u8) -> Result<u8, DateFromFieldsError>
     }
 }
 
-/// A place in a year with so many months; under [`Overflow::Constrain`] the nearest one.
-fn ordinal_within(place: u8, count: u8, overflow: Overflow) -> Result<u8, DateFromFieldsError>
-    ensures { result ≡ resolved_ordinal count overflow place }
+/// A number from 1 to a last one; another is a fault, or under [`Overflow::Constrain`] the nearest one is taken.
+fn number_within(
+    number: u8,
+    last: u8,
+    overflow: Overflow,
+    fault: DateFromFieldsError,
+) -> Result<u8, DateFromFieldsError>
+    ensures number { result ≡ resolved_number last fault overflow number }
+    ensures within { 1 ≤ last → IfOk result (λ n. (1 ≤ n) × (n ≤ last)) }
 {
     match overflow {
-        Overflow::Constrain => Ok(place.min(count).max(1)),
+        Overflow::Constrain => Ok(number.min(last).max(1)),
         Overflow::Reject => {
-            if is_up_to(place, count) {
-                Ok(place)
+            if is_up_to(number, last) {
+                Ok(number)
             } else {
-                Err(DateFromFieldsError::InvalidOrdinalMonth { max: count })
+                Err(fault)
             }
         }
     }
@@ -284,7 +290,9 @@ fn place_in_year<C: YearShapes>(
 {
     match month {
         NamedMonth::Ordinal(place) => {
-            ordinal_within(place, cal.months_in_provided_year(year), overflow)
+            let count = cal.months_in_provided_year(year);
+            let fault = DateFromFieldsError::InvalidOrdinalMonth { max: count };
+            number_within(place, count, overflow, fault)
         }
         name => match month_said(name) {
             Ok(said) => place_of_month(year, said, ordinal_month, overflow, cal),
@@ -307,27 +315,10 @@ fn date_in_month<C: Years>(
     ensures belongs { IfOk result (λ d. Belongs (C.years cal.now) d) }
 {
     let last = cal.days_in_provided_month(year, month);
-    match day_within(day, last, overflow) {
+    let fault = DateFromFieldsError::InvalidDay { max: last };
+    match number_within(day, last, overflow, fault) {
         Ok(day) => date_in_range(Ymd { year, month, day }, cal),
         Err(e) => Err(e),
-    }
-}
-
-/// The day of a month with so many days; under [`Overflow::Constrain`] the nearest one.
-fn day_within(day: u8, last: u8, overflow: Overflow) -> Result<u8, DateFromFieldsError>
-    requires { 1 ≤ last }
-    ensures day { result ≡ resolved_day last overflow day }
-    ensures within { IfOk result (λ d. (1 ≤ d) × (d ≤ last)) }
-{
-    match overflow {
-        Overflow::Constrain => Ok(day.min(last).max(1)),
-        Overflow::Reject => {
-            if is_up_to(day, last) {
-                Ok(day)
-            } else {
-                Err(DateFromFieldsError::InvalidDay { max: last })
-            }
-        }
     }
 }
 

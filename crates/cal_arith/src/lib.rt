@@ -18,7 +18,6 @@ mod month_names;
 mod months;
 mod months_between;
 mod past;
-mod places;
 pub mod steps;
 #[cfg(test)]
 mod tests;

@@ -3,8 +3,8 @@
 ghost use Rattle.std.specs.Prelude.{◌≡◌, ◌≤◌, ◌<◌, pos, neg_ℤ, ◌+ℤ◌, ◌*ℤ◌, ◌≤ℤ◌};
 ghost use Rattle.cal_model.specs.CalendarList.{IsMonthsAfter, month_count, month_number};
 ghost use Rattle.cal_model.specs.Difference.{toward};
-ghost use Rattle.cal_days.specs.Day.{IsBetween};
-ghost use Rattle.cal_arith.specs.Given.{HasMonth, IsGiven};
+ghost use Rattle.cal_arith.specs.Counting.{IsCountable};
+ghost use Rattle.cal_arith.specs.Given.{IsGiven};
 ghost use Rattle.cal_arith.specs.Directions.{is_backward};
 
 use crate::direction::Direction;
@@ -121,9 +121,7 @@ fn months_later<C: Years>(
     months: u32,
     cal: &C,
 ) -> YearMonth<C::YearInfo>
-    requires range { IsBetween (neg_ℤ (pos 2080000)) (pos 2080000) ((C.years cal.now).extended year) }
-    requires month { HasMonth (C.years cal.now) year month }
-    requires months { months ≤ 27050000 }
+    requires { IsCountable (C.years cal.now) year month months }
     ensures year { IsGiven (C.years cal.now) result.year }
     ensures moved { let y = C.years cal.now in
         IsMonthsAfter y.list (y.extended year) month (pos months) (y.extended result.year) result.month }
@@ -138,9 +136,7 @@ fn month_from_before<C: Years>(
     months: u32,
     cal: &C,
 ) -> YearMonth<C::YearInfo>
-    requires range { IsBetween (neg_ℤ (pos 2080000)) (pos 2080000) ((C.years cal.now).extended year) }
-    requires month { HasMonth (C.years cal.now) year month }
-    requires months { months ≤ 27050000 }
+    requires { IsCountable (C.years cal.now) year month months }
     ensures year { IsGiven (C.years cal.now) result.year }
     ensures moved { let y = C.years cal.now in
         IsMonthsAfter y.list (y.extended year) month (neg_ℤ (pos months)) (y.extended result.year) result.month }
@@ -158,9 +154,7 @@ fn months_earlier<C: Years>(
     months: u32,
     cal: &C,
 ) -> YearMonth<C::YearInfo>
-    requires range { IsBetween (neg_ℤ (pos 2080000)) (pos 2080000) ((C.years cal.now).extended year) }
-    requires month { HasMonth (C.years cal.now) year month }
-    requires months { months ≤ 27050000 }
+    requires { IsCountable (C.years cal.now) year month months }
     ensures year { IsGiven (C.years cal.now) result.year }
     ensures moved { let y = C.years cal.now in
         IsMonthsAfter y.list (y.extended year) month (neg_ℤ (pos months)) (y.extended result.year) result.month }
@@ -191,9 +185,7 @@ pub(crate) fn months_away<C: Years>(
     direction: Direction,
     cal: &C,
 ) -> YearMonth<C::YearInfo>
-    requires range { IsBetween (neg_ℤ (pos 2080000)) (pos 2080000) ((C.years cal.now).extended year) }
-    requires month { HasMonth (C.years cal.now) year month }
-    requires months { months ≤ 27050000 }
+    requires { IsCountable (C.years cal.now) year month months }
     ensures year { IsGiven (C.years cal.now) result.year }
     ensures moved { let y = C.years cal.now in
         IsMonthsAfter y.list (y.extended year) month (toward (is_backward direction) months)

@@ -1,10 +1,11 @@
 //! The months of a difference, after its years, and the month that they lead to.
 
-ghost use Rattle.std.specs.Prelude.{◌≡◌, ◌≤◌, ◌+◌, ◌+ℤ◌, ◌-ℤ◌, ◌≤ℤ◌, pos, unsigned_abs, Some, IsTrue, false};
+ghost use Rattle.std.specs.Prelude.{◌≡◌, ◌≤◌, ◌+◌, ◌+ℤ◌, ◌-ℤ◌, ◌≤ℤ◌, pos, unsigned_abs, IsTrue, false};
 ghost use Rattle.cal_days.specs.Day.{IsFieldYear};
-ghost use Rattle.cal_model.specs.CalendarList.{month_at, month_number, spot};
+ghost use Rattle.cal_model.specs.CalendarList.{month_number};
 ghost use Rattle.cal_model.specs.Difference.{toward, IsBeyond, MonthsSurpass, Reaches, IsGreatest, IsGreatestIf, admits_months};
 ghost use Rattle.cal_model.proofs.DifferenceLemmas.{IsMonthOrder};
+ghost use Rattle.cal_arith.specs.Counting.{IsYearsFrom};
 ghost use Rattle.cal_arith.specs.Given.{HasMonth, IsGiven};
 ghost use Rattle.cal_arith.specs.Dates.{date_of, IsGivenDate};
 ghost use Rattle.cal_arith.specs.Directions.{is_backward};
@@ -15,7 +16,7 @@ use crate::months::YearMonth;
 use crate::past::is_past_day;
 use crate::steps::Steps;
 use crate::years::YearShapes;
-use cal_types::{DateDurationUnit, Overflow};
+use cal_types::DateDurationUnit;
 use std::sync::ledger::Ledger;
 
 /// A number of months, and the month that they lead to.
@@ -166,13 +167,7 @@ fn months_between<C: YearShapes, L: Ledger>(
 ) -> MonthsReached<C::YearInfo>
     requires to_range { IsFieldYear ((C.years cal.now).extended to.year) }
     requires to { IsGivenDate (C.years cal.now) to }
-    requires year { IsGiven (C.years cal.now) start.year }
-    requires number { let y = C.years cal.now in
-        y.extended start.year ≡ y.extended from.year +ℤ toward (is_backward direction) years }
-    requires range { IsFieldYear ((C.years cal.now).extended start.year) }
-    requires spot { let y = C.years cal.now in
-        spot y.list (y.extended start.year) (month_at y.list (y.extended from.year) from.month) Overflow.Constrain
-        ≡ Some start.month }
+    requires start { IsYearsFrom (C.years cal.now) from (is_backward direction) years start }
     requires within { let y = C.years cal.now in
         ¬ IsBeyond (is_backward direction) (y.extended start.year, start.month, from.day)
         (y.extended to.year, to.month, to.day) }
@@ -218,13 +213,7 @@ pub(crate) fn admitted_months<C: YearShapes, L: Ledger>(
 ) -> MonthsReached<C::YearInfo>
     requires to_range { IsFieldYear ((C.years cal.now).extended to.year) }
     requires to { IsGivenDate (C.years cal.now) to }
-    requires year { IsGiven (C.years cal.now) start.year }
-    requires number { let y = C.years cal.now in
-        y.extended start.year ≡ y.extended from.year +ℤ toward (is_backward direction) years }
-    requires range { IsFieldYear ((C.years cal.now).extended start.year) }
-    requires spot { let y = C.years cal.now in
-        spot y.list (y.extended start.year) (month_at y.list (y.extended from.year) from.month) Overflow.Constrain
-        ≡ Some start.month }
+    requires start { IsYearsFrom (C.years cal.now) from (is_backward direction) years start }
     requires within { let y = C.years cal.now in
         ¬ IsBeyond (is_backward direction) (y.extended start.year, start.month, from.day)
         (y.extended to.year, to.month, to.day) }

@@ -9,7 +9,7 @@ ghost use Rattle.cal_types.specs.MonthParts.{month_parts};
 ghost use Rattle.cal_types.specs.declared.errors.EcmaReferenceYearError.TheVariants.{MonthNotInCalendar, UseRegularIfConstrain};
 ghost use Rattle.cal_model.specs.YearNames.{YearNames};
 ghost use Rattle.cal_arith.specs.FieldNames.{era_read, seen};
-ghost use Rattle.cal_model.specs.CalendarList.{Date, date, month_count, month_at, month_length, month_number, year_length, start_of_year, day_number, IsDate, IsLawful, IsOn, IsValidDate};
+ghost use Rattle.cal_model.specs.CalendarList.{Date, date, month_count, month_at, month_length, month_number, year_length, spot, start_of_year, day_number, IsDate, IsLawful, IsOn, IsValidDate};
 ghost use Rattle.cal_arith.specs.Given.{CalendarYears, HasMonth, IsGiven};
 ghost use Rattle.cal_arith.specs.Dates.{date_of, ymd, IsGivenDate};
 ghost use Rattle.cal_arith.specs.declared.dates.Ymd.{Ymd};
@@ -148,6 +148,24 @@ pub trait YearShapes {
     fn month_from_ordinal(&self, year: Self::YearInfo, ordinal_month: u8) -> Month
         requires { HasMonth (years self.now) year ordinal_month }
         ensures { let y = years self.now in month_parts result ≡ month_at y.list (y.extended year) ordinal_month };
+
+    /// The place in another given year of the month in a place of a given year. None where that year lacks the
+    /// month and, under [`Overflow::Constrain`], none stands in for it.
+    fn ordinal_in_other_year(
+        &self,
+        year: Self::YearInfo,
+        ordinal_month: u8,
+        other: Self::YearInfo,
+        overflow: Overflow,
+    ) -> Option<u8>
+        requires month { HasMonth (years self.now) year ordinal_month }
+        requires other { IsGiven (years self.now) other }
+        ensures { let y = years self.now in
+            result ≡ spot y.list (y.extended other) (month_at y.list (y.extended year) ordinal_month) overflow }
+    {
+        let month = self.month_from_ordinal(year, ordinal_month);
+        self.ordinal_from_month(other, month, overflow).ok()
+    }
 
     /// A year and its extended year give each other back.
     ghost numbered: { (s : Self) (y : ℤ) → IsRuleYear y → (years s).extended ((years s).year_of y) ≡ y };

@@ -5,6 +5,7 @@ ghost use Rattle.cal_days.specs.Day.{IsFieldYear};
 ghost use Rattle.cal_model.specs.CalendarList.{month_at, spot};
 ghost use Rattle.cal_model.specs.WithinYear.{Leads};
 ghost use Rattle.cal_model.specs.Difference.{toward, YearsSurpass, IsGreatest, IsGreatestIf, admits_years};
+ghost use Rattle.cal_arith.specs.Counting.{IsYearsFrom};
 ghost use Rattle.cal_arith.specs.Given.{HasMonth, IsGiven};
 ghost use Rattle.cal_arith.specs.Dates.{date_of, IsGivenDate};
 ghost use Rattle.cal_arith.specs.Directions.{is_backward};
@@ -13,7 +14,6 @@ use crate::dates::Ymd;
 use crate::direction::Direction;
 use crate::months::YearMonth;
 use crate::past::surpasses_in_year;
-use crate::places::place_in;
 use crate::steps::Steps;
 use crate::years::YearShapes;
 use cal_types::{DateDurationUnit, Overflow};
@@ -27,7 +27,7 @@ fn stand_in_place<C: YearShapes>(from: Ymd<C::YearInfo>, reached: C::YearInfo, c
         spot y.list (y.extended reached) (month_at y.list (y.extended from.year) from.month) Overflow.Constrain
         ≡ Some result }
 {
-    match place_in(from.year, from.month, reached, Overflow::Constrain, cal) {
+    match cal.ordinal_in_other_year(from.year, from.month, reached, Overflow::Constrain) {
         Some(place) => place,
         None => unreachable!(),
     }
@@ -96,13 +96,7 @@ pub(crate) fn month_after_years<C: YearShapes, L: Ledger>(
     requires to_range { IsFieldYear ((C.years cal.now).extended to.year) }
     requires within { let y = C.years cal.now in
         ¬ YearsSurpass y.list (date_of y from) (date_of y to) (is_backward direction) years }
-    ensures year { IsGiven (C.years cal.now) result.year }
-    ensures number { let y = C.years cal.now in
-        y.extended result.year ≡ y.extended from.year +ℤ toward (is_backward direction) years }
-    ensures range { IsFieldYear ((C.years cal.now).extended result.year) }
-    ensures spot { let y = C.years cal.now in
-        spot y.list (y.extended result.year) (month_at y.list (y.extended from.year) from.month) Overflow.Constrain
-        ≡ Some result.month }
+    ensures month { IsYearsFrom (C.years cal.now) from (is_backward direction) years result }
     ensures ticks { steps.new ≡ steps.old + 1 }
 {
     let year = cal.extended_from_year_info(from.year);

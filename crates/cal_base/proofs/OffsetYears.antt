@@ -1,10 +1,10 @@
 -- What an ISO year is in a list of Gregorian years that are counted from a year of their own.
-use Rattle.std.proofs.Common.{◌≡◌, ◌↔◌, ℕ, ◌+◌, ◌-◌, ◌<◌, ◌≤◌, Bool, IsTrue, if◌then◌else◌, sym, ap, subst, ◌∙◌, ℤ, pos, ◌+ℤ◌}
+use Rattle.std.proofs.Common.{◌≡◌, ◌↔◌, ℕ, Bool, IsTrue, if◌then◌else◌, sym, ap, subst, ◌∙◌, ℤ, ◌+ℤ◌}
 use Rattle.cal_days.specs.Gregorian.{gregorian_leap, gregorian_start, gregorian_year_length}
 use Rattle.cal_model.specs.CalendarList.{date, month_length, year_length, start_of_year, day_number, IsDate, IsOn}
 use Rattle.cal_model.proofs.RenumberedLemmas.{start_of_year-renumbered, day_number-renumbered, renumbered-date, on-renumbered}
-use Rattle.cal_base.specs.GregorianList.{gregorian_list, gregorian_days_before, gregorian_month_length}
-use Rattle.cal_base.specs.GregorianMonths.{day_found, leap_is, month_length-gregorian, year_length-gregorian}
+use Rattle.cal_base.specs.GregorianList.{gregorian_list, gregorian_month_length}
+use Rattle.cal_base.specs.GregorianMonths.{leap_is, month_length-gregorian, year_length-gregorian}
 use Rattle.cal_base.specs.GregorianLaws.{start_of_year-gregorian}
 use Rattle.cal_base.specs.OffsetList.{offset_list, extended_year_from}
 use Rattle.cal_base.specs.OffsetListLaws.{number-extended, offset_list-months}
@@ -50,8 +50,3 @@ module _ (offset : ℤ) (year : IsoYear) where
   -- a day of the ISO year is one of the list
   pub on-offset : (rd : ℤ) (i d : ℕ) → IsOn gregorian_list rd (date year.number i d) → IsOn (offset_list offset) rd (date (extended_year_from offset year) i d)
   on-offset rd i d h = on-renumbered offset gregorian_list rd (date (extended_year_from offset year) i d) (subst (λ (y : ℤ). IsOn gregorian_list rd (date y i d)) (number-extended offset year) h)
-
-  -- a day of the year, counted from 0, is a day of the month that it was found in
-  pub found-offset : (r : Bool) (month day p : ℕ) → IsTrue r ↔ IsTrue (gregorian_leap year.number) → (1 ≤ month) × (month ≤ 12) → gregorian_days_before r month ≤ p → p < gregorian_days_before r month + gregorian_month_length r month → day ≡ p - gregorian_days_before r month + 1 → IsOn (offset_list offset) (start_of_year (offset_list offset) (extended_year_from offset year) +ℤ pos p) (date (extended_year_from offset year) month day)
-  found-offset r month day p h place low high same =
-      day_found (λ y. gregorian_leap (y +ℤ offset)) (offset_list offset) (offset_list-months offset) (extended_year_from offset year) r month day p (leap_year-offset r h) place low high same

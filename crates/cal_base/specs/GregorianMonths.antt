@@ -1,74 +1,12 @@
 -- The months of a Gregorian year in closed form, and what follows for each list that has them.
-use Rattle.std.proofs.Common.{◌≡◌, ◌≢◌, ◌==◌, ◌||◌, ℕ, ◌+◌, ◌-◌, ◌*◌, ◌/◌, ◌<◌, ◌≤◌, Bool, true, false, if◌then◌else◌, IsTrue, ◌↔◌, List, length, sum_by, take, refl, sym, ap, subst, ◌∙◌, arith, ℤ, pos, ◌+ℤ◌, inl}
-use Rattle.std.specs.Prelude.{slice_index_or, nat_le, nat_lt}
-use Rattle.std.proofs.lemmas.Bool.Decides.{nat_tests}
-use Rattle.cal_days.proofs.Signed.{signed}
-use Rattle.cal_model.specs.CalendarList.{CalendarList, Entry, days_of, no_entry, days_before, month_length, year_length, start_of_year, HasPlace, IsOn, date}
+use Rattle.std.proofs.Common.{◌≡◌, ◌≢◌, ◌==◌, ◌||◌, ℕ, ◌-◌, ◌≤◌, Bool, true, false, if◌then◌else◌, IsTrue, ◌↔◌, List, length, sum_by, take, refl, sym, ap, ◌∙◌, arith, ℤ, ◌+ℤ◌, inl}
+use Rattle.std.specs.Prelude.{slice_index_or}
+use Rattle.cal_model.specs.CalendarList.{CalendarList, Entry, days_of, no_entry, days_before, month_length, year_length}
 use Rattle.cal_model.specs.PlainMonths.{numbered_month, HasPlainMonths}
 use Rattle.cal_model.specs.Renumbered.{renumbered}
 use Rattle.cal_model.proofs.DateTests.{same_truth}
-use Rattle.cal_model.proofs.ListLemmas.{on-rest}
 use Rattle.cal_model.proofs.MonthCases.{by_month}
 use Rattle.cal_base.specs.GregorianList.{gregorian_months, gregorian_month_length, gregorian_days_before, HasGregorianMonths}
-
--- how far the months before a month fall short of 30.58 days each
-abbrev pub shortfall : Bool → ℕ → ℕ
-shortfall leap i = if nat_le i 2 then 0 else (if leap then 1 else 2)
-
--- the months before a month, in closed form
-pub days_before-closed : (leap : Bool) (i : ℕ) → 1 ≤ i → i ≤ 12 → gregorian_days_before leap i + shortfall leap i ≡ (367 * i - 362) / 12
-days_before-closed true = by_month (λ i. gregorian_days_before true i + shortfall true i ≡ (367 * i - 362) / 12) refl refl refl refl refl refl refl refl refl refl refl refl
-days_before-closed false = by_month (λ i. gregorian_days_before false i + shortfall false i ≡ (367 * i - 362) / 12) refl refl refl refl refl refl refl refl refl refl refl refl
-
--- the day of the year as it would be with 30 days in February
-abbrev pub as_if_30 : Bool → ℕ → ℕ
-as_if_30 leap p = if nat_lt p (if leap then 60 else 59) then p else p + (if leap then 1 else 2)
-
--- the closed form finds the month of a day
-abbrev pub IsInMonth : Bool → ℕ → ℕ → Type 0
-IsInMonth leap r p = (gregorian_days_before leap r ≤ p) × (p < gregorian_days_before leap r + gregorian_month_length leap r)
-
-abbrev pub Finds : Bool → ℕ → ℕ → Type 0
-Finds leap p r = r ≡ (12 * as_if_30 leap p + 373) / 367 → IsInMonth leap r p
-
-found_true : (p r : ℕ) → 1 ≤ r → r ≤ 12 → Finds true p r
-found_true p = by_month (Finds true p)
-    (λ e. (grind (arith, nat_tests), grind (arith, nat_tests)))
-    (λ e. (grind (arith, nat_tests), grind (arith, nat_tests)))
-    (λ e. (grind (arith, nat_tests), grind (arith, nat_tests)))
-    (λ e. (grind (arith, nat_tests), grind (arith, nat_tests)))
-    (λ e. (grind (arith, nat_tests), grind (arith, nat_tests)))
-    (λ e. (grind (arith, nat_tests), grind (arith, nat_tests)))
-    (λ e. (grind (arith, nat_tests), grind (arith, nat_tests)))
-    (λ e. (grind (arith, nat_tests), grind (arith, nat_tests)))
-    (λ e. (grind (arith, nat_tests), grind (arith, nat_tests)))
-    (λ e. (grind (arith, nat_tests), grind (arith, nat_tests)))
-    (λ e. (grind (arith, nat_tests), grind (arith, nat_tests)))
-    (λ e. (grind (arith, nat_tests), grind (arith, nat_tests)))
-
-found_false : (p r : ℕ) → 1 ≤ r → r ≤ 12 → Finds false p r
-found_false p = by_month (Finds false p)
-    (λ e. (grind (arith, nat_tests), grind (arith, nat_tests)))
-    (λ e. (grind (arith, nat_tests), grind (arith, nat_tests)))
-    (λ e. (grind (arith, nat_tests), grind (arith, nat_tests)))
-    (λ e. (grind (arith, nat_tests), grind (arith, nat_tests)))
-    (λ e. (grind (arith, nat_tests), grind (arith, nat_tests)))
-    (λ e. (grind (arith, nat_tests), grind (arith, nat_tests)))
-    (λ e. (grind (arith, nat_tests), grind (arith, nat_tests)))
-    (λ e. (grind (arith, nat_tests), grind (arith, nat_tests)))
-    (λ e. (grind (arith, nat_tests), grind (arith, nat_tests)))
-    (λ e. (grind (arith, nat_tests), grind (arith, nat_tests)))
-    (λ e. (grind (arith, nat_tests), grind (arith, nat_tests)))
-    (λ e. (grind (arith, nat_tests), grind (arith, nat_tests)))
-
-place_found : (leap : Bool) (p r : ℕ) → p < (if leap then 366 else 365) → r ≡ (12 * as_if_30 leap p + 373) / 367 → (1 ≤ r) × (r ≤ 12)
-place_found true p r h e = (grind (arith, nat_tests), grind (arith, nat_tests))
-place_found false p r h e = (grind (arith, nat_tests), grind (arith, nat_tests))
-
--- the month that the closed form finds has the day
-pub month_found : (leap : Bool) (p r : ℕ) → p < (if leap then 366 else 365) → r ≡ (12 * as_if_30 leap p + 373) / 367 → (1 ≤ r) × (r ≤ 12) × IsInMonth leap r p
-month_found true p r h e = let place = place_found true p r h e in (place.0, place.1, found_true p r place.0 place.1 e)
-month_found false p r h e = let place = place_found false p r h e in (place.0, place.1, found_false p r place.0 place.1 e)
 
 -- the lengths of the months by name
 pub gregorian_month_length-february : (leap : Bool) → gregorian_month_length leap 2 ≡ (if leap then 29 else 28)
@@ -77,6 +15,10 @@ gregorian_month_length-february leap = refl
 pub gregorian_month_length-others : (leap : Bool) (i : ℕ) → 1 ≤ i → i ≤ 12 → i ≢ 2 → gregorian_month_length leap i ≡ (if i == 4 || i == 6 || i == 9 || i == 11 then 30 else 31)
 gregorian_month_length-others leap = by_month (λ i. i ≢ 2 → gregorian_month_length leap i ≡ (if i == 4 || i == 6 || i == 9 || i == 11 then 30 else 31))
     (λ n. refl) (λ n. absurd (n refl)) (λ n. refl) (λ n. refl) (λ n. refl) (λ n. refl) (λ n. refl) (λ n. refl) (λ n. refl) (λ n. refl) (λ n. refl) (λ n. refl)
+
+-- only February's length depends on the year
+pub gregorian_month_length-any_year : (leap other : Bool) (i : ℕ) → 1 ≤ i → i ≤ 12 → i ≢ 2 → gregorian_month_length leap i ≡ gregorian_month_length other i
+gregorian_month_length-any_year leap other i low high n = gregorian_month_length-others leap i low high n ∙ sym (gregorian_month_length-others other i low high n)
 
 pub gregorian_month_length-within : (leap : Bool) (i : ℕ) → 1 ≤ i → i ≤ 12 → (1 ≤ gregorian_month_length leap i) × (gregorian_month_length leap i ≤ 31)
 gregorian_month_length-within true = by_month (λ i. (1 ≤ gregorian_month_length true i) × (gregorian_month_length true i ≤ 31)) (omega arith, omega arith) (omega arith, omega arith) (omega arith, omega arith) (omega arith, omega arith) (omega arith, omega arith) (omega arith, omega arith) (omega arith, omega arith) (omega arith, omega arith) (omega arith, omega arith) (omega arith, omega arith) (omega arith, omega arith) (omega arith, omega arith)
@@ -115,16 +57,6 @@ module _ (leap : ℤ → Bool) (c : CalendarList) (has : HasGregorianMonths leap
     lengths = λ y i low high. rw (month_length-gregorian y i) (gregorian_month_length-within (leap y) i low high);
     kind = has.kind;
   }
-
-  -- the day p of a year, counted from 0, is a day of the month that it was found in
-  pub day_found : (y : ℤ) (r : Bool) (month day p : ℕ) → leap y ≡ r → (1 ≤ month) × (month ≤ 12) → gregorian_days_before r month ≤ p → p < gregorian_days_before r month + gregorian_month_length r month → day ≡ p - gregorian_days_before r month + 1 → IsOn c (start_of_year c y +ℤ pos p) (date y month day)
-  day_found y r month day p e place low high same =
-      let here : HasPlace c y month = (place.0, omega (arith, place.1, gregorian-plain.count y)) in
-      let before = days_before-gregorian y month ∙ ap (λ (b : Bool). gregorian_days_before b month) e in
-      let length = month_length-gregorian y month ∙ ap (λ (b : Bool). gregorian_month_length b month) e in
-      let number : start_of_year c y +ℤ pos (days_before c y month + (p - gregorian_days_before r month)) ≡ start_of_year c y +ℤ pos p = omega (arith, signed, before, low) in
-      subst (λ (d : ℕ). IsOn c (start_of_year c y +ℤ pos p) (date y month d)) (sym same)
-      (on-rest c y month (p - gregorian_days_before r month) (start_of_year c y +ℤ pos p) here number (omega (arith, length, low, high)))
 
 -- a list that counts the years from another one has these months too
 pub renumbered-gregorian : (leap : ℤ → Bool) (c : CalendarList) (shift : ℤ) → HasGregorianMonths leap c → HasGregorianMonths (λ y. leap (y +ℤ shift)) (renumbered shift c)

@@ -1,13 +1,13 @@
 -- The place of a month in a year of plain months.
-use Rattle.std.proofs.Common.{◌≡◌, ℕ, Bool, true, false, Result, Ok, Err, if◌then◌else◌, refl, ◌∙◌, ℤ}
+use Rattle.std.proofs.Common.{◌≡◌, ℕ, Bool, true, false, Some, Result, Ok, Err, if◌then◌else◌, refl, ap, ◌∙◌, ℤ}
 use Rattle.cal_types.specs.Month.{MonthParts}
 use Rattle.cal_types.specs.declared.errors.MonthError.{MonthError}
 use Rattle.cal_types.specs.declared.errors.MonthError.TheVariants.{NotInCalendar}
 use Rattle.cal_types.specs.declared.options.Overflow.{Overflow}
-use Rattle.cal_model.specs.CalendarList.{CalendarList}
-use Rattle.cal_model.specs.PlainMonths.{is_plain_month, HasPlainMonths}
+use Rattle.cal_model.specs.CalendarList.{CalendarList, HasPlace, month_at, spot}
+use Rattle.cal_model.specs.PlainMonths.{is_plain_month, numbered_month, HasPlainMonths}
 use Rattle.cal_model.proofs.ListLemmas.{spot-own}
-use Rattle.cal_model.proofs.PlainMonthLemmas.{place_of-plain}
+use Rattle.cal_model.proofs.PlainMonthLemmas.{place_of-plain, plain-month, plain-place, true-plain}
 use Rattle.cal_arith.specs.Places.{ordinal_month}
 
 -- its number where it is one of the plain months 1 to n; the calendar does not know another
@@ -21,3 +21,10 @@ module _ (n : ℕ) (c : CalendarList) (has : HasPlainMonths n c) (y : ℤ) (m : 
 
   pub ordinal_month-plain : ordinal_month c y m o ≡ plain_place n m
   ordinal_month-plain = place_by (is_plain_month n m) refl
+
+-- a month of one year stands in the same place of each
+pub spot-plain : (n : ℕ) (c : CalendarList) (has : HasPlainMonths n c) (y z : ℤ) (i : ℕ) (o : Overflow) → HasPlace c y i → spot c z (month_at c y i) o ≡ Some i
+spot-plain n c has y z i o h =
+    let place = plain-place n c has y i h in
+    let month = numbered_month i in
+    ap (λ (m : MonthParts). spot c z m o) (plain-month n c has y i h) ∙ spot-own c z month o i (place_of-plain n c has z month (true-plain n i place.0 place.1))

@@ -2,7 +2,6 @@
 //! count from a year of their own.
 
 use crate::calendar::{AsCalendar, Calendar};
-use crate::gregorian_months::{days_in_month, month_and_day};
 use crate::gregorian_years::GregorianYears;
 use crate::iso::IsoDateInner;
 use crate::iso_year::{IsoYear, iso_date, iso_day_number};
@@ -52,7 +51,7 @@ impl<Y: GregorianYears> YearShapes for AbstractGregorian<Y> {
     }
 
     fn days_in_provided_month(&self, year: IsoYear, month: u8) -> u8 {
-        days_in_month(year.is_leap(), month)
+        year.days_in_month(month)
     }
 
     fn to_rata_die_inner(&self, year: IsoYear, month: u8, day: u8) -> RataDie {
@@ -83,6 +82,16 @@ impl<Y: GregorianYears> YearShapes for AbstractGregorian<Y> {
 
     fn month_from_ordinal(&self, _year: IsoYear, ordinal_month: u8) -> Month {
         Month::new(ordinal_month)
+    }
+
+    fn ordinal_in_other_year(
+        &self,
+        _year: IsoYear,
+        ordinal_month: u8,
+        _other: IsoYear,
+        _overflow: Overflow,
+    ) -> Option<u8> {
+        Some(ordinal_month)
     }
 
     ghost numbered = { λ s y h. extended_year-iso (Y.offset s.0) y };
@@ -124,10 +133,6 @@ impl<Y: GregorianYears> Years for AbstractGregorian<Y> {
     fn year_month_day(&self, rd: RataDie) -> (IsoYear, u8, u8) {
         let (number, month, day) = iso_date(rd);
         (IsoYear { number }, month, day)
-    }
-
-    fn month_and_day(&self, year: IsoYear, day_of_year: u16) -> (u8, u8) {
-        month_and_day(year.is_leap(), day_of_year)
     }
 }
 

@@ -247,7 +247,7 @@ pub trait Calendar: UnstableSealed + Drop {
             let t = date_of self.now date1.now in let u = date_of self.now date2.now in
             IsSum s.list s.year_shift t result Overflow.Constrain (Ok u) };
 
-    /// The difference of [`Calendar::until`] with at most 8 look-ups of years; where months are the largest
+    /// The difference of [`Calendar::until`]. It adds at most 8 ticks to the counter; where months are the largest
     /// unit, at most 8 and one more for each year between the dates.
     fn until_counted<L: Ledger>(
         &self,

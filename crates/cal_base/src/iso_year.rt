@@ -1,12 +1,14 @@
 //! ISO years, which the Gregorian calendars keep in their dates, and the days on which they start.
 
-ghost use Rattle.std.specs.Prelude.{◌≡◌, ◌↔◌, ◌≤◌, IsTrue, if◌then◌else◌, nat_le, pos, neg_ℤ, ◌-ℤ◌};
+ghost use Rattle.std.specs.Prelude.{◌≡◌, ◌↔◌, ◌≤◌, IsTrue, pos, neg_ℤ};
 ghost use Rattle.cal_days.specs.Day.{IsShiftedYear, IsBetween, IsValidDay, is_field_year};
 ghost use Rattle.cal_days.specs.Gregorian.{gregorian_leap};
 ghost use Rattle.cal_model.specs.CalendarList.{date, day_number, IsDate, IsOn};
-ghost use Rattle.cal_base.specs.GregorianList.{gregorian_list, march_month};
+ghost use Rattle.cal_base.specs.GregorianList.{gregorian_list, gregorian_month_length};
 
-use crate::gregorian_months::{days_from_march, month_and_day_from_march};
+use crate::gregorian_months::{
+    days_from_march, days_in_month, in_march_year, month_and_day_from_march,
+};
 use cal_arith::{PackWithMD, can_be_named};
 use cal_days::{RataDie, gregorian};
 
@@ -39,6 +41,18 @@ impl IsoYear {
     {
         gregorian::is_leap_year(self.number)
     }
+
+    /// The days of a month, 1 to 12. Only February asks whether the year is a leap year.
+    pub(crate) fn days_in_month(self, month: u8) -> u8
+        requires { (1 ≤ month) × (month ≤ 12) }
+        ensures { result ≡ gregorian_month_length (gregorian_leap self.number) month }
+    {
+        if month == 2 {
+            days_in_month(self.is_leap(), month)
+        } else {
+            days_in_month(false, month)
+        }
+    }
 }
 
 impl PackWithMD for IsoYear {
@@ -68,22 +82,6 @@ impl PackWithMD for IsoYear {
 
     fn unpack_day(packed: PackedIsoYear) -> u8 {
         packed.day
-    }
-}
-
-/// The year on whose March 1 a month's year begins, and the month as such years count it, 3 to 14.
-fn in_march_year(year: i32, month: u8) -> (i32, u8)
-    requires year { IsShiftedYear year }
-    requires month { (1 ≤ month) × (month ≤ 12) }
-    ensures month { (3 ≤ result.1) × (result.1 ≤ 14) }
-    ensures same { march_month result.1 ≡ month }
-    ensures year { result.0 ≡ (if nat_le result.1 12 then year else year -ℤ pos 1) }
-    ensures range { IsBetween (neg_ℤ (pos 8010000)) (pos 8009999) result.0 }
-{
-    if month <= 2 {
-        (year - 1, month + 12)
-    } else {
-        (year, month)
     }
 }
 

@@ -104,15 +104,7 @@ fn resolved<C: Calendar>(
     day: u8,
     overflow: Overflow,
 ) -> Result<i64, DateFromFieldsError> {
-    let fields = DateFields {
-        era: None,
-        era_year: None,
-        extended_year: Some(year),
-        month: Some(month),
-        month_code: None,
-        ordinal_month: None,
-        day: Some(day),
-    };
+    let fields = DateFields::from_year_month_day(year, month, day);
     let options = DateFromFieldsOptions {
         overflow: Some(overflow),
         missing_fields_strategy: None,

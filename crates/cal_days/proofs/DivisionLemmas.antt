@@ -18,5 +18,9 @@ pub floor_div-is : (z : ℤ) (n : ℕ) → int_div_euclid z (pos n) ≡ floor_di
 unfolding floor_div
 floor_div-is z n = omega (arith, signed)
 
+pub floor_mod-is : (z : ℤ) (n : ℕ) → 0 < n → int_rem_euclid z (pos n) ≡ pos (floor_mod z n)
+unfolding floor_mod
+floor_mod-is z n h = omega (arith, signed, int_rem_euclid-parts z n h, unsigned_abs-parts (int_rem_euclid z (pos n)))
+
 -- for `omega (arith, signed, floors)`
 pub ruleset floors = (floor_parts, floor_mod_parts)

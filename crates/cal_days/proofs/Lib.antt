@@ -4,3 +4,7 @@ pub mod DivisionLemmas
 pub mod SumLemmas
 pub mod GregorianLemmas
 pub mod JulianLemmas
+pub mod CopticLemmas
+pub mod MoonLemmas
+pub mod HebrewLemmas
+pub mod PersianLemmas

@@ -4,3 +4,7 @@ pub mod Sums
 pub mod Gregorian
 pub mod March
 pub mod Julian
+pub mod Coptic
+pub mod Hebrew
+pub mod Molad
+pub mod Persian

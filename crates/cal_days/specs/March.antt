@@ -5,3 +5,7 @@ use Rattle.std.specs.Prelude.{ℕ, ◌+◌, ◌-◌, ◌*◌, ◌/◌}
 -- the days of the first n of these years
 abbrev pub march_days : ℕ → ℕ
 march_days n = 365 * n + (n / 4 - n / 100 + n / 400)
+
+-- the days of the first n of them where every fourth has a leap day
+abbrev pub julian_march_days : ℕ → ℕ
+julian_march_days n = 365 * n + n / 4

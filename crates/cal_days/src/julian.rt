@@ -1,8 +1,11 @@
 //! The years of the Julian calendar (Reingold and Dershowitz, Calendrical Calculations, chapter 3).
+//!
+//! Days are found by years that begin on March 1, where a leap day comes last, as those of the Gregorian calendar.
 
-ghost use Rattle.std.specs.Prelude.{◌≡◌, ◌↔◌, IsTrue, pos, neg_ℤ, ◌+ℤ◌, ◌≤ℤ◌, ◌<ℤ◌};
+ghost use Rattle.std.specs.Prelude.{◌≡◌, ◌+◌, ◌<◌, ◌≤◌, ◌↔◌, IsTrue, pos, neg_ℤ, ◌+ℤ◌, ◌≤ℤ◌, ◌<ℤ◌};
 ghost use Rattle.cal_days.specs.Day.{IsBetween, IsRuleYear, IsValidDay};
-ghost use Rattle.cal_days.specs.Julian.{julian_leap, julian_start, julian_year_length};
+ghost use Rattle.cal_days.specs.Julian.{julian_first_of_march, julian_leap, julian_start, julian_year_length};
+ghost use Rattle.cal_days.specs.March.{julian_march_days};
 
 use crate::rata_die::RataDie;
 
@@ -12,12 +15,22 @@ const FIRST_DAY_OF_YEAR_1: i64 = -1;
 /// The days of 4 years, after which the leap years repeat.
 const DAYS_IN_4_YEARS: u32 = 1461;
 
-/// A number of years, in which the leap years repeat. Counted from so long before year 1, no valid day is
+/// The day number of March 1 of year 0.
+const MARCH_OF_YEAR_0: i64 = -307;
+
+/// A number of years, in which the leap years repeat. Counted from so long before year 0, no year here is
 /// negative, and unsigned division rounds down.
-const YEARS_BEFORE: i32 = 1000000;
+const YEARS_BEFORE: i32 = 8400000;
 
 /// The days of these years.
-const DAYS_BEFORE: i64 = 365250000;
+const DAYS_BEFORE: i64 = 3068100000;
+
+/// A number of years, in which the leap years repeat. Counted from March 1 so long before year 0, no valid day
+/// is negative.
+const VALID_YEARS_BEFORE: i32 = 1000000;
+
+/// The days of these years.
+const VALID_DAYS_BEFORE: i64 = 365250000;
 
 /// The first day of a year from -8000000 to 8000000.
 #[tactic(auto, using(crate::proofs::Signed::signed))]
@@ -38,16 +51,65 @@ pub fn is_leap_year(year: i32) -> bool
     year.rem_euclid(4) == 0
 }
 
+/// The days of so many years that begin on March 1, counted from one that 4 divides.
+fn days_of_march_years(years: u32) -> u64
+    requires { years ≤ 17000000 }
+    ensures value { result ≡ julian_march_days years }
+    ensures bound { result < 10000000000 }
+{
+    u64::from(DAYS_IN_4_YEARS) * u64::from(years) / 4
+}
+
+/// March 1 of a year from -8010000 to 8009999.
+pub fn march_start(year: i32) -> RataDie
+    requires { IsBetween (neg_ℤ (pos 8010000)) (pos 8009999) year }
+    ensures { result ≡ julian_first_of_march year }
+{
+    let days = days_of_march_years((year + YEARS_BEFORE) as u32) as i64;
+    RataDie::new(days - DAYS_BEFORE + MARCH_OF_YEAR_0)
+}
+
+/// How many days a valid day lies after March 1 of the year -1000000.
+fn days_since_march(rd: RataDie) -> u32
+    requires { IsValidDay rd }
+    ensures value { pos result ≡ rd +ℤ pos 365250307 }
+    ensures bound { result < 730500000 }
+{
+    (rd.to_i64_date() + VALID_DAYS_BEFORE - MARCH_OF_YEAR_0) as u32
+}
+
+/// The year that begins on March 1, and how many of its days have passed, both counted from 0.
+fn march_year(days: u32) -> (u32, u32)
+    requires { days < 730500000 }
+    ensures value { julian_march_days result.0 + result.1 ≡ days }
+    ensures within { days < julian_march_days (result.0 + 1) }
+    ensures year { result.0 ≤ 2000000 }
+    ensures bound { result.1 < 366 }
+{
+    let scaled = 4 * days + 3;
+    (scaled / DAYS_IN_4_YEARS, scaled % DAYS_IN_4_YEARS / 4)
+}
+
+/// The year on whose March 1, or after it within a year, a valid day lies, -365242499 to 365242134, and how many
+/// days it lies after that.
+pub fn march_year_and_day_from_fixed(rd: RataDie) -> (i32, u16)
+    requires { IsValidDay rd }
+    ensures day { julian_first_of_march result.0 +ℤ pos result.1 ≡ rd }
+    ensures within { rd <ℤ julian_first_of_march (result.0 +ℤ pos 1) }
+    ensures bound { result.1 < 366 }
+    ensures range { IsBetween (neg_ℤ (pos 1000000)) (pos 999999) result.0 }
+{
+    let (year, day) = march_year(days_since_march(rd));
+    (year as i32 - VALID_YEARS_BEFORE, day as u16)
+}
+
 /// The year that contains a valid day, -365242499 to 365242134.
-#[tactic(auto, using(crate::proofs::Signed::signed_casts))]
 pub fn year_from_fixed(rd: RataDie) -> i32
     requires { IsValidDay rd }
     ensures first { julian_start result ≤ℤ rd }
     ensures last { rd <ℤ julian_start (result +ℤ pos 1) }
     ensures range { IsBetween (neg_ℤ (pos 999999)) (pos 999999) result }
 {
-    // 4 times the days before a year is 1461 times the years before it, less at most 3.
-    let days = (rd.to_i64_date() - FIRST_DAY_OF_YEAR_1 + DAYS_BEFORE) as u32;
-    let years = (4 * days + 3) / DAYS_IN_4_YEARS;
-    years as i32 - YEARS_BEFORE + 1
+    let (year, day) = march_year_and_day_from_fixed(rd);
+    if day >= 306 { year + 1 } else { year }
 }

@@ -6,8 +6,11 @@
 //! Calculations.
 #![tactic(auto)]
 
+pub mod coptic;
 pub mod gregorian;
+pub mod hebrew;
 pub mod julian;
+pub mod persian;
 pub mod ranges;
 pub mod rata_die;
 #[cfg(test)]

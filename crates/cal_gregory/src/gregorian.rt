@@ -40,7 +40,7 @@ fn common_era_ambiguity(year: i32) -> YearAmbiguity
 }
 
 /// An extended year in its era.
-fn era_year(year: i32) -> EraYear
+pub(crate) fn era_year(year: i32) -> EraYear
     requires { IsFieldYear year }
     ensures { result ≡ common_era_year year }
 {

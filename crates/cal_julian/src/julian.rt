@@ -1,16 +1,21 @@
 //! The Julian calendar (Reingold and Dershowitz, Calendrical Calculations, chapter 3).
 
-ghost use Rattle.std.specs.Prelude.{◌≡◌, ◌↔◌, IsTrue};
-ghost use Rattle.cal_days.specs.Day.{IsFieldYear, IsRuleYear, is_field_year};
+ghost use Rattle.std.specs.Prelude.{◌≡◌, ◌↔◌, ◌≤◌, IsTrue, neg_ℤ, pos};
+ghost use Rattle.cal_days.specs.Day.{IsBetween, IsFieldYear, IsRuleYear, IsValidDay, is_field_year};
 ghost use Rattle.cal_days.specs.Julian.{julian_leap};
+ghost use Rattle.cal_model.specs.CalendarList.{date, day_number, IsDate, IsOn};
+ghost use Rattle.cal_base.specs.GregorianList.{gregorian_month_length};
 ghost use Rattle.cal_julian.specs.JulianEra.{julian_era_year};
+ghost use Rattle.cal_julian.specs.JulianList.{julian_list};
 ghost use Rattle.cal_julian.specs.JulianNames.{julian_reference_year};
 
 use cal_arith::eras::year_in_common_era;
 use cal_arith::{
     ArithmeticDate, DateFieldsResolver, PackWithMD, Steps, YearShapes, Years, can_be_named,
 };
-use cal_base::gregorian_months::{days_before_day, days_in_month, month_and_day};
+use cal_base::gregorian_months::{
+    days_from_march, days_in_month, in_march_year, month_and_day_from_march,
+};
 use cal_base::plain_months::{is_plain, plain_ordinal};
 use cal_base::scaffold::UnstableSealed;
 use cal_base::{Arithmetic, AsCalendar, Calendar, NamedYears};
@@ -73,6 +78,19 @@ impl JulianYear {
     {
         julian::is_leap_year(self.extended_year)
     }
+
+    /// The days of a month, 1 to 12. Only February asks whether the year is a leap year.
+    fn days_in_month(self, month: u8) -> u8
+        requires year { IsRuleYear self.extended_year }
+        requires month { (1 ≤ month) × (month ≤ 12) }
+        ensures { result ≡ gregorian_month_length (julian_leap self.extended_year) month }
+    {
+        if month == 2 {
+            days_in_month(self.is_leap(), month)
+        } else {
+            days_in_month(false, month)
+        }
+    }
 }
 
 impl PackWithMD for JulianYear {
@@ -105,6 +123,33 @@ impl PackWithMD for JulianYear {
     }
 }
 
+/// The day number of a date of a year from -8000000 to 8000000.
+fn day_number(year: i32, month: u8, day: u8) -> i64
+    requires year { IsRuleYear year }
+    requires date { IsDate julian_list (date year month day) }
+    ensures value { result ≡ day_number julian_list (date year month day) }
+    ensures bound { IsBetween (neg_ℤ (pos 4000000000)) (pos 4000000000) result }
+{
+    let (march_year, march_month) = in_march_year(year, month);
+    let before = days_from_march(march_month) + u16::from(day - 1);
+    julian::march_start(march_year).to_i64_date() + i64::from(before)
+}
+
+/// The date of a valid day: the year, the ordinal month and the day of the month.
+fn date_on(rd: RataDie) -> (i32, u8, u8)
+    requires { IsValidDay rd }
+    ensures on { IsOn julian_list rd (date result.0 result.1 result.2) }
+    ensures year { IsBetween (neg_ℤ (pos 1000000)) (pos 1000000) result.0 }
+{
+    let (year, since_march) = julian::march_year_and_day_from_fixed(rd);
+    let (month, day) = month_and_day_from_march(since_march);
+    if month > 12 {
+        (year + 1, month - 12, day)
+    } else {
+        (year, month, day)
+    }
+}
+
 impl YearShapes for Julian {
     ghost use Rattle.std.specs.Prelude.{refl};
     ghost use Rattle.cal_julian.specs.JulianList.{julian_years};
@@ -128,13 +173,11 @@ impl YearShapes for Julian {
     }
 
     fn days_in_provided_month(&self, year: JulianYear, month: u8) -> u8 {
-        days_in_month(year.is_leap(), month)
+        year.days_in_month(month)
     }
 
     fn to_rata_die_inner(&self, year: JulianYear, month: u8, day: u8) -> RataDie {
-        let before = days_before_day(year.is_leap(), month, day);
-        let start = julian::year_start(year.extended_year).to_i64_date();
-        RataDie::new(start + i64::from(before))
+        RataDie::new(day_number(year.extended_year, month, day))
     }
 
     fn min_months_from(&self, _start: JulianYear, count: i32) -> i32 {
@@ -161,6 +204,16 @@ impl YearShapes for Julian {
 
     fn month_from_ordinal(&self, _year: JulianYear, ordinal_month: u8) -> Month {
         Month::new(ordinal_month)
+    }
+
+    fn ordinal_in_other_year(
+        &self,
+        _year: JulianYear,
+        ordinal_month: u8,
+        _other: JulianYear,
+        _overflow: Overflow,
+    ) -> Option<u8> {
+        Some(ordinal_month)
     }
 
     ghost numbered = { λ s y h. refl };
@@ -193,8 +246,9 @@ impl Years for Julian {
         }
     }
 
-    fn month_and_day(&self, year: JulianYear, day_of_year: u16) -> (u8, u8) {
-        month_and_day(year.is_leap(), day_of_year)
+    fn year_month_day(&self, rd: RataDie) -> (JulianYear, u8, u8) {
+        let (extended_year, month, day) = date_on(rd);
+        (JulianYear { extended_year }, month, day)
     }
 }
 

@@ -13,3 +13,4 @@ pub mod OrderLemmas
 pub mod MonthCases
 pub mod PlainMonthLemmas
 pub mod RenumberedBoundLemmas
+pub mod CountedDateLemmas

@@ -11,7 +11,7 @@ use Rattle.cal_types.specs.declared.options.MissingFieldsStrategy.{MissingFields
 use Rattle.cal_types.specs.declared.errors.DateFromFieldsError.TheVariants.{Overflow as OutOfRange, MonthNotInYear, InconsistentMonth, InvalidOrdinalMonth, InvalidDay}
 use Rattle.cal_model.specs.CalendarList.{CalendarList, Date, date, month_count, month_length, day_number, spot, HasPlace, IsDate, IsLawful}
 use Rattle.cal_model.specs.YearNames.{YearNames}
-use Rattle.cal_model.specs.Resolving.{Resolved, after, or_fault, MonthName, ByMonth, ByCode, ByOrdinal, YearAndMonth, month_known, resolved_place, same_place, resolved_ordinal, place_in_year, resolved_day, valid_date, resolved_in_month, resolved_in_year, day_asked, month_named, year_named, in_year, resolve}
+use Rattle.cal_model.specs.Resolving.{Resolved, after, or_fault, MonthName, ByMonth, ByCode, ByOrdinal, YearAndMonth, month_known, resolved_place, same_place, resolved_number, place_in_year, resolved_day, valid_date, resolved_in_month, resolved_in_year, day_asked, month_named, year_named, in_year, resolve}
 use Rattle.cal_days.proofs.RangeLemmas.{is_between-true}
 use Rattle.cal_model.proofs.ListLemmas.{spot-place}
 
@@ -45,15 +45,10 @@ tested-within last i j passed same = (grind (arith, nat_tests), grind (arith, na
 same_ok : {T : Type 0} (x y : T) → ◌≡◌ {A = Resolved T} (Ok x) (Ok y) → x ≡ y
 same_ok x y e = cc
 
--- a resolved day is one of its month
-pub resolved_day-ok : (last : ℕ) (o : Overflow) (d e : ℕ) → 1 ≤ last → resolved_day last o d ≡ Ok e → (1 ≤ e) × (e ≤ last)
-resolved_day-ok last Reject d e some h = let test = if_ok (nat_le 1 d && nat_le d last) d e (InvalidDay last) h in tested-within last d e test.0 test.1
-resolved_day-ok last Constrain d e some h = clamped-within last d e some (same_ok _ e h)
-
--- a resolved place is one of the year
-pub resolved_ordinal-ok : (count : ℕ) (o : Overflow) (i j : ℕ) → 1 ≤ count → resolved_ordinal count o i ≡ Ok j → (1 ≤ j) × (j ≤ count)
-resolved_ordinal-ok count Reject i j some h = let test = if_ok (nat_le 1 i && nat_le i count) i j (InvalidOrdinalMonth count) h in tested-within count i j test.0 test.1
-resolved_ordinal-ok count Constrain i j some h = clamped-within count i j some (same_ok _ j h)
+-- a resolved number is one from 1 to the last
+pub resolved_number-ok : (last : ℕ) (fault : DateFromFieldsError) (o : Overflow) (i j : ℕ) → 1 ≤ last → resolved_number last fault o i ≡ Ok j → (1 ≤ j) × (j ≤ last)
+resolved_number-ok last fault Reject i j some h = let test = if_ok (nat_le 1 i && nat_le i last) i j fault h in tested-within last i j test.0 test.1
+resolved_number-ok last fault Constrain i j some h = clamped-within last i j some (same_ok _ j h)
 
 -- a place beside an ordinal month is itself
 same_place-ok : (ordinal : Option ℕ) (i j : ℕ) → same_place ordinal i ≡ Ok j → i ≡ j
@@ -72,14 +67,14 @@ module _ (c : CalendarList) (law : IsLawful c) where
   pub place_in_year-ok : (y : ℤ) (o : Overflow) (m : MonthName) (ordinal : Option ℕ) (i : ℕ) → place_in_year c y o m ordinal ≡ Ok i → HasPlace c y i
   place_in_year-ok y o (ByMonth m) ordinal i e = place_of_month y o (ByMonth m) ordinal i e
   place_in_year-ok y o (ByCode code) ordinal i e = place_of_month y o (ByCode code) ordinal i e
-  place_in_year-ok y o (ByOrdinal n) ordinal i e = resolved_ordinal-ok (month_count c y) o n i (omega (arith, law.count y)) e
+  place_in_year-ok y o (ByOrdinal n) ordinal i e = resolved_number-ok (month_count c y) (InvalidOrdinalMonth (month_count c y)) o n i (omega (arith, law.count y)) e
 
   -- from a place of a year on
   pub resolved_in_month-date : (y : ℤ) (i : ℕ) (o : Overflow) (d : ℕ) (t : Date) → HasPlace c y i → resolved_in_month c y i o d ≡ Ok t → IsDate c t × IsValidDay (day_number c t)
   resolved_in_month-date y i o d t place e =
       let step = after-ok (resolved_day (month_length c y i) o d) (λ (day : ℕ). valid_date c (date y i day)) t e in
       let valid = valid_date-ok c (date y i step.0) t step.2 in
-      let day = resolved_day-ok (month_length c y i) o d step.0 (law.lengths y i place).0 step.1 in
+      let day = resolved_number-ok (month_length c y i) (InvalidDay (month_length c y i)) o d step.0 (law.lengths y i place).0 step.1 in
       (subst (IsDate c) valid.0 record { place = place; day = day }, subst (λ (u : Date). IsValidDay (day_number c u)) valid.0 valid.1)
 
   -- from a year on

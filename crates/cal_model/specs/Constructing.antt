@@ -1,6 +1,6 @@
 -- Making a date of a year, a month and a day, of which none is changed: the date, or the first fault.
 -- Source: `Date::try_new` of icu_calendar.
-use Rattle.std.specs.Prelude.{ℕ, ℤ, pos, neg_ℤ, Bool, ◌&&◌, nat_le, Option, Some, None, Result, Ok, Err, if◌then◌else◌}
+use Rattle.std.specs.Prelude.{ℕ, ℤ, ◌&&◌, nat_le, Option, Some, None, Result, Ok, Err, if◌then◌else◌}
 use Rattle.cal_days.specs.Day.{is_constructor_year}
 use Rattle.cal_types.specs.Month.{MonthParts}
 use Rattle.cal_types.specs.declared.year.YearInput.{YearInput}

@@ -15,3 +15,7 @@ renumbered shift c = record {
 -- a date of the renumbered list, with its year in the given one
 abbrev pub shifted_date : ℤ → Date → Date
 shifted_date shift t = date (t.year +ℤ shift) t.month t.day
+
+-- a date of the given list, with its year as the renumbered list counts it
+abbrev pub counted_date : ℤ → Date → Date
+counted_date shift t = date (t.year -ℤ shift) t.month t.day

@@ -151,10 +151,14 @@ abbrev pub same_place : Option ℕ → ℕ → Resolved ℕ
 same_place None i = Ok i
 same_place (Some given) i = if nat_eq given i then Ok i else Err InconsistentMonth
 
+-- a number from 1 to a last one; another is a fault, or the nearest one is taken
+abbrev pub resolved_number : ℕ → DateFromFieldsError → Overflow → ℕ → Resolved ℕ
+resolved_number last fault Reject i = if nat_le 1 i && nat_le i last then Ok i else Err fault
+resolved_number last fault Constrain i = Ok (max 1 (min i last))
+
 -- a place in a year, whose number of months is given
 abbrev pub resolved_ordinal : ℕ → Overflow → ℕ → Resolved ℕ
-resolved_ordinal count Reject i = if nat_le 1 i && nat_le i count then Ok i else Err (InvalidOrdinalMonth count)
-resolved_ordinal count Constrain i = Ok (max 1 (min i count))
+resolved_ordinal count = resolved_number count (InvalidOrdinalMonth count)
 
 -- the place of a month of the year
 abbrev pub place_in_year : CalendarList → ℤ → Overflow → MonthName → Option ℕ → Resolved ℕ
@@ -165,8 +169,7 @@ place_in_year c y o m ordinal =
 
 -- a day of a month, whose last day is given
 abbrev pub resolved_day : ℕ → Overflow → ℕ → Resolved ℕ
-resolved_day last Reject d = if nat_le 1 d && nat_le d last then Ok d else Err (InvalidDay last)
-resolved_day last Constrain d = Ok (max 1 (min d last))
+resolved_day last = resolved_number last (InvalidDay last)
 
 -- a date whose day number is in the valid range
 abbrev pub valid_date : CalendarList → Date → Resolved Date

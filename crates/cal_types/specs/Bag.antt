@@ -1,5 +1,5 @@
 -- The fields of a date that a caller gives: a property bag of ECMAScript Temporal.
-use Rattle.std.specs.Prelude.{ℕ, ℤ, List, Option, option_map}
+use Rattle.std.specs.Prelude.{ℕ, ℤ, List, Option, Some, None, option_map}
 use Rattle.cal_types.specs.Month.{MonthParts}
 use Rattle.cal_types.specs.MonthParts.{month_parts}
 use Rattle.cal_types.specs.declared.fields.DateFields.{DateFields}
@@ -24,4 +24,16 @@ bag_of f = record {
   month_code = option_map (λ bytes. bytes.now) f.month_code;
   ordinal_month = f.ordinal_month;
   day = f.day;
+}
+
+-- an extended year, a month and a day
+abbrev pub year_month_day : ℤ → MonthParts → ℕ → Bag
+year_month_day y m d = record {
+  era = None;
+  era_year = None;
+  extended_year = Some y;
+  month = Some m;
+  month_code = None;
+  ordinal_month = None;
+  day = Some d;
 }

@@ -1,4 +1,5 @@
 pub mod Bag
+pub mod Duration
 pub mod Errors
 pub mod Month
 pub mod MonthParts

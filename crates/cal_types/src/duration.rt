@@ -1,5 +1,8 @@
 //! Durations in years, months, weeks and days, as the date part of ECMAScript Temporal's `Duration`.
 
+ghost use Rattle.std.specs.Prelude.{◌≡◌};
+ghost use Rattle.cal_types.specs.Duration.{duration_of};
+
 /// The unit of a part of a [`DateDuration`].
 #[derive(Clone, Copy, Debug, PartialEq, Eq)]
 pub enum DateDurationUnit {
@@ -26,6 +29,52 @@ pub struct DateDuration {
     pub weeks: u32,
     /// The count of days.
     pub days: u32,
+}
+
+impl DateDuration {
+    /// So many years; fewer than none go back in time.
+    pub fn for_years(years: i32) -> Self
+        ensures { result ≡ duration_of DateDurationUnit.Years years }
+    {
+        DateDuration {
+            is_negative: years < 0,
+            years: years.unsigned_abs(),
+            ..DateDuration::default()
+        }
+    }
+
+    /// So many months; fewer than none go back in time.
+    pub fn for_months(months: i32) -> Self
+        ensures { result ≡ duration_of DateDurationUnit.Months months }
+    {
+        DateDuration {
+            is_negative: months < 0,
+            months: months.unsigned_abs(),
+            ..DateDuration::default()
+        }
+    }
+
+    /// So many weeks of seven days; fewer than none go back in time.
+    pub fn for_weeks(weeks: i32) -> Self
+        ensures { result ≡ duration_of DateDurationUnit.Weeks weeks }
+    {
+        DateDuration {
+            is_negative: weeks < 0,
+            weeks: weeks.unsigned_abs(),
+            ..DateDuration::default()
+        }
+    }
+
+    /// So many days; fewer than none go back in time.
+    pub fn for_days(days: i32) -> Self
+        ensures { result ≡ duration_of DateDurationUnit.Days days }
+    {
+        DateDuration {
+            is_negative: days < 0,
+            days: days.unsigned_abs(),
+            ..DateDuration::default()
+        }
+    }
 }
 
 #[cfg(test)]

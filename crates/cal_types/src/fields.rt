@@ -1,5 +1,9 @@
 //! A bag of fields that may name a date, as the property bags of ECMAScript Temporal.
 
+ghost use Rattle.std.specs.Prelude.{◌≡◌};
+ghost use Rattle.cal_types.specs.Bag.{bag_of, year_month_day};
+ghost use Rattle.cal_types.specs.MonthParts.{month_parts};
+
 use crate::month::Month;
 
 /// Some of the fields of a date; a calendar decides whether they name one.
@@ -19,6 +23,20 @@ pub struct DateFields<'a> {
     pub ordinal_month: Option<u8>,
     /// The day of the month, from 1.
     pub day: Option<u8>,
+}
+
+impl DateFields<'_> {
+    /// The plain form: an extended year, a month and a day, and nothing else.
+    pub fn from_year_month_day(extended_year: i32, month: Month, day: u8) -> Self
+        ensures { bag_of result ≡ year_month_day extended_year (month_parts month) day }
+    {
+        DateFields {
+            extended_year: Some(extended_year),
+            month: Some(month),
+            day: Some(day),
+            ..DateFields::default()
+        }
+    }
 }
 
 #[cfg(test)]

@@ -9,15 +9,7 @@ use cal_types::{
 
 /// Fields with a year, a month and a day alone.
 fn plain_fields(year: i32, month: Month, day: u8) -> DateFields<'static> {
-    DateFields {
-        era: None,
-        era_year: None,
-        extended_year: Some(year),
-        month: Some(month),
-        month_code: None,
-        ordinal_month: None,
-        day: Some(day),
-    }
+    DateFields::from_year_month_day(year, month, day)
 }
 
 /// Options that say what becomes of a day that isn't there.

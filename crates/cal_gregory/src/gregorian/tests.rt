@@ -11,15 +11,7 @@ const REJECT: DateFromFieldsOptions = DateFromFieldsOptions {
 
 /// Fields with a year, a month and a day alone.
 fn fields(year: i32, month: Month, day: u8) -> DateFields<'static> {
-    DateFields {
-        era: None,
-        era_year: None,
-        extended_year: Some(year),
-        month: Some(month),
-        month_code: None,
-        ordinal_month: None,
-        day: Some(day),
-    }
+    DateFields::from_year_month_day(year, month, day)
 }
 
 #[test]
@@ -97,13 +89,7 @@ fn a_date_is_made_compared_and_added_to(rt: HostRuntime) {
     assert_eq!(rt; made, Ok(leap_day));
     assert!(rt; Gregorian.owns(&leap_day));
     assert!(rt; Gregorian.is_in_leap_year(&leap_day));
-    let year = DateDuration {
-        is_negative: false,
-        years: 1,
-        months: 0,
-        weeks: 0,
-        days: 0,
-    };
+    let year = DateDuration::for_years(1);
     let last = Gregorian.from_rata_die(RataDie::new(737849));
     let constrained = Gregorian.add(&leap_day, year, DateAddOptions::default());
     assert_eq!(rt; constrained, Ok(last));

@@ -6,15 +6,7 @@ use cal_types::DateDurationUnit;
 
 /// The fields of a year, a month and a day alone.
 fn fields(year: i32, month: Month, day: u8) -> DateFields<'static> {
-    DateFields {
-        era: None,
-        era_year: None,
-        extended_year: Some(year),
-        month: Some(month),
-        month_code: None,
-        ordinal_month: None,
-        day: Some(day),
-    }
+    DateFields::from_year_month_day(year, month, day)
 }
 
 fn duration(is_negative: bool, years: u32, months: u32, weeks: u32, days: u32) -> DateDuration {

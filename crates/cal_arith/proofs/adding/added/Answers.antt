@@ -3,6 +3,7 @@ use Rattle.cal_days.specs.Day.{IsBetween, IsFieldYear, IsRuleYear, is_field_year
 use Rattle.cal_model.specs.CalendarList.{spot, month_at, IsMonthsAfter}
 use Rattle.cal_model.specs.Adding.{is_addable}
 use Rattle.cal_model.specs.Difference.{toward}
+use Rattle.std.proofs.lemmas.Bool.Decides.{nat_tests}
 use Rattle.cal_days.proofs.Signed.{signed}
 use Rattle.cal_days.proofs.RangeLemmas.{is_between-true}
 use Rattle.cal_model.proofs.ListLemmas.{spot-place}
@@ -58,37 +59,37 @@ year_info_from_extended-reached-requires g c =
     let number = c.in-Some.ensures.some.0 in
     omega (arith, signed, number, field, same_shift, c.requires.shift)
 
-pub place_in-requires-clause-reached : goal.place_in-requires-clause-reached
-place_in-requires-clause-reached g c = (reached g (goal.at.place_in-requires-clause-reached g c).After-year_info_from_extended-reached).0
+pub ordinal_in_other_year-requires-clause-other : goal.ordinal_in_other_year-requires-clause-other
+ordinal_in_other_year-requires-clause-other g c = (reached g (goal.at.ordinal_in_other_year-requires-clause-other g c).After-year_info_from_extended-reached).0
 
-pub months_away-there-requires-clause-range : goal.months_away-there-requires-clause-range
-months_away-there-requires-clause-range g c =
-    let s = (goal.at.months_away-there-requires-clause-range g c).After-year_info_from_extended-reached in
-    let range : IsBetween (neg_ℤ (pos 2080000)) (pos 2080000) (target g s) = omega (arith, signed, in_field g s, c.requires.shift) in
-    subst (IsBetween (neg_ℤ (pos 2080000)) (pos 2080000)) (sym (reached g s).1) range
-
-pub months_away-there-requires-clause-month : goal.months_away-there-requires-clause-month
-months_away-there-requires-clause-month g c =
+pub months_away-there-requires : goal.months_away-there-requires
+months_away-there-requires g c =
+    let s = (goal.at.months_away-there-requires g c).After-year_info_from_extended-reached in
     let list = (g.C.YearShapes.years c.args.cal.now).list in let y = (g.C.YearShapes.years c.args.cal.now).extended c.year_info_from_extended-reached.result in
+    let range : IsBetween (neg_ℤ (pos 2080000)) (pos 2080000) (target g s) = omega (arith, signed, in_field g s, c.requires.shift) in
     record {
-      year = (reached g (goal.at.months_away-there-requires-clause-month g c).After-year_info_from_extended-reached).0;
-      place = spot-place list y (month_at list ((g.C.YearShapes.years c.args.cal.now).extended c.args.from.year) c.args.from.month) c.args.overflow c.in-Some-place_in.place (sym c.place_in.ensures ∙ c.in-Some-place_in.is);
+      range = subst (IsBetween (neg_ℤ (pos 2080000)) (pos 2080000)) (sym (reached g s).1) range;
+      month = record {
+        year = (reached g s).0;
+        place = spot-place list y (month_at list ((g.C.YearShapes.years c.args.cal.now).extended c.args.from.year) c.args.from.month) c.args.overflow c.in-Some-ordinal_in_other_year.place (sym c.ordinal_in_other_year.ensures ∙ c.in-Some-ordinal_in_other_year.is);
+      };
+      months = grind (arith, nat_tests, c.can_be_added.ensures, c.if-not-can_be_added.false);
     }
 
-pub returns-in-None-place_in-clause-sum : goal.returns-in-None-place_in-clause-sum
-returns-in-None-place_in-clause-sum g c =
-    let s = (goal.at.returns-in-None-place_in-clause-sum g c).After-year_info_from_extended-reached in
-    let there = spot_there g s None (sym c.place_in.ensures ∙ c.in-None-place_in.is) in
+pub returns-in-None-ordinal_in_other_year-clause-sum : goal.returns-in-None-ordinal_in_other_year-clause-sum
+returns-in-None-ordinal_in_other_year-clause-sum g c =
+    let s = (goal.at.returns-in-None-ordinal_in_other_year-clause-sum g c).After-year_info_from_extended-reached in
+    let there = spot_there g s None (sym c.ordinal_in_other_year.ensures ∙ c.in-None-ordinal_in_other_year.is) in
     let addable : is_addable c.args.duration ≡ true = sym c.can_be_added.ensures ∙ c.if-not-can_be_added.false in
     let field = field_is g s in
     rw (addable, field, there) refl
 
-pub returns-in-Some-place_in-clause-sum : goal.returns-in-Some-place_in-clause-sum
-returns-in-Some-place_in-clause-sum g c =
-    let s = (goal.at.returns-in-Some-place_in-clause-sum g c).After-year_info_from_extended-reached in
+pub returns-in-Some-ordinal_in_other_year-clause-sum : goal.returns-in-Some-ordinal_in_other_year-clause-sum
+returns-in-Some-ordinal_in_other_year-clause-sum g c =
+    let s = (goal.at.returns-in-Some-ordinal_in_other_year-clause-sum g c).After-year_info_from_extended-reached in
     let list = (g.C.YearShapes.years c.args.cal.now).list in
-    let place = c.in-Some-place_in.place in
-    let there = spot_there g s (Some place) (sym c.place_in.ensures ∙ c.in-Some-place_in.is) in
+    let place = c.in-Some-ordinal_in_other_year.place in
+    let there = spot_there g s (Some place) (sym c.ordinal_in_other_year.ensures ∙ c.in-Some-ordinal_in_other_year.is) in
     let z = (g.C.YearShapes.years c.args.cal.now).extended c.months_away-there.result.year in let j = c.months_away-there.result.month in
     let signed_move = subst (λ (b : Bool). IsMonthsAfter list ((g.C.YearShapes.years c.args.cal.now).extended c.year_info_from_extended-reached.result) place (toward b c.args.duration.months) z j) c.from_sign-direction.ensures c.months_away-there.ensures.moved in
     let moved = subst (λ (x : ℤ). IsMonthsAfter list x place (toward c.args.duration.is_negative c.args.duration.months) z j) (reached g s).1 signed_move in

@@ -102,5 +102,5 @@ pub returns-clause-ticks : goal.returns-clause-ticks
 returns-clause-ticks g c =
     let s = goal.at.returns-clause-ticks g c in
     ticks-most (g.C.YearShapes.years c.args.cal.now).list (is_backward c.direction_between-direction.result) (date_of (g.C.YearShapes.years c.args.cal.now) c.args.from) (date_of (g.C.YearShapes.years c.args.cal.now) c.args.to) c.requires.from.date c.requires.to.date (leads g s.After-direction_between-direction)
-    c.args.unit c.admitted_years-years.result c.args.steps.now c.month_after_years-start.new.steps c.admitted_months-reached.new.steps ((g.C.YearShapes.years c.args.cal.now).extended c.month_after_years-start.result.year) c.month_after_years-start.ensures.number c.admitted_years-years.ensures.greatest
+    c.args.unit c.admitted_years-years.result c.args.steps.now c.month_after_years-start.new.steps c.admitted_months-reached.new.steps ((g.C.YearShapes.years c.args.cal.now).extended c.month_after_years-start.result.year) c.month_after_years-start.ensures.month.number c.admitted_years-years.ensures.greatest
     c.month_after_years-start.ensures.ticks c.admitted_months-reached.ensures.ticks c.admitted_months-reached.ensures.no_ticks

@@ -16,15 +16,15 @@ use Rattle.cal_arith.proofs.months_between.months_between.Goals as goal
 place : (g : Over) (c : Start g) → HasPlace (g.C.YearShapes.years c.args.cal.now).list ((g.C.YearShapes.years c.args.cal.now).extended c.args.start.year) c.args.start.month
 place g c =
     let list = (g.C.YearShapes.years c.args.cal.now).list in
-    spot-place list ((g.C.YearShapes.years c.args.cal.now).extended c.args.start.year) (month_at list ((g.C.YearShapes.years c.args.cal.now).extended c.args.from.year) c.args.from.month) Constrain c.args.start.month c.requires.spot
+    spot-place list ((g.C.YearShapes.years c.args.cal.now).extended c.args.start.year) (month_at list ((g.C.YearShapes.years c.args.cal.now).extended c.args.from.year) c.args.from.month) Constrain c.args.start.month c.requires.start.place
 
 spot_is : (g : Over) (c : Start g) → spot (g.C.YearShapes.years c.args.cal.now).list ((g.C.YearShapes.years c.args.cal.now).extended c.args.from.year +ℤ toward (is_backward c.args.direction) c.args.years) (month_at (g.C.YearShapes.years c.args.cal.now).list ((g.C.YearShapes.years c.args.cal.now).extended c.args.from.year) c.args.from.month) Constrain ≡ Some c.args.start.month
 spot_is g c =
     let list = (g.C.YearShapes.years c.args.cal.now).list in
-    subst (λ (y : ℤ). spot list y (month_at list ((g.C.YearShapes.years c.args.cal.now).extended c.args.from.year) c.args.from.month) Constrain ≡ Some c.args.start.month) c.requires.number c.requires.spot
+    subst (λ (y : ℤ). spot list y (month_at list ((g.C.YearShapes.years c.args.cal.now).extended c.args.from.year) c.args.from.month) Constrain ≡ Some c.args.start.month) c.requires.start.number c.requires.start.place
 
 pub months_toward-count-requires-clause-start : goal.months_toward-count-requires-clause-start
-months_toward-count-requires-clause-start g c = record { year = c.requires.year; place = place g (goal.at.months_toward-count-requires-clause-start g c).Start }
+months_toward-count-requires-clause-start g c = record { year = c.requires.start.year; place = place g (goal.at.months_toward-count-requires-clause-start g c).Start }
 
 pub months_toward-count-requires-clause-order : goal.months_toward-count-requires-clause-order
 months_toward-count-requires-clause-order g c =
@@ -33,7 +33,7 @@ months_toward-count-requires-clause-order g c =
 -- how far the second date's month is from the start
 distance : (g : Over) (c : After-months_toward-count g) → month_number (g.C.YearShapes.years c.args.cal.now).list ((g.C.YearShapes.years c.args.cal.now).extended c.args.to.year) c.args.to.month ≡ month_number (g.C.YearShapes.years c.args.cal.now).list ((g.C.YearShapes.years c.args.cal.now).extended c.args.from.year +ℤ toward (is_backward c.args.direction) c.args.years) c.args.start.month +ℤ toward (is_backward c.args.direction) c.months_toward-count.result
 distance g c =
-    c.months_toward-count.ensures.count ∙ ap (λ (y : ℤ). month_number (g.C.YearShapes.years c.args.cal.now).list y c.args.start.month +ℤ toward (is_backward c.args.direction) c.months_toward-count.result) c.requires.number
+    c.months_toward-count.ensures.count ∙ ap (λ (y : ℤ). month_number (g.C.YearShapes.years c.args.cal.now).list y c.args.start.month +ℤ toward (is_backward c.args.direction) c.months_toward-count.result) c.requires.start.number
 
 no_months : (back : Bool) (n m : ℤ) (k : ℕ) → k ≤ 0 → m ≡ n +ℤ toward back k → n ≡ m
 no_months false n m k none e = omega (arith, signed)
@@ -60,7 +60,7 @@ pub returns-then-is_past_day-clause-reaches : goal.returns-then-is_past_day-clau
 returns-then-is_past_day-clause-reaches g c =
     let s = goal.at.returns-then-is_past_day-clause-reaches g c in
     let list = (g.C.YearShapes.years c.args.cal.now).list in
-    reaches-months list (date_of (g.C.YearShapes.years c.args.cal.now) c.args.from) (is_backward c.args.direction) c.args.years (c.months_toward-count.result - 1) ((g.C.YearShapes.years c.args.cal.now).extended c.args.start.year) c.args.start.month ((g.C.YearShapes.years c.args.cal.now).extended c.month_short_of-short.result.year) c.month_short_of-short.result.month c.requires.number c.requires.spot c.month_short_of-short.ensures.month.place
+    reaches-months list (date_of (g.C.YearShapes.years c.args.cal.now) c.args.from) (is_backward c.args.direction) c.args.years (c.months_toward-count.result - 1) ((g.C.YearShapes.years c.args.cal.now).extended c.args.start.year) c.args.start.month ((g.C.YearShapes.years c.args.cal.now).extended c.month_short_of-short.result.year) c.month_short_of-short.result.month c.requires.start.number c.requires.start.place c.month_short_of-short.ensures.month.place
     (toward-less (is_backward c.args.direction) _ _ _ c.months_toward-count.result (some g s.Then-is_past_day (place g s.Start)) c.months_toward-count.ensures.count c.month_short_of-short.ensures.next)
 
 pub returns-clause-greatest : goal.returns-clause-greatest

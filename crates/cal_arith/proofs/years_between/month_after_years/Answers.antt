@@ -24,13 +24,7 @@ reached g c = given_by (g.C.YearShapes.years c.args.cal.now) (g.met.C.YearShapes
 pub stand_in_place-requires-clause-reached : goal.stand_in_place-requires-clause-reached
 stand_in_place-requires-clause-reached g c = (reached g (goal.at.stand_in_place-requires-clause-reached g c).After-year_counted-reached).0
 
-pub returns-clause-year : goal.returns-clause-year
-returns-clause-year g c = (reached g (goal.at.returns-clause-year g c).After-year_counted-reached).0
-
-pub returns-clause-number : goal.returns-clause-number
-returns-clause-number g c = (reached g (goal.at.returns-clause-number g c).After-year_counted-reached).1
-
-pub returns-clause-range : goal.returns-clause-range
-returns-clause-range g c =
-    let s = (goal.at.returns-clause-range g c).After-year_counted-reached in
-    subst IsFieldYear (sym (reached g s).1) (field g s)
+pub returns-clause-month : goal.returns-clause-month
+returns-clause-month g c =
+    let s = (goal.at.returns-clause-month g c).After-year_counted-reached in
+    record { year = (reached g s).0; number = (reached g s).1; range = subst IsFieldYear (sym (reached g s).1) (field g s); place = c.stand_in_place.ensures }

@@ -1,20 +1,19 @@
-use Rattle.std.proofs.Common.{◌≡◌, ◌+◌, ◌*◌, ◌/◌, pos, neg_ℤ, nat_abs, ◌+ℤ◌, ◌-ℤ◌, ◌*ℤ◌, ◌≤ℤ◌, ◌<ℤ◌, to_z, of_z, w32, w64, arith}
-use Rattle.cal_days.specs.Division.{floor_div}
-use Rattle.cal_days.specs.Julian.{julian_start}
-use Rattle.cal_days.proofs.Signed.{signed_casts}
-use Rattle.cal_days.proofs.JulianLemmas.{julian_start-finds, julian_years-counted}
+use Rattle.std.proofs.Common.{◌≡◌, pos, ◌+ℤ◌, to_z, of_z, w32, ap, arith}
+use Rattle.cal_days.specs.Julian.{julian_first_of_march}
+use Rattle.cal_days.proofs.Signed.{signed}
+use Rattle.cal_days.proofs.JulianLemmas.{julian_year_of_march_day, julian_year_after_march_day}
 use Rattle.cal_days.proofs.julian.year_from_fixed.Goals as goal
 
-found : (c : goal.After-to_i64_date) → let days = nat_abs (to_z w64 (of_z w64 (to_z w64 (of_z w64 (to_z w64 (of_z w64 c.to_i64_date.result) -ℤ neg_ℤ (pos 1))) +ℤ pos 365250000))) in let year = to_z w32 (of_z w32 (to_z w32 (of_z w32 (to_z w32 ((4 * days + 3) / 1461) -ℤ pos 1000000)) +ℤ pos 1)) in (julian_start year ≤ℤ c.args.rd) × (c.args.rd <ℤ julian_start (year +ℤ pos 1))
-found c =
-    let days = nat_abs (to_z w64 (of_z w64 (to_z w64 (of_z w64 (to_z w64 (of_z w64 c.to_i64_date.result) -ℤ neg_ℤ (pos 1))) +ℤ pos 365250000))) in
-    let counted : pos days ≡ c.args.rd +ℤ pos 365250001 = omega (arith, signed_casts, c.to_i64_date.ensures, c.requires) in
-    let years : pos ((4 * days + 3) / 1461) ≡ floor_div (pos 4 *ℤ (c.args.rd +ℤ pos 1) +ℤ pos 3) 1461 +ℤ pos 1000000 = omega (arith, signed_casts, julian_years-counted c.args.rd days counted) in
-    let same : to_z w32 (of_z w32 (to_z w32 (of_z w32 (to_z w32 ((4 * days + 3) / 1461) -ℤ pos 1000000)) +ℤ pos 1)) ≡ floor_div (pos 4 *ℤ (c.args.rd +ℤ pos 1) +ℤ pos 3) 1461 +ℤ pos 1 = omega (arith, signed_casts, years, counted, c.requires) in
-    julian_start-finds c.args.rd (to_z w32 (of_z w32 (to_z w32 (of_z w32 (to_z w32 ((4 * days + 3) / 1461) -ℤ pos 1000000)) +ℤ pos 1))) same
+pub returns-then-day-ge306 : goal.returns-then-day-ge306
+returns-then-day-ge306 c =
+    let e = c.march_year_and_day_from_fixed-year.ensures in let y = c.march_year_and_day_from_fixed-year.result.0 in
+    let next : to_z w32 (of_z w32 (to_z w32 (of_z w32 y) +ℤ pos 1)) ≡ y +ℤ pos 1 = omega (arith, signed, e.range) in
+    let year = julian_year_after_march_day c.args.rd y _ c.march_year_and_day_from_fixed-year.result.1 next c.requires e.day (omega (arith, signed, e.within, ap julian_first_of_march next)) (omega arith) in
+    record { first = year.0; last = year.1; range = year.2 }
 
-pub returns-clause-first : goal.returns-clause-first
-returns-clause-first c = (found c).0
-
-pub returns-clause-last : goal.returns-clause-last
-returns-clause-last c = (found c).1
+pub returns-else-day-ge306 : goal.returns-else-day-ge306
+returns-else-day-ge306 c =
+    let e = c.march_year_and_day_from_fixed-year.ensures in let y = c.march_year_and_day_from_fixed-year.result.0 in
+    let same : to_z w32 (of_z w32 y) ≡ y = omega (arith, signed, e.range) in
+    let year = julian_year_of_march_day c.args.rd (to_z w32 (of_z w32 y)) c.march_year_and_day_from_fixed-year.result.1 c.requires (omega (arith, signed, e.day, ap julian_first_of_march same)) (omega arith) in
+    record { first = year.0; last = year.1; range = year.2 }

@@ -1,4 +1,5 @@
 use Rattle.std.proofs.Common.{◌∙◌, sym}
+use Rattle.cal_days.specs.Gregorian.{gregorian_leap}
 use Rattle.cal_model.proofs.PlainMonthLemmas.{plain-place}
 use Rattle.cal_base.specs.OffsetList.{offset_list, extended_year_from}
 use Rattle.cal_base.specs.OffsetListLaws.{offset_list-plain}
@@ -13,4 +14,4 @@ days_in_month-requires g c =
 pub returns : goal.returns
 returns g c =
     let offset = g.Y.GregorianYears.offset c.args.self.now.0 in
-    c.days_in_month.ensures ∙ sym (month_length-offset offset c.args.year c.is_leap.result c.args.month c.is_leap.ensures)
+    c.days_in_month.ensures ∙ sym (month_length-offset offset c.args.year (gregorian_leap c.args.year.number) c.args.month (λ h. h, λ h. h))

@@ -1,0 +1,147 @@
+//! Coptic years, which the Coptic and the Ethiopian calendar keep in their dates, their months and their days.
+
+ghost use Rattle.std.specs.Prelude.{◌≡◌, ◌+◌, ◌/◌, ◌%◌, ◌<◌, ◌≤◌, ◌↔◌, IsTrue, neg_ℤ, pos, ◌-ℤ◌};
+ghost use Rattle.cal_days.specs.Coptic.{coptic_leap};
+ghost use Rattle.cal_days.specs.Day.{IsBetween, IsShiftedYear, IsValidDay, is_field_year};
+ghost use Rattle.cal_model.specs.CalendarList.{IsDate, IsOn, date, day_number, month_length};
+ghost use Rattle.cal_coptic.specs.CopticList.{coptic_list};
+ghost use Rattle.cal_coptic.specs.CopticNames.{coptic_reference_year};
+
+use cal_arith::{PackWithMD, can_be_named};
+use cal_days::ranges::MAX_FIELD_YEAR;
+use cal_days::{RataDie, coptic};
+
+/// The greatest year, with either sign, that fields may name.
+const MOST: i64 = MAX_FIELD_YEAR as i64;
+
+/// A year of the Coptic calendar, by its number. A date of the Ethiopian calendar keeps it too.
+#[derive(Clone, Copy, Debug, PartialEq, Eq, PartialOrd, Ord, Hash)]
+pub struct CopticYear {
+    pub(crate) number: i32,
+}
+
+/// A Coptic year, the place of a month in it, and a day of that month, both from 1.
+#[derive(Clone, Copy, Debug)]
+pub struct PackedCopticDate {
+    year: CopticYear,
+    month: u8,
+    day: u8,
+}
+
+impl CopticYear {
+    /// Whether fields may name the year.
+    pub(crate) fn can_be_named(self) -> bool
+        ensures { result ≡ is_field_year self.number }
+    {
+        can_be_named(self.number)
+    }
+
+    /// Whether fields may name the year, where its extended year is the number less an offset.
+    pub(crate) fn can_be_named_from(self, offset: i32) -> bool
+        ensures { result ≡ is_field_year (self.number -ℤ offset) }
+    {
+        may_be_named(i64::from(self.number) - i64::from(offset))
+    }
+
+    /// Whether the year has 366 days.
+    pub(crate) fn is_leap(self) -> bool
+        ensures { IsTrue result ↔ IsTrue (coptic_leap self.number) }
+    {
+        coptic::is_leap_year(self.number)
+    }
+
+    /// How many days a month of the year has: 30, and 5 or 6 in the last one.
+    pub(crate) fn days_in_month(self, month: u8) -> u8
+        requires { (1 ≤ month) × (month ≤ 13) }
+        ensures { result ≡ month_length coptic_list self.number month }
+    {
+        if month <= 12 {
+            30
+        } else if self.is_leap() {
+            6
+        } else {
+            5
+        }
+    }
+
+    /// The day number of a month and a day of the year, which is one from -8009999 to 8009999.
+    pub(crate) fn day_number(self, month: u8, day: u8) -> RataDie
+        requires year { IsShiftedYear self.number }
+        requires date { IsDate coptic_list (date self.number month day) }
+        ensures { result ≡ day_number coptic_list (date self.number month day) }
+    {
+        let before = 30 * u16::from(month - 1) + u16::from(day - 1);
+        RataDie::new(coptic::year_start(self.number).to_i64_date() + i64::from(before))
+    }
+}
+
+impl PackWithMD for CopticYear {
+    ghost use Rattle.cal_arith.specs.Dates.{ymd};
+
+    type Packed = PackedCopticDate;
+
+    ghost stored = { λ y. y.number };
+
+    ghost parts = { λ p. ymd p.year p.month p.day };
+
+    fn pack(self, month: u8, day: u8) -> PackedCopticDate {
+        PackedCopticDate {
+            year: self,
+            month,
+            day,
+        }
+    }
+
+    fn unpack_year(packed: PackedCopticDate) -> CopticYear {
+        packed.year
+    }
+
+    fn unpack_month(packed: PackedCopticDate) -> u8 {
+        packed.month
+    }
+
+    fn unpack_day(packed: PackedCopticDate) -> u8 {
+        packed.day
+    }
+}
+
+/// Whether an extended year is one that fields may name.
+fn may_be_named(extended_year: i64) -> bool
+    ensures { result ≡ is_field_year extended_year }
+{
+    -MOST <= extended_year && extended_year <= MOST
+}
+
+/// The month and the day of the month of a day of the year, which is counted from 0.
+pub(crate) fn month_and_day(day_of_year: u16) -> (u8, u8)
+    requires { day_of_year < 366 }
+    ensures month { result.0 ≡ day_of_year / 30 + 1 }
+    ensures day { result.1 ≡ day_of_year % 30 + 1 }
+{
+    ((day_of_year / 30) as u8 + 1, (day_of_year % 30) as u8 + 1)
+}
+
+/// The date of a valid day: its Coptic year, the place of its month, and its day of the month.
+pub(crate) fn coptic_date(rd: RataDie) -> (CopticYear, u8, u8)
+    requires { IsValidDay rd }
+    ensures on { IsOn coptic_list rd (date result.0.number result.1 result.2) }
+    ensures year { IsBetween (neg_ℤ (pos 1000263)) (pos 999695) result.0.number }
+{
+    let (number, day_of_year) = coptic::year_and_day_from_fixed(rd);
+    let (month, day) = month_and_day(day_of_year);
+    (CopticYear { number }, month, day)
+}
+
+/// The reference year of a day of a month, 1 to 13: the latest year in which it falls on or before 1972-12-31 of
+/// the ISO calendar.
+pub(crate) fn reference_year(month: u8, day: u8) -> CopticYear
+    ensures year { result.number ≡ coptic_reference_year month day }
+    ensures range { IsBetween (pos 1687) (pos 1689) result.number }
+{
+    let number = match (month, day) {
+        (..=3, _) | (4, ..=22) => 1689,
+        (13, 6..) => 1687,
+        _ => 1688,
+    };
+    CopticYear { number }
+}

@@ -1,0 +1,13 @@
+//! The Coptic and the Ethiopian calendar.
+#![tactic(auto)]
+
+mod coptic;
+mod coptic_year;
+mod ethiopian;
+
+pub use coptic::{Coptic, CopticDateInner};
+pub use coptic_year::{CopticYear, PackedCopticDate};
+pub use ethiopian::{Ethiopian, EthiopianDateInner, EthiopianEraStyle};
+
+#[cfg(test)]
+mod tests;

@@ -1,0 +1,205 @@
+//! The years of the Hebrew calendar (Reingold and Dershowitz, Calendrical Calculations, chapter 8).
+//!
+//! A year starts with the mean new moon, the molad, of its first month, or up to two days later. The moons follow
+//! each other every 29 days and 13753 parts of a day, of which a day has 25920. Of 19 years 7 have 13 months.
+
+ghost use Rattle.std.specs.Prelude.{◌≡◌, ◌<◌, ◌≤◌, ◌%◌, ◌↔◌, IsTrue, pos, neg_ℤ, ◌+ℤ◌, ◌-ℤ◌, ◌*ℤ◌, ◌≤ℤ◌, ◌<ℤ◌};
+ghost use Rattle.cal_days.specs.Day.{IsBetween, IsRuleYear, IsValidDay};
+ghost use Rattle.cal_days.specs.Division.{floor_mod};
+ghost use Rattle.cal_days.specs.Hebrew.{IsHebrewLength, hebrew_leap, hebrew_start, hebrew_year_length, moon_day, parts_before};
+ghost use Rattle.cal_days.specs.Molad.{follows_382_days, has_356_days, is_shunned, postponement};
+
+use crate::rata_die::RataDie;
+
+/// The parts of a day.
+const PARTS_IN_DAY: u64 = 25920;
+
+/// The parts from one new moon to the next: 29 days and 13753 parts.
+const PARTS_IN_MONTH: u64 = 765433;
+
+/// The parts from the Sunday before year 1 to that year's new moon, where each day counts from noon: a moon from
+/// noon on counts for the next day.
+const PARTS_BEFORE_YEAR_1: u64 = 38004;
+
+/// A number of years, in which the years repeat. Counted from so long before year 0, no year here is negative, and
+/// unsigned division rounds down.
+const YEARS_BEFORE: i32 = 8273664;
+
+/// The days of these years, and from the Sunday before year 1 to day 0.
+const DAYS_BEFORE: i64 = 3023302912;
+
+/// The mean new moon, or molad, of a year's first month.
+#[derive(Clone, Copy)]
+struct Molad {
+    /// The day, counted from a Sunday.
+    day: u64,
+    /// The parts of that day that have passed since noon of the day before.
+    part: u64,
+    /// What division by 19 leaves of the months before the year: below 7 where the year before has 13 months,
+    /// and from 12 on where this year has.
+    left: u32,
+}
+
+/// The new moon with which a year begins.
+fn molad_of(year: i32) -> Molad
+    requires { IsBetween (neg_ℤ (pos 8000001)) (pos 8000001) year }
+    ensures day { pos result.day ≡ moon_day year +ℤ pos 3021929485 }
+    ensures part { result.part ≡ floor_mod (parts_before year) 25920 }
+    ensures left { result.left ≡ floor_mod (pos 235 *ℤ year -ℤ pos 234) 19 }
+    ensures bound { result.day < 10000000000 }
+{
+    let months = 235 * (year + YEARS_BEFORE) as u32 - 234;
+    let parts = PARTS_IN_MONTH * u64::from(months / 19) + PARTS_BEFORE_YEAR_1;
+    Molad {
+        day: parts / PARTS_IN_DAY,
+        part: parts % PARTS_IN_DAY,
+        left: months % 19,
+    }
+}
+
+/// Whether no year starts on a weekday, of which Sunday is 0: on a Sunday, a Wednesday or a Friday.
+fn is_weekday_shunned(weekday: u64) -> bool
+    ensures { result ≡ is_shunned weekday }
+{
+    weekday == 0 || weekday == 3 || weekday == 5
+}
+
+/// Whether a year that starts on its new moon's day, or the day after, would have 356 days.
+fn is_too_long(weekday: u64, moon: Molad) -> bool
+    ensures { result ≡ has_356_days weekday moon.part moon.left }
+{
+    weekday == 2 && moon.part >= 16404 && moon.left < 12
+}
+
+/// Whether the year before a year that starts on its new moon's day would have 382 days.
+fn is_after_too_short(weekday: u64, moon: Molad) -> bool
+    ensures { result ≡ follows_382_days weekday moon.part moon.left }
+{
+    weekday == 1 && moon.part >= 23269 && moon.left < 7
+}
+
+/// By how many days a year starts after its new moon. At most one of the reasons holds, on one weekday or another.
+fn days_put_off(moon: Molad) -> u64
+    ensures { result ≡ postponement (moon.day % 7) moon.part moon.left }
+{
+    let weekday = moon.day % 7;
+    u64::from(is_weekday_shunned(weekday))
+        + 2 * u64::from(is_too_long(weekday, moon))
+        + u64::from(is_after_too_short(weekday, moon))
+}
+
+/// The first day of a year.
+fn first_day(year: i32) -> RataDie
+    requires { IsBetween (neg_ℤ (pos 8000001)) (pos 8000001) year }
+    ensures { result ≡ hebrew_start year }
+{
+    let moon = molad_of(year);
+    RataDie::new((moon.day + days_put_off(moon)) as i64 - DAYS_BEFORE)
+}
+
+/// The first day of a year from -8000000 to 8000000.
+pub fn year_start(year: i32) -> RataDie
+    requires { IsRuleYear year }
+    ensures formula { result ≡ hebrew_start year }
+    ensures joins { hebrew_start (year +ℤ pos 1) ≡ hebrew_start year +ℤ pos (hebrew_year_length year) }
+{
+    first_day(year)
+}
+
+/// How many days a year from -8000000 to 8000000 has: 353, 354 or 355, or as a leap year 383, 384 or 385.
+pub fn year_length(year: i32) -> u16
+    requires { IsRuleYear year }
+    ensures value { result ≡ hebrew_year_length year }
+    ensures one_of_six { IsHebrewLength (hebrew_leap year) result }
+{
+    first_day(year + 1).since(first_day(year)) as u16
+}
+
+/// Whether a year has 13 months.
+#[tactic(auto, using(crate::proofs::Signed::signed), unfolding(crate::specs::Division::floor_mod))]
+pub fn is_leap_year(year: i32) -> bool
+    ensures { IsTrue result ↔ IsTrue (hebrew_leap year) }
+{
+    (7 * i64::from(year) + 1).rem_euclid(19) < 7
+}
+
+/// A number of years, in which the years repeat. Counted from so long before year 0, no valid day is negative.
+const VALID_YEARS_BEFORE: i32 = 1378944;
+
+/// The days of these years, those from the first day of year 1 to day 0, and 400 more.
+const VALID_DAYS_BEFORE: i64 = 505028741;
+
+/// The year that contains a valid day, or the one after it.
+fn near_year(rd: RataDie) -> i32
+    requires { IsValidDay rd }
+    ensures low { hebrew_start (result -ℤ pos 1) ≤ℤ rd }
+    ensures high { rd <ℤ hebrew_start (result +ℤ pos 1) }
+    ensures range { IsBetween (neg_ℤ (pos 1100000)) (pos 1100000) result }
+{
+    // 98496 years have 35975351 days, to within 32 days. 400 days more than those since the epoch make up for these.
+    let days = (rd.to_i64_date() + VALID_DAYS_BEFORE) as u64;
+    (98496 * days / 35975351) as i32 - VALID_YEARS_BEFORE
+}
+
+/// A day in its year.
+#[derive(Clone, Copy, Debug, PartialEq, Eq)]
+pub struct DayInYear {
+    /// The year that contains the day.
+    pub year: i32,
+    /// The day of that year, from 0.
+    pub day: u16,
+    /// How many days the year has.
+    pub year_length: u16,
+}
+
+/// A day in a year, whose first day and the next year's are given.
+fn day_in_year(rd: RataDie, year: i32, first: RataDie, next: RataDie) -> DayInYear
+    requires first { first ≡ hebrew_start year }
+    requires next { next ≡ hebrew_start (year +ℤ pos 1) }
+    requires within { (first ≤ℤ rd) × (rd <ℤ next) }
+    ensures year { result.year ≡ year }
+    ensures day { hebrew_start year +ℤ pos result.day ≡ rd }
+    ensures length { result.year_length ≡ hebrew_year_length year }
+    ensures within { result.day < result.year_length }
+{
+    DayInYear {
+        year,
+        day: rd.since(first) as u16,
+        year_length: next.since(first) as u16,
+    }
+}
+
+/// The year that contains a valid day, -365242499 to 365242134, with its length, and which day of the year it is.
+pub fn day_in_year_from_fixed(rd: RataDie) -> DayInYear
+    requires { IsValidDay rd }
+    ensures day { hebrew_start result.year +ℤ pos result.day ≡ rd }
+    ensures length { result.year_length ≡ hebrew_year_length result.year }
+    ensures within { result.day < result.year_length }
+    ensures range { IsBetween (neg_ℤ (pos 996300)) (pos 1003800) result.year }
+{
+    let near = near_year(rd);
+    let first = first_day(near);
+    if rd.since(first) < 0 {
+        day_in_year(rd, near - 1, first_day(near - 1), first)
+    } else {
+        day_in_year(rd, near, first, first_day(near + 1))
+    }
+}
+
+/// The year that contains a valid day, -365242499 to 365242134.
+pub fn year_from_fixed(rd: RataDie) -> i32
+    requires { IsValidDay rd }
+    ensures first { hebrew_start result ≤ℤ rd }
+    ensures last { rd <ℤ hebrew_start (result +ℤ pos 1) }
+    ensures range { IsBetween (neg_ℤ (pos 996300)) (pos 1003800) result }
+{
+    let near = near_year(rd);
+    if rd.since(first_day(near)) < 0 {
+        near - 1
+    } else {
+        near
+    }
+}
+
+#[cfg(test)]
+mod tests;

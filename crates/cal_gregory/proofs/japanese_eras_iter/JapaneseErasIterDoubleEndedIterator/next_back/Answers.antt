@@ -1,0 +1,10 @@
+use Rattle.cal_gregory.specs.JapaneseEras.{listed_eras}
+use Rattle.cal_gregory.proofs.JapaneseEraLemmas.{slice_range-back}
+use Rattle.cal_gregory.proofs.japanese_eras_iter.JapaneseErasIterDoubleEndedIterator.next_back.Goals as goal
+use Rattle.std.proofs.Common.{◌<◌, arith}
+
+pub returns-clause-steps : goal.returns-clause-steps
+returns-clause-steps c =
+    let iter = c.args.self.now in
+    let ahead : iter.front < iter.back = omega (arith, iter.ordered, c.if-self.false) in
+    slice_range-back (listed_eras iter.eras) iter.front iter.back c.listed.result ahead iter.fits c.listed.ensures

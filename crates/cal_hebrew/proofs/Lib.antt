@@ -1,0 +1,2 @@
+pub mod HebrewGiven
+pub mod HebrewOrdinals

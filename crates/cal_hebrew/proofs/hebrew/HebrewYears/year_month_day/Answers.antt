@@ -1,0 +1,21 @@
+use Rattle.std.proofs.Common.{◌≡◌, ℤ, sym, subst, ap, ◌∙◌, pos, ◌+ℤ◌, to_z, of_z, w32, arith}
+use Rattle.cal_days.proofs.Signed.{signed}
+use Rattle.cal_model.specs.CalendarList.{IsOn, date, start_of_year}
+use Rattle.cal_hebrew.specs.HebrewList.{hebrew_list}
+use Rattle.cal_hebrew.specs.HebrewMonths.{start_of_year-hebrew}
+use Rattle.cal_hebrew.proofs.HebrewGiven.{on-place, one_of_six}
+use Rattle.cal_hebrew.proofs.hebrew.HebrewYears.year_month_day.Goals as goal
+
+pub month_and_day-month-requires-clause-length : goal.month_and_day-month-requires-clause-length
+month_and_day-month-requires-clause-length c =
+    let found = c.day_in_year_from_fixed-found.result in
+    one_of_six found.year found.year_length (sym c.day_in_year_from_fixed-found.ensures.length)
+
+pub returns-clause-on : goal.returns-clause-on
+returns-clause-on c =
+    let found = c.day_in_year_from_fixed-found.result in
+    let parts = c.month_and_day-month.ensures in
+    let same : to_z w32 (of_z w32 found.year) ≡ found.year = omega (arith, signed, c.day_in_year_from_fixed-found.ensures.range) in
+    let on = on-place found.year found.year_length found.day c.month_and_day-month.result.0 c.month_and_day-month.result.1 (sym c.day_in_year_from_fixed-found.ensures.length) parts.place parts.before parts.day in
+    let day : start_of_year hebrew_list found.year +ℤ pos found.day ≡ c.args.rd = ap (λ (z : ℤ). z +ℤ pos found.day) (start_of_year-hebrew found.year) ∙ c.day_in_year_from_fixed-found.ensures.day in
+    rw same (subst (λ (n : ℤ). IsOn hebrew_list n (date found.year c.month_and_day-month.result.0 c.month_and_day-month.result.1)) day on)

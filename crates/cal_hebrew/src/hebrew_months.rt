@@ -1,0 +1,214 @@
+//! The months of a Hebrew year, by how many days the year has.
+//!
+//! Heshvan, the second month, has 30 days in years of 355 or 385 days, and Kislev, the third, 29 in years of 353 or
+//! 383. A leap year has a leap month in the sixth place. Otherwise months of 30 and 29 days alternate.
+
+ghost use Rattle.std.specs.Prelude.{◌≡◌, ◌&&◌, ◌+◌, ◌*◌, ◌<◌, ◌≤◌, pos, neg_ℤ};
+ghost use Rattle.cal_days.specs.Day.{IsBetween, IsRuleYear};
+ghost use Rattle.cal_days.specs.Hebrew.{months_before};
+ghost use Rattle.cal_types.specs.MonthParts.{month_parts};
+ghost use Rattle.cal_hebrew.specs.HebrewList.{is_hebrew_month};
+ghost use Rattle.cal_hebrew.specs.HebrewPlaces.{IsYearLength, days_before_place, formatted_month_of_place, hebrew_place, is_complete, is_deficient, is_leap_length, leap_status_of_place, month_of_place, place_count, place_length, place_of_day, regular_day, regular_days_before};
+
+use cal_types::{LeapStatus, Month, MonthError, Overflow};
+
+/// Whether a year of so many days has 13 months.
+pub(crate) fn is_leap(length: u16) -> bool
+    ensures { result ≡ is_leap_length length }
+{
+    length >= 383
+}
+
+/// Whether the second month of a year of so many days has 30 days.
+fn is_second_long(length: u16) -> bool
+    ensures { result ≡ is_complete length }
+{
+    length == 355 || length == 385
+}
+
+/// Whether the third month of a year of so many days has 29 days.
+fn is_third_short(length: u16) -> bool
+    ensures { result ≡ is_deficient length }
+{
+    length == 353 || length == 383
+}
+
+/// How many months a year of so many days has.
+pub(crate) fn months_in_year(length: u16) -> u8
+    ensures value { result ≡ place_count length }
+    ensures bound { result ≤ 13 }
+{
+    if is_leap(length) { 13 } else { 12 }
+}
+
+/// How many days the month in a place has.
+pub(crate) fn days_in_month(length: u16, place: u8) -> u8
+    requires { place ≤ 13 }
+    ensures { result ≡ place_length length place }
+{
+    if place == 2 {
+        if is_second_long(length) { 30 } else { 29 }
+    } else if place == 3 {
+        if is_third_short(length) { 29 } else { 30 }
+    } else if is_leap(length) && place >= 6 {
+        30 - place % 2
+    } else {
+        29 + place % 2
+    }
+}
+
+/// How many days of the year go before the month in a place, where the second month has 29 days and the third 30.
+fn days_before_regular_month(length: u16, place: u8) -> u16
+    requires { (1 ≤ place) × (place ≤ 13) }
+    ensures value { result ≡ regular_days_before (is_leap_length length) place }
+    ensures bound { (29 * place ≤ result + 29) × (result ≤ 400) }
+{
+    let odd_days = if is_leap(length) && place > 6 { 2 } else { 1 };
+    (59 * (u16::from(place) - 1) + odd_days) / 2
+}
+
+/// Whether a year has a second month of 30 days, and the second month has passed.
+fn has_long_month_passed(length: u16, has_second_passed: bool) -> bool
+    ensures { result ≡ (is_complete length && has_second_passed) }
+{
+    is_second_long(length) && has_second_passed
+}
+
+/// Whether a year has a third month of 29 days, and the third month has passed.
+fn has_short_month_passed(length: u16, has_third_passed: bool) -> bool
+    ensures { result ≡ (is_deficient length && has_third_passed) }
+{
+    is_third_short(length) && has_third_passed
+}
+
+/// How many days of the year go before the month in a place.
+pub(crate) fn days_before_month(length: u16, place: u8) -> u16
+    requires { (1 ≤ place) × (place ≤ 13) }
+    ensures value { result ≡ days_before_place length place }
+    ensures bound { result ≤ 401 }
+{
+    days_before_regular_month(length, place) + u16::from(has_long_month_passed(length, place > 2))
+        - u16::from(has_short_month_passed(length, place > 3))
+}
+
+/// The day of the year, from 0, that a day would be if the second month had 29 days and the third 30.
+fn day_of_regular_year(length: u16, day: u16) -> u16
+    requires { day < 385 }
+    ensures value { result ≡ regular_day length day }
+    ensures bound { result ≤ 385 }
+{
+    day + u16::from(has_short_month_passed(length, day >= 88))
+        - u16::from(has_long_month_passed(length, day >= 59))
+}
+
+/// The place of the month that contains a day of the year, which is counted from 0: two months have 59 days.
+fn place_of_month_with(length: u16, day: u16) -> u8
+    requires { day < 385 }
+    ensures value { result ≡ place_of_day length day }
+    ensures bound { (1 ≤ result) × (result ≤ 14) }
+{
+    let regular = day_of_regular_year(length, day);
+    let twice = if is_leap(length) && regular >= 148 {
+        2 * regular - 1
+    } else {
+        2 * regular
+    };
+    (twice / 59) as u8 + 1
+}
+
+/// The place of the month, and the day of the month, of a day of a year, which is counted from 0.
+pub(crate) fn month_and_day(length: u16, day: u16) -> (u8, u8)
+    requires length { IsYearLength length }
+    requires within { day < length }
+    ensures place { (1 ≤ result.0) × (result.0 ≤ place_count length) }
+    ensures before { days_before_place length result.0 + result.1 ≡ day + 1 }
+    ensures day { (1 ≤ result.1) × (result.1 ≤ place_length length result.0) }
+{
+    let place = place_of_month_with(length, day);
+    (place, (day - days_before_month(length, place)) as u8 + 1)
+}
+
+/// Whether a month is one of the plain months 1 to 12, or the leap month 5.
+pub(crate) fn is_hebrew(month: Month) -> bool
+    ensures { result ≡ is_hebrew_month (month_parts month) }
+{
+    if month.is_leap() {
+        month.number() == 5
+    } else {
+        1 <= month.number() && month.number() <= 12
+    }
+}
+
+/// The place of a month in a year of so many days.
+///
+/// In a common year the leap month has none, and under [`Overflow::Constrain`] the sixth month stands in for it.
+pub(crate) fn place_of_month(
+    length: u16,
+    month: Month,
+    overflow: Overflow,
+) -> Result<u8, MonthError>
+    ensures { result ≡ hebrew_place (is_leap_length length) (month_parts month) overflow }
+{
+    if !is_hebrew(month) {
+        return Err(MonthError::NotInCalendar);
+    }
+    if month.is_leap() {
+        return match overflow {
+            Overflow::Reject if !is_leap(length) => Err(MonthError::NotInYear),
+            _ => Ok(6),
+        };
+    }
+    if is_leap(length) && month.number() >= 6 {
+        Ok(month.number() + 1)
+    } else {
+        Ok(month.number())
+    }
+}
+
+/// The month in a place of a year of so many days.
+pub(crate) fn month_in_place(length: u16, place: u8) -> Month
+    requires { (1 ≤ place) × (place ≤ 13) }
+    ensures { month_parts result ≡ month_of_place (is_leap_length length) place }
+{
+    if is_leap(length) && place == 6 {
+        Month::leap(5)
+    } else if is_leap(length) && place > 6 {
+        Month::new(place - 1)
+    } else {
+        Month::new(place)
+    }
+}
+
+/// How the month in a place of a year of so many days stands to leap months.
+pub(crate) fn leap_status(length: u16, place: u8) -> LeapStatus
+    ensures { result ≡ leap_status_of_place (is_leap_length length) place }
+{
+    if is_leap(length) && place == 6 {
+        LeapStatus::Leap
+    } else if is_leap(length) && place == 7 {
+        LeapStatus::Base
+    } else {
+        LeapStatus::Normal
+    }
+}
+
+/// The month by which the month in a place of a year of so many days is formatted.
+pub(crate) fn formatted_month(length: u16, place: u8, month: Month) -> Month
+    ensures { month_parts result ≡ formatted_month_of_place (is_leap_length length) place (month_parts month) }
+{
+    if is_leap(length) && place == 7 {
+        Month::leap(6)
+    } else {
+        month
+    }
+}
+
+/// How many months lie between the first day of year 1 and that of a year.
+#[tactic(auto, using(cal_days::proofs::Signed::signed))]
+pub(crate) fn months_before_year(year: i32) -> i64
+    requires { IsRuleYear year }
+    ensures value { result ≡ months_before year }
+    ensures bound { IsBetween (neg_ℤ (pos 100000000)) (pos 100000000) result }
+{
+    (235 * i64::from(year) - 234).div_euclid(19)
+}

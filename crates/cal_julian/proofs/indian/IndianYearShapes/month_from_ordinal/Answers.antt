@@ -1,0 +1,12 @@
+use Rattle.std.proofs.Common.{◌≤◌, ◌∙◌, sym, arith}
+use Rattle.cal_model.proofs.PlainMonthLemmas.{plain-month, plain-place, plain_month-small}
+use Rattle.cal_julian.specs.IndianList.{indian_list}
+use Rattle.cal_julian.specs.IndianLaws.{indian_list-plain}
+use Rattle.cal_julian.proofs.indian.IndianYearShapes.month_from_ordinal.Goals as goal
+
+pub returns : goal.returns
+returns c =
+    let y = c.args._year.extended_year in
+    let place = plain-place 12 indian_list indian_list-plain y c.args.ordinal_month c.requires.place in
+    let small : c.args.ordinal_month ≤ 13 = omega (arith, place) in
+    c.new.ensures ∙ (plain_month-small c.args.ordinal_month small ∙ sym (plain-month 12 indian_list indian_list-plain y c.args.ordinal_month c.requires.place))

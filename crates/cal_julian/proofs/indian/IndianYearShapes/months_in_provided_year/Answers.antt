@@ -1,0 +1,6 @@
+use Rattle.std.proofs.Common.{sym}
+use Rattle.cal_julian.specs.IndianLaws.{indian_list-plain}
+use Rattle.cal_julian.proofs.indian.IndianYearShapes.months_in_provided_year.Goals as goal
+
+pub returns : goal.returns
+returns c = sym (indian_list-plain.count c.args._year.extended_year)

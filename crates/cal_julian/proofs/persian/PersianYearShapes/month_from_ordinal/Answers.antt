@@ -1,0 +1,13 @@
+use Rattle.std.proofs.Common.{◌≤◌, ◌∙◌, sym, arith}
+use Rattle.cal_model.proofs.PlainMonthLemmas.{plain-month, plain-place, plain_month-small}
+use Rattle.cal_julian.specs.PersianList.{persian_list}
+use Rattle.cal_julian.specs.PersianLaws.{persian_list-plain}
+use Rattle.cal_julian.specs.PersianCorrected.{corrected_years}
+use Rattle.cal_julian.proofs.persian.PersianYearShapes.month_from_ordinal.Goals as goal
+
+pub returns : goal.returns
+returns c =
+    let y = c.args._year.extended_year in
+    let place = plain-place 12 (persian_list (corrected_years c.args.self.now)) (persian_list-plain (corrected_years c.args.self.now)) y c.args.ordinal_month c.requires.place in
+    let small : c.args.ordinal_month ≤ 13 = omega (arith, place) in
+    c.new.ensures ∙ (plain_month-small c.args.ordinal_month small ∙ sym (plain-month 12 (persian_list (corrected_years c.args.self.now)) (persian_list-plain (corrected_years c.args.self.now)) y c.args.ordinal_month c.requires.place))

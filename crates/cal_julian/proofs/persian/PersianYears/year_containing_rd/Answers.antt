@@ -1,0 +1,22 @@
+use Rattle.std.proofs.Common.{◌≡◌, to_z, of_z, w32, arith}
+use Rattle.cal_days.proofs.Signed.{signed}
+use Rattle.cal_julian.specs.PersianCorrected.{corrected_years}
+use Rattle.cal_julian.specs.PersianLaws.{start_of_year-persian, year_length-persian}
+use Rattle.cal_julian.specs.PersianRuleLaws.{persian_new_year-next}
+use Rattle.cal_julian.proofs.persian.PersianYears.year_containing_rd.Goals as goal
+
+pub returns-clause-first : goal.returns-clause-first
+returns-clause-first c =
+    let years = corrected_years c.args.self.now in
+    let known = c.args.self.now.corrections.known in
+    let year = c.year_from_fixed.result in
+    let same : to_z w32 (of_z w32 year) ≡ year = omega (arith, signed, c.year_from_fixed.ensures.range) in
+    rw same (omega (arith, signed, start_of_year-persian years known year, c.year_from_fixed.ensures.first))
+
+pub returns-clause-last : goal.returns-clause-last
+returns-clause-last c =
+    let years = corrected_years c.args.self.now in
+    let known = c.args.self.now.corrections.known in
+    let year = c.year_from_fixed.result in
+    let same : to_z w32 (of_z w32 year) ≡ year = omega (arith, signed, c.year_from_fixed.ensures.range) in
+    rw same (omega (arith, signed, start_of_year-persian years known year, year_length-persian years year, persian_new_year-next years known year, c.year_from_fixed.ensures.last))

@@ -1,0 +1,589 @@
+//! The Indian national calendar.
+//!
+//! Source: the report of India's Calendar Reform Committee (1955), and CLDR (UTS 35) for its era.
+
+ghost use Rattle.std.specs.Prelude.{◌≡◌, ◌+◌, ◌-◌, ◌<◌, ◌≤◌, ◌↔◌, IsTrue, if◌then◌else◌, nat_lt, neg_ℤ, pos, ◌+ℤ◌, ◌<ℤ◌, ◌≤ℤ◌};
+ghost use Rattle.cal_days.specs.Day.{IsBetween, IsRuleYear, IsValidDay, is_field_year};
+ghost use Rattle.cal_julian.specs.IndianList.{indian_days_before, indian_leap, indian_month_length, indian_start};
+ghost use Rattle.cal_julian.specs.IndianNames.{indian_reference_year};
+
+use cal_arith::eras::year_in_only_era;
+use cal_arith::{
+    ArithmeticDate, DateFieldsResolver, PackWithMD, Steps, YearShapes, Years, can_be_named,
+};
+use cal_base::plain_months::{is_plain, plain_ordinal};
+use cal_base::scaffold::UnstableSealed;
+use cal_base::{Arithmetic, AsCalendar, Calendar, NamedYears};
+use cal_days::{RataDie, gregorian};
+use cal_types::{
+    CalendarAlgorithm, DateAddError, DateAddOptions, DateDifferenceOptions, DateDuration,
+    DateFields, DateFromFieldsError, DateFromFieldsOptions, DateNewError, DayOfMonth, DayOfYear,
+    EcmaReferenceYearError, EraYear, LeapStatus, Month, MonthError, MonthInfo, Overflow,
+    TinyAsciiStr, UnknownEraError, YearAmbiguity, YearInput,
+};
+use std::convert::Infallible;
+use std::sync::ledger::Ledger;
+
+/// The Gregorian year in which a year begins, less the extended year.
+const YEARS_BEHIND: i32 = 78;
+
+/// The days of that Gregorian year before the first day.
+const DAYS_BEFORE: i64 = 80;
+
+/// The Indian national calendar, in the Saka era.
+///
+/// A year begins on day 81 of a Gregorian year, and is a leap year where that one is. Its first month has 30 days,
+/// or 31 in a leap year, the next five have 31, and the last six 30. Its one era has the code `shaka`, and the year
+/// in it is the extended year, also before year 1. The reference year of a day is 1894 up to the 10th of the tenth
+/// month, and 1893 after it. CLDR's name for it is `indian`.
+#[derive(Clone, Copy, Debug, Default, PartialEq, Eq, PartialOrd, Ord, Hash)]
+pub struct Indian;
+
+impl Indian {
+    /// The Indian national calendar.
+    pub fn new() -> Indian {
+        Indian
+    }
+}
+
+/// A date of the Indian calendar: its year, its month and its day.
+#[derive(Clone, Copy, Debug, PartialEq, Eq, PartialOrd, Ord, Hash)]
+pub struct IndianDateInner(ArithmeticDate<Indian>);
+
+/// A year of the Indian calendar, by its extended year.
+#[derive(Clone, Copy, Debug, PartialEq, Eq, PartialOrd, Ord, Hash)]
+pub struct IndianYear {
+    extended_year: i32,
+}
+
+/// A year of the Indian calendar, the place of a month in it, and a day of that month, both from 1.
+#[derive(Clone, Copy, Debug)]
+pub struct PackedIndianDate {
+    year: IndianYear,
+    month: u8,
+    day: u8,
+}
+
+impl IndianYear {
+    /// Whether fields may name the year.
+    pub(crate) fn can_be_named(self) -> bool
+        ensures { result ≡ is_field_year self.extended_year }
+    {
+        can_be_named(self.extended_year)
+    }
+
+    /// Whether the year has 366 days.
+    pub(crate) fn is_leap(self) -> bool
+        requires { IsRuleYear self.extended_year }
+        ensures { IsTrue result ↔ IsTrue (indian_leap self.extended_year) }
+    {
+        gregorian::is_leap_year(self.extended_year + YEARS_BEHIND)
+    }
+
+    /// The first day of the year.
+    pub(crate) fn first_day(self) -> RataDie
+        requires { IsRuleYear self.extended_year }
+        ensures { result ≡ indian_start self.extended_year }
+    {
+        let gregorian_start = gregorian::year_start(self.extended_year + YEARS_BEHIND);
+        RataDie::new(gregorian_start.to_i64_date() + DAYS_BEFORE)
+    }
+}
+
+impl PackWithMD for IndianYear {
+    ghost use Rattle.cal_arith.specs.Dates.{ymd};
+
+    type Packed = PackedIndianDate;
+
+    ghost stored = { λ y. y.extended_year };
+
+    ghost parts = { λ p. ymd p.year p.month p.day };
+
+    fn pack(self, month: u8, day: u8) -> PackedIndianDate {
+        PackedIndianDate {
+            year: self,
+            month,
+            day,
+        }
+    }
+
+    fn unpack_year(packed: PackedIndianDate) -> IndianYear {
+        packed.year
+    }
+
+    fn unpack_month(packed: PackedIndianDate) -> u8 {
+        packed.month
+    }
+
+    fn unpack_day(packed: PackedIndianDate) -> u8 {
+        packed.day
+    }
+}
+
+/// The days of a month, 1 to 12, in a leap year or a common one.
+fn days_in_month(leap: bool, month: u8) -> u8
+    requires { (1 ≤ month) × (month ≤ 12) }
+    ensures { result ≡ indian_month_length leap month }
+{
+    match month {
+        1 if leap => 31,
+        1 => 30,
+        2..=6 => 31,
+        _ => 30,
+    }
+}
+
+/// The days before a day of a leap year or a common one.
+fn days_before_day(leap: bool, month: u8, day: u8) -> u16
+    requires month { (1 ≤ month) × (month ≤ 12) }
+    requires day { (1 ≤ day) × (day ≤ 31) }
+    ensures bound { result ≤ 366 }
+    ensures value { result ≡ indian_days_before leap month + (day - 1) }
+{
+    // As if the first month always had 31 days.
+    let months = u16::from(month - 1);
+    let days = 30 * months + months.min(6) + u16::from(day - 1);
+    if leap || month == 1 { days } else { days - 1 }
+}
+
+/// The day of the year, from 0, as it would be with 31 days in the first month.
+fn day_as_if_31(leap: bool, day_of_year: u16) -> u16
+    requires { day_of_year < 366 }
+    ensures { let later = if nat_lt day_of_year 30 then day_of_year else day_of_year + 1 in
+        result ≡ (if leap then day_of_year else later) }
+{
+    if leap || day_of_year < 30 {
+        day_of_year
+    } else {
+        day_of_year + 1
+    }
+}
+
+/// The month, 1 to 12, and the day of the month, of a day of a leap year or a common one, which is counted
+/// from 0.
+fn month_and_day(leap: bool, day_of_year: u16) -> (u8, u8)
+    requires { day_of_year < (if leap then 366 else 365) }
+    ensures month { (1 ≤ result.0) × (result.0 ≤ 12) }
+    ensures day { (1 ≤ result.1) × (result.1 ≤ indian_month_length leap result.0) }
+    ensures value { indian_days_before leap result.0 + (result.1 - 1) ≡ day_of_year }
+{
+    let day = day_as_if_31(leap, day_of_year);
+    if day < 186 {
+        ((day / 31) as u8 + 1, (day % 31) as u8 + 1)
+    } else {
+        let rest = day - 186;
+        ((rest / 30) as u8 + 7, (rest % 30) as u8 + 1)
+    }
+}
+
+/// The year that contains a valid day: the one that begins in the day's Gregorian year, or the one before it.
+fn year_of_day(rd: RataDie) -> IndianYear
+    requires { IsValidDay rd }
+    ensures first { indian_start result.extended_year ≤ℤ rd }
+    ensures last { rd <ℤ indian_start (result.extended_year +ℤ pos 1) }
+    ensures range { IsBetween (neg_ℤ (pos 1000078)) (pos 999921) result.extended_year }
+{
+    let extended_year = gregorian::year_from_fixed(rd) - YEARS_BEHIND;
+    let year = IndianYear { extended_year };
+    if rd.since(year.first_day()) >= 0 {
+        year
+    } else {
+        IndianYear {
+            extended_year: extended_year - 1,
+        }
+    }
+}
+
+/// The year that contains a valid day, and how many days of that year lie before the day.
+fn year_and_day(rd: RataDie) -> (IndianYear, u16)
+    requires { IsValidDay rd }
+    ensures day { indian_start result.0.extended_year +ℤ pos result.1 ≡ rd }
+    ensures within { rd <ℤ indian_start (result.0.extended_year +ℤ pos 1) }
+    ensures range { IsBetween (neg_ℤ (pos 1000078)) (pos 999921) result.0.extended_year }
+{
+    let year = year_of_day(rd);
+    (year, rd.since(year.first_day()) as u16)
+}
+
+impl YearShapes for Indian {
+    ghost use Rattle.std.specs.Prelude.{refl};
+    ghost use Rattle.cal_julian.specs.IndianList.{indian_years};
+    ghost use Rattle.cal_julian.specs.IndianLaws.{indian_list-lawful, stored-extended, day_number-near, years-ranged, months-apart, days-covered};
+
+    type YearInfo = IndianYear;
+
+    ghost years = { λ _. indian_years };
+
+    fn year_counted<L: Ledger>(&self, extended_year: i32, steps: &mut Steps<L>) -> IndianYear {
+        steps.tick();
+        IndianYear { extended_year }
+    }
+
+    fn extended_from_year_info(&self, year: IndianYear) -> i32 {
+        year.extended_year
+    }
+
+    fn months_in_provided_year(&self, _year: IndianYear) -> u8 {
+        12
+    }
+
+    fn days_in_provided_month(&self, year: IndianYear, month: u8) -> u8 {
+        days_in_month(year.is_leap(), month)
+    }
+
+    fn to_rata_die_inner(&self, year: IndianYear, month: u8, day: u8) -> RataDie {
+        let before = days_before_day(year.is_leap(), month, day);
+        RataDie::new(year.first_day().to_i64_date() + i64::from(before))
+    }
+
+    fn min_months_from(&self, _start: IndianYear, count: i32) -> i32 {
+        12 * count
+    }
+
+    fn months_between_years<L: Ledger>(
+        &self,
+        first: IndianYear,
+        last: IndianYear,
+        _steps: &mut Steps<L>,
+    ) -> u32 {
+        12 * (last.extended_year - first.extended_year) as u32
+    }
+
+    fn ordinal_from_month(
+        &self,
+        _year: IndianYear,
+        month: Month,
+        _overflow: Overflow,
+    ) -> Result<u8, MonthError> {
+        plain_ordinal(month, 12)
+    }
+
+    fn month_from_ordinal(&self, _year: IndianYear, ordinal_month: u8) -> Month {
+        Month::new(ordinal_month)
+    }
+
+    ghost numbered = { λ s y h. refl };
+
+    ghost lawful = { λ s. indian_list-lawful };
+
+    ghost equal = { λ a b. refl };
+
+    ghost ordered = { λ a b. refl };
+
+    ghost stored_from = { λ s y h. stored-extended y.extended_year };
+
+    ghost near = { λ s t. day_number-near t };
+
+    ghost ranged = { λ s t. years-ranged t };
+
+    ghost apart = { λ s t u. months-apart t u };
+
+    ghost covered = { λ s t. days-covered t };
+}
+
+impl Years for Indian {
+    fn year_info_from_extended(&self, extended_year: i32) -> IndianYear {
+        IndianYear { extended_year }
+    }
+
+    fn year_containing_rd(&self, rd: RataDie) -> IndianYear {
+        year_of_day(rd)
+    }
+
+    fn year_month_day(&self, rd: RataDie) -> (IndianYear, u8, u8) {
+        let (year, day_of_year) = year_and_day(rd);
+        let (month, day) = month_and_day(year.is_leap(), day_of_year);
+        (year, month, day)
+    }
+
+    fn month_and_day(&self, year: IndianYear, day_of_year: u16) -> (u8, u8) {
+        month_and_day(year.is_leap(), day_of_year)
+    }
+}
+
+/// The reference year of a day of a month, 1 to 12: the latest year in which it falls on or before 1972-12-31 of
+/// the ISO calendar.
+fn reference_year(month: u8, day: u8) -> i32
+    ensures year { result ≡ indian_reference_year month day }
+    ensures range { IsRuleYear result }
+{
+    if month >= 11 || (month == 10 && day >= 11) {
+        1893
+    } else {
+        1894
+    }
+}
+
+impl DateFieldsResolver for Indian {
+    ghost use Rattle.std.specs.Prelude.{codes};
+    ghost use Rattle.cal_model.specs.PlainMonths.{is_plain_month};
+    ghost use Rattle.cal_model.proofs.EraLemmas.{only_era_reads-in_range, only_era_reads-covered};
+    ghost use Rattle.cal_model.proofs.YearNameLemmas.{reference_of_known-stands, reference_of_known-tested};
+    ghost use Rattle.cal_julian.specs.IndianLaws.{indian_list-plain};
+    ghost use Rattle.cal_julian.specs.IndianNames.{indian_names, indian_reference_year};
+
+    ghost names = { λ _. indian_names };
+
+    fn extended_year_from_era_year_unchecked(
+        &self,
+        era: &[u8],
+        era_year: i32,
+    ) -> Result<i32, UnknownEraError> {
+        year_in_only_era(b"shaka", era, era_year)
+    }
+
+    fn reference_year_from_month_day(
+        &self,
+        month: Month,
+        day: u8,
+    ) -> Result<IndianYear, EcmaReferenceYearError> {
+        if is_plain(month, 12) {
+            Ok(IndianYear {
+                extended_year: reference_year(month.number(), day),
+            })
+        } else {
+            Err(EcmaReferenceYearError::MonthNotInCalendar)
+        }
+    }
+
+    ghost era_in_range = { λ _ era n y. only_era_reads-in_range (codes "shaka") era n y };
+
+    ghost era_covered = { λ _ era n y. only_era_reads-covered (codes "shaka") era n y };
+
+    ghost reference_of_kind = { λ _ m d. reference_of_known-tested (is_plain_month 12 m) _
+        (indian_reference_year m.number d) (indian_list-plain.kind m) };
+
+    ghost reference_of_leap_month = { λ _ m d e. reference_of_known-stands (is_plain_month 12 m)
+        (indian_reference_year m.number d) e };
+}
+
+impl NamedYears for Indian {
+    ghost use Rattle.std.specs.Prelude.{refl};
+    ghost use Rattle.cal_types.specs.declared.year.YearInfo.TheVariants.{Era};
+    ghost use Rattle.cal_base.specs.Compatibility.{all_alike};
+    ghost use Rattle.cal_julian.specs.IndianList.{indian_leap};
+    ghost use Rattle.cal_julian.specs.IndianEra.{indian_era_year};
+
+    type Year = EraYear;
+
+    ghost is_leap_year = { λ _ y. indian_leap y };
+
+    ghost year_named = { λ _ y. Era (indian_era_year y) };
+
+    fn owns_year(&self, year: IndianYear) -> bool {
+        year.can_be_named()
+    }
+
+    fn is_leap(&self, year: IndianYear) -> bool {
+        year.is_leap()
+    }
+
+    fn named_year(&self, year: IndianYear) -> EraYear {
+        EraYear {
+            year: year.extended_year,
+            extended_year: year.extended_year,
+            era: TinyAsciiStr::of_text(b"shaka"),
+            era_index: Some(0),
+            ambiguity: YearAmbiguity::CenturyRequired,
+        }
+    }
+
+    fn shown_month(
+        &self,
+        _year: IndianYear,
+        _ordinal_month: u8,
+        month: Month,
+    ) -> (LeapStatus, Month) {
+        (LeapStatus::Normal, month)
+    }
+
+    fn year_offset(&self) -> i32 {
+        0
+    }
+
+    fn is_compatible(&self, _other: &Self) -> bool {
+        true
+    }
+
+    ghost tested = { λ _ _. (λ _. refl, λ _. refl) };
+
+    ghost named = { λ _ y. refl };
+
+    ghost alike = { all_alike };
+
+    ghost shared = { λ _ _ _ _ given. record { given = given; start = refl; months = refl } };
+}
+
+impl UnstableSealed for Indian {}
+
+impl Calendar for Indian {
+    ghost use Rattle.std.specs.Prelude.{true, false, refl, codes, Some};
+    ghost use Rattle.cal_types.specs.declared.algorithm.CalendarAlgorithm.TheVariants.{Indian as indian};
+    ghost use Rattle.cal_base.specs.Compatibility.{never_refused};
+    ghost use Rattle.cal_base.specs.NumberedYears.{numbered_equal, numbered_ordered};
+    ghost use Rattle.cal_julian.specs.IndianList.{indian_list};
+    ghost use Rattle.cal_julian.specs.IndianSystem.{indian_system, indian_date, indian_belongs};
+    ghost use Rattle.cal_julian.specs.IndianLaws.{indian_list-lawful};
+    ghost use Rattle.cal_julian.specs.IndianSystemLaws.{indian_belongs-dated};
+
+    type DateInner = IndianDateInner;
+
+    type Year = EraYear;
+
+    type DateCompatibilityError = Infallible;
+
+    ghost system = { λ _. indian_system };
+
+    ghost date_of = { λ _ d. indian_date d };
+
+    ghost belongs = { λ _ d. indian_belongs d };
+
+    ghost compatible = { λ _ _. true };
+
+    ghost is_cheap = { λ _. false };
+
+    ghost algorithm = { λ _. Some indian };
+
+    ghost name = { λ _. codes "Indian" };
+
+    fn owns(&self, date: &IndianDateInner) -> bool {
+        Arithmetic(*self).owns(&date.0)
+    }
+
+    fn new_date(
+        &self,
+        year: YearInput<'_>,
+        month: Month,
+        day: u8,
+    ) -> Result<IndianDateInner, DateNewError> {
+        Ok(IndianDateInner(Arithmetic(*self).new_date(year, month, day)?))
+    }
+
+    fn from_fields(
+        &self,
+        fields: DateFields<'_>,
+        options: DateFromFieldsOptions,
+    ) -> Result<IndianDateInner, DateFromFieldsError> {
+        Ok(IndianDateInner(Arithmetic(*self).from_fields(fields, options)?))
+    }
+
+    fn has_cheap_iso_conversion(&self) -> bool {
+        false
+    }
+
+    fn from_rata_die(&self, rd: RataDie) -> IndianDateInner {
+        IndianDateInner(Arithmetic(*self).from_rata_die(rd))
+    }
+
+    fn to_rata_die(&self, date: &IndianDateInner) -> RataDie {
+        Arithmetic(*self).to_rata_die(&date.0)
+    }
+
+    fn months_in_year(&self, date: &IndianDateInner) -> u8 {
+        Arithmetic(*self).months_in_year(&date.0)
+    }
+
+    fn days_in_year(&self, date: &IndianDateInner) -> u16 {
+        Arithmetic(*self).days_in_year(&date.0)
+    }
+
+    fn days_in_month(&self, date: &IndianDateInner) -> u8 {
+        Arithmetic(*self).days_in_month(&date.0)
+    }
+
+    fn is_in_leap_year(&self, date: &IndianDateInner) -> bool {
+        Arithmetic(*self).is_in_leap_year(&date.0)
+    }
+
+    fn year_info(&self, date: &IndianDateInner) -> EraYear {
+        Arithmetic(*self).year_info(&date.0)
+    }
+
+    fn extended_year(&self, date: &IndianDateInner) -> i32 {
+        Arithmetic(*self).extended_year(&date.0)
+    }
+
+    fn month(&self, date: &IndianDateInner) -> MonthInfo {
+        Arithmetic(*self).month(&date.0)
+    }
+
+    fn day_of_month(&self, date: &IndianDateInner) -> DayOfMonth {
+        Arithmetic(*self).day_of_month(&date.0)
+    }
+
+    fn day_of_year(&self, date: &IndianDateInner) -> DayOfYear {
+        Arithmetic(*self).day_of_year(&date.0)
+    }
+
+    fn add(
+        &self,
+        date: &IndianDateInner,
+        duration: DateDuration,
+        options: DateAddOptions,
+    ) -> Result<IndianDateInner, DateAddError> {
+        Ok(IndianDateInner(Arithmetic(*self).add(&date.0, duration, options)?))
+    }
+
+    fn until(
+        &self,
+        date1: &IndianDateInner,
+        date2: &IndianDateInner,
+        options: DateDifferenceOptions,
+    ) -> DateDuration {
+        Arithmetic(*self).until(&date1.0, &date2.0, options)
+    }
+
+    fn until_counted<L: Ledger>(
+        &self,
+        date1: &IndianDateInner,
+        date2: &IndianDateInner,
+        options: DateDifferenceOptions,
+        steps: &mut Steps<L>,
+    ) -> DateDuration {
+        Arithmetic(*self).until_counted(&date1.0, &date2.0, options, steps)
+    }
+
+    fn check_date_compatibility(&self, _other: &Self) -> Result<(), Infallible> {
+        Ok(())
+    }
+
+    fn calendar_algorithm(&self) -> Option<CalendarAlgorithm> {
+        Some(CalendarAlgorithm::Indian)
+    }
+
+    fn debug_name(&self) -> &'static str {
+        "Indian"
+    }
+
+    ghost lawful = { λ _. indian_list-lawful };
+
+    ghost dated = { λ _ d h. indian_belongs-dated d h };
+
+    ghost named = { λ _ t. refl };
+
+    ghost equal_days = { λ _ a b h k. numbered_equal indian_list _ _ h k };
+
+    ghost ordered_days = { λ _ a b h k. numbered_ordered indian_list _ _ h k };
+
+    ghost refusal = { λ _ _ h. never_refused h };
+
+    ghost compatible_itself = { λ _. refl };
+
+    ghost compatible_back = { λ _ _ h. h };
+
+    ghost compatible_on = { λ _ _ _ h k. k };
+
+    ghost shared = { λ _ _ _ h k. k };
+
+    ghost shared_day = { λ _ _ _ h k. refl };
+}
+
+impl AsCalendar for Indian {
+    type Calendar = Indian;
+
+    ghost cal_of = { λ c. c };
+
+    fn as_calendar(&self) -> &Indian {
+        self
+    }
+}

@@ -1,0 +1,82 @@
+//! The years in which the rule of 33 years is corrected.
+
+ghost use Rattle.std.specs.Prelude.{◌≡◌, ◌↔◌, IsTrue, [], pos, neg_ℤ, ◌+ℤ◌, ◌≤ℤ◌, ◌<ℤ◌};
+ghost use Rattle.cal_days.specs.Day.{IsBetween, IsRuleYear, IsValidDay};
+ghost use Rattle.cal_julian.specs.PersianRule.{AreCorrectable, IsRising, is_corrected, is_persian_leap, persian_new_year};
+
+use cal_days::{RataDie, persian};
+
+/// Years of the Persian calendar in which the rule of 33 years is corrected: such a year is a common year, and the
+/// next one is a leap year in its place, which starts one day earlier.
+///
+/// The years rise. Each is from 1 to 9999, and a leap year by the rule.
+#[derive(Clone, Copy, Debug)]
+pub struct PersianCorrections<'t> {
+    years: &'t [i32],
+    ghost rising: { IsRising years.now },
+    ghost known: { AreCorrectable years.now },
+}
+
+impl<'t> PersianCorrections<'t> {
+    /// No corrections: every year goes by the rule.
+    pub fn none() -> PersianCorrections<'t>
+        ensures { result.years.now ≡ [] }
+    {
+        PersianCorrections { years: &[] }
+    }
+
+    /// The corrected years.
+    pub fn years(&self) -> &'t [i32]
+        ensures { result.now ≡ self.now.years.now }
+    {
+        self.years
+    }
+
+    /// Whether a year is a corrected one.
+    fn contains(&self, year: i32) -> bool
+        ensures { result ≡ is_corrected self.now.years.now year }
+    {
+        self.years.binary_search(&year).is_ok()
+    }
+
+    /// Whether a year from -8000000 to 8000000 has 366 days.
+    pub(crate) fn is_leap_year(&self, year: i32) -> bool
+        requires { IsRuleYear year }
+        ensures { IsTrue result ↔ IsTrue (is_persian_leap self.now.years.now year) }
+    {
+        if persian::is_leap_year(year) {
+            !self.contains(year)
+        } else {
+            self.contains(year - 1)
+        }
+    }
+
+    /// The day number of the first day of a year from -8000000 to 8000000.
+    pub(crate) fn year_start(&self, year: i32) -> i64
+        requires { IsRuleYear year }
+        ensures { result ≡ persian_new_year self.now.years.now year }
+    {
+        let start = persian::year_start(year).to_i64_date();
+        if self.contains(year - 1) {
+            start - 1
+        } else {
+            start
+        }
+    }
+
+    /// The year that contains a valid day, -365242499 to 365242134.
+    pub(crate) fn year_from_fixed(&self, rd: RataDie) -> i32
+        requires { IsValidDay rd }
+        ensures first { persian_new_year self.now.years.now result ≤ℤ rd }
+        ensures last { rd <ℤ persian_new_year self.now.years.now (result +ℤ pos 1) }
+        ensures range { IsBetween (neg_ℤ (pos 1000621)) (pos 999379) result }
+    {
+        let year = persian::year_from_fixed(rd);
+        let next = persian::year_start(year + 1).to_i64_date();
+        if rd.to_i64_date() + 1 != next {
+            return year;
+        }
+        // A corrected year leaves its last day to the next year.
+        if self.contains(year) { year + 1 } else { year }
+    }
+}

@@ -1,0 +1,58 @@
+//! The months of the Persian calendar, in closed form.
+
+ghost use Rattle.std.specs.Prelude.{◌≡◌, ◌+◌, ◌-◌, ◌<◌, ◌≤◌, Bool};
+ghost use Rattle.cal_julian.specs.PersianList.{persian_days_before, persian_month_length};
+ghost use Rattle.cal_julian.specs.PersianMonths.{month_of_day};
+
+/// The days of the six months of 31 days.
+const DAYS_IN_LONG_MONTHS: u16 = 186;
+
+/// The days of a month, 1 to 12, in a leap year or a common one.
+pub fn days_in_month(leap: bool, month: u8) -> u8
+    requires { (1 ≤ month) × (month ≤ 12) }
+    ensures { result ≡ persian_month_length leap month }
+{
+    match month {
+        1..=6 => 31,
+        12 if !leap => 29,
+        _ => 30,
+    }
+}
+
+/// The days of a year before a month, 1 to 12.
+fn days_before_month(month: u8) -> u16
+    requires { (1 ≤ month) × (month ≤ 12) }
+    ensures bound { result ≤ 336 }
+    ensures value { (leap : Bool) → result ≡ persian_days_before leap month }
+{
+    let months = u16::from(month - 1);
+    if month <= 7 {
+        31 * months
+    } else {
+        30 * months + 6
+    }
+}
+
+/// The days of a year before a day of a month, 1 to 12.
+pub fn days_before_day(month: u8, day: u8) -> u16
+    requires month { (1 ≤ month) × (month ≤ 12) }
+    requires day { (1 ≤ day) × (day ≤ 31) }
+    ensures bound { result ≤ 366 }
+    ensures value { (leap : Bool) → result ≡ persian_days_before leap month + (day - 1) }
+{
+    days_before_month(month) + u16::from(day - 1)
+}
+
+/// The month, 1 to 12, and the day of the month, of a day of the year, which is counted from 0.
+pub fn month_and_day(day_of_year: u16) -> (u8, u8)
+    requires { day_of_year < 366 }
+    ensures month { result.0 ≡ month_of_day day_of_year }
+    ensures day { (leap : Bool) → result.1 ≡ day_of_year - persian_days_before leap result.0 + 1 }
+{
+    if day_of_year < DAYS_IN_LONG_MONTHS {
+        ((day_of_year / 31) as u8 + 1, (day_of_year % 31) as u8 + 1)
+    } else {
+        let day = day_of_year - DAYS_IN_LONG_MONTHS;
+        ((day / 30) as u8 + 7, (day % 30) as u8 + 1)
+    }
+}
