@@ -1,0 +1,57 @@
+-- When inner dates of any calendars are equal, and how they are ordered.
+use Rattle.std.specs.Prelude.{ℕ, Bool, true, ◌&&◌, ◌==◌, Option, Some, None, if◌then◌else◌}
+use Rattle.std.specs.declared.cmp.Ordering.{Ordering}
+use Rattle.cal_model.specs.CalendarList.{Date}
+use Rattle.cal_model.specs.DateOrder.{date_eq, date_cmp}
+use Rattle.cal_base.specs.OffsetSystem.{packed_date}
+use Rattle.cal_coptic.specs.CopticSystem.{coptic_date}
+use Rattle.cal_coptic.specs.EthiopianSystem.{kept_date as in_coptic_years}
+use Rattle.cal_hebrew.specs.HebrewSystem.{hebrew_date, has_hebrew_length}
+use Rattle.cal_julian.specs.IndianSystem.{indian_date}
+use Rattle.cal_julian.specs.JulianSystem.{julian_date}
+use Rattle.cal_julian.specs.PersianSystem.{persian_date}
+use Rattle.cal_any.specs.declared.any_calendar.AnyDateInner.{AnyDateInner}
+use Rattle.cal_any.specs.declared.any_calendar.AnyDateInner.TheVariants as inner
+
+-- the number of a calendar's kind, in the order of their names
+abbrev pub kind_of : AnyDateInner → ℕ
+kind_of (inner.Buddhist _) = 0
+kind_of (inner.Coptic _) = 1
+kind_of (inner.Ethiopian _) = 2
+kind_of (inner.Gregorian _) = 3
+kind_of (inner.Hebrew _) = 4
+kind_of (inner.Indian _) = 5
+kind_of (inner.Iso _) = 6
+kind_of (inner.Japanese _) = 7
+kind_of (inner.JapaneseExtended _) = 8
+kind_of (inner.Julian _) = 9
+kind_of (inner.Persian _) = 10
+kind_of (inner.Roc _) = 11
+
+-- a date as it is kept: in ISO years in the Gregorian calendars, and in Coptic years in the Ethiopian one
+abbrev pub kept_date : AnyDateInner → Date
+kept_date (inner.Buddhist d) = packed_date d.0.packed
+kept_date (inner.Coptic d) = coptic_date d
+kept_date (inner.Ethiopian d) = in_coptic_years d
+kept_date (inner.Gregorian d) = packed_date d.0.packed
+kept_date (inner.Hebrew d) = hebrew_date d
+kept_date (inner.Indian d) = indian_date d
+kept_date (inner.Iso d) = packed_date d.0.packed
+kept_date (inner.Japanese d) = packed_date d.0.packed
+kept_date (inner.JapaneseExtended d) = packed_date d.0.packed
+kept_date (inner.Julian d) = julian_date d
+kept_date (inner.Persian d) = persian_date d
+kept_date (inner.Roc d) = packed_date d.0.packed
+
+-- whether the year that is kept is one that its calendar gives: a Hebrew one has its length
+abbrev pub keeps_given_year : AnyDateInner → Bool
+keeps_given_year (inner.Hebrew d) = has_hebrew_length d.0.packed.year
+keeps_given_year _ = true
+
+-- equal dates of one kind of calendar
+abbrev pub any_eq : AnyDateInner → AnyDateInner → Bool
+any_eq a b = (kind_of a == kind_of b) && date_eq (kept_date a) (kept_date b)
+
+-- dates are ordered within a kind of calendar, and not across two
+abbrev pub any_cmp : AnyDateInner → AnyDateInner → Option Ordering
+any_cmp a b = if kind_of a == kind_of b then Some (date_cmp (kept_date a) (kept_date b)) else None

@@ -1,0 +1,4 @@
+pub mod AnySystem
+pub mod AnyLaws
+pub mod AnyOrder
+pub mod AnyOrderLaws

@@ -1,0 +1,423 @@
+//! Any of the calendars, chosen at run time.
+
+ghost use Rattle.std.specs.Prelude.{◌≡◌};
+ghost use Rattle.cal_any.specs.AnyOrder.{any_eq, any_cmp};
+ghost use Rattle.cal_any.specs.AnyOrderLaws.{any_alike, any_equal, any_partial_order};
+ghost use Rattle.cal_any.specs.AnySystem.{any_system, any_date, any_belongs, any_compatible};
+ghost use Rattle.cal_any.specs.AnySystem.{any_is_cheap, any_algorithm, any_name};
+
+use cal_arith::Steps;
+use cal_base::scaffold::UnstableSealed;
+use cal_base::{AsCalendar, Calendar, Iso, IsoDateInner};
+use cal_coptic::{Coptic, CopticDateInner, Ethiopian, EthiopianDateInner};
+use cal_days::RataDie;
+use cal_gregory::{
+    Buddhist, BuddhistDateInner, Gregorian, GregorianDateInner, Japanese, JapaneseDateInner, Roc,
+    RocDateInner,
+};
+use cal_hebrew::{Hebrew, HebrewDateInner};
+use cal_julian::{Indian, IndianDateInner, Julian, JulianDateInner, Persian, PersianDateInner};
+use cal_types::{
+    CalendarAlgorithm, DateAddError, DateAddOptions, DateDifferenceOptions, DateDuration,
+    DateFields, DateFromFieldsError, DateFromFieldsOptions, DateNewError, DayOfMonth, DayOfYear,
+    IntoYearInfo, MismatchedCalendarError, Month, MonthInfo, YearInfo, YearInput,
+};
+use std::cmp::Ordering;
+use std::sync::ledger::Ledger;
+
+/// Any of the calendars.
+#[derive(Clone, Copy, Debug)]
+pub enum AnyCalendar<'t> {
+    /// The Buddhist calendar.
+    Buddhist(Buddhist),
+    /// The Coptic calendar.
+    Coptic(Coptic),
+    /// The Ethiopian calendar, in one of its styles.
+    Ethiopian(Ethiopian),
+    /// The Gregorian calendar.
+    Gregorian(Gregorian),
+    /// The Hebrew calendar.
+    Hebrew(Hebrew),
+    /// The Indian calendar.
+    Indian(Indian),
+    /// The ISO calendar.
+    Iso(Iso),
+    /// The Japanese calendar.
+    Japanese(Japanese),
+    /// The Japanese calendar, by the name that CLDR once gave its older eras.
+    JapaneseExtended(Japanese),
+    /// The Julian calendar.
+    Julian(Julian),
+    /// The Persian calendar.
+    Persian(Persian<'t>),
+    /// The ROC calendar.
+    Roc(Roc),
+}
+
+/// An inner date of any of the calendars.
+///
+/// Dates of one calendar are ordered by their days; dates of two calendars are neither equal nor ordered. The two
+/// styles of the Ethiopian calendar are one calendar here.
+#[derive(Clone, Copy, Debug)]
+pub enum AnyDateInner<'t> {
+    /// A date of the Buddhist calendar.
+    Buddhist(BuddhistDateInner),
+    /// A date of the Coptic calendar.
+    Coptic(CopticDateInner),
+    /// A date of the Ethiopian calendar.
+    Ethiopian(EthiopianDateInner),
+    /// A date of the Gregorian calendar.
+    Gregorian(GregorianDateInner),
+    /// A date of the Hebrew calendar.
+    Hebrew(HebrewDateInner),
+    /// A date of the Indian calendar.
+    Indian(IndianDateInner),
+    /// A date of the ISO calendar.
+    Iso(IsoDateInner),
+    /// A date of the Japanese calendar.
+    Japanese(JapaneseDateInner),
+    /// A date of the Japanese calendar.
+    JapaneseExtended(JapaneseDateInner),
+    /// A date of the Julian calendar.
+    Julian(JulianDateInner),
+    /// A date of the Persian calendar.
+    Persian(PersianDateInner<'t>),
+    /// A date of the ROC calendar.
+    Roc(RocDateInner),
+}
+
+/// The expression `$arm!(VARIANT, HELD, ..)` of the variant that a calendar or an inner date is of: beside the two
+/// enums, this is the list of the variants for all calls.
+macro_rules! match_variant {
+    ($value:expr, $kind:ident, $held:ident, $arm:ident $arguments:tt) => {
+        match $value {
+            $kind::Buddhist($held) => $arm!(Buddhist, $held, $arguments),
+            $kind::Coptic($held) => $arm!(Coptic, $held, $arguments),
+            $kind::Ethiopian($held) => $arm!(Ethiopian, $held, $arguments),
+            $kind::Gregorian($held) => $arm!(Gregorian, $held, $arguments),
+            $kind::Hebrew($held) => $arm!(Hebrew, $held, $arguments),
+            $kind::Indian($held) => $arm!(Indian, $held, $arguments),
+            $kind::Iso($held) => $arm!(Iso, $held, $arguments),
+            $kind::Japanese($held) => $arm!(Japanese, $held, $arguments),
+            $kind::JapaneseExtended($held) => $arm!(JapaneseExtended, $held, $arguments),
+            $kind::Julian($held) => $arm!(Julian, $held, $arguments),
+            $kind::Persian($held) => $arm!(Persian, $held, $arguments),
+            $kind::Roc($held) => $arm!(Roc, $held, $arguments),
+        }
+    };
+}
+
+/// What the calendar that is held answers.
+macro_rules! with_calendar {
+    ($any:expr, $calendar:ident => $answer:expr) => {
+        match_variant!($any, AnyCalendar, $calendar, answer_arm($answer))
+    };
+}
+
+macro_rules! answer_arm {
+    ($variant:ident, $calendar:ident, ($answer:expr)) => {
+        $answer
+    };
+}
+
+/// The inner date that the calendar that is held answers, in the same variant.
+macro_rules! date_with_calendar {
+    ($any:expr, $calendar:ident => $answer:expr) => {
+        match_variant!($any, AnyCalendar, $calendar, date_arm($answer))
+    };
+}
+
+macro_rules! date_arm {
+    ($variant:ident, $calendar:ident, ($answer:expr)) => {
+        AnyDateInner::$variant($answer)
+    };
+}
+
+/// What the calendar that is held answers of an inner date of the same variant.
+macro_rules! with_date {
+    ($any:expr, $date:ident, $calendar:ident => $answer:expr) => {
+        match_variant!($any, AnyCalendar, $calendar, answer_of_date_arm($date, $answer))
+    };
+}
+
+macro_rules! answer_of_date_arm {
+    ($variant:ident, $calendar:ident, ($date:ident, $answer:expr)) => {{
+        let AnyDateInner::$variant($date) = $date else {
+            unreachable!()
+        };
+        $answer
+    }};
+}
+
+/// The inner date that the calendar that is held answers of an inner date, all in the same variant.
+macro_rules! date_with_date {
+    ($any:expr, $date:ident, $calendar:ident => $answer:expr) => {
+        match_variant!($any, AnyCalendar, $calendar, date_of_date_arm($date, $answer))
+    };
+}
+
+macro_rules! date_of_date_arm {
+    ($variant:ident, $calendar:ident, ($date:ident, $answer:expr)) => {{
+        let AnyDateInner::$variant($date) = $date else {
+            unreachable!()
+        };
+        AnyDateInner::$variant($answer)
+    }};
+}
+
+/// What the calendar that is held answers of two inner dates of the same variant.
+macro_rules! with_two_dates {
+    ($any:expr, $first:ident, $second:ident, $calendar:ident => $answer:expr) => {
+        match_variant!($any, AnyCalendar, $calendar, answer_of_dates_arm($first, $second, $answer))
+    };
+}
+
+macro_rules! answer_of_dates_arm {
+    ($variant:ident, $calendar:ident, ($first:ident, $second:ident, $answer:expr)) => {{
+        let AnyDateInner::$variant($first) = $first else {
+            unreachable!()
+        };
+        let AnyDateInner::$variant($second) = $second else {
+            unreachable!()
+        };
+        $answer
+    }};
+}
+
+/// An answer where two values are of the same variant, and another one where they aren't.
+macro_rules! if_same_variant {
+    (
+        ($first:expr, $first_kind:ident($first_held:ident)),
+        ($second:expr, $second_kind:ident($second_held:ident)) =>
+        $same:expr,
+        else $otherwise:expr
+    ) => {
+        match_variant!(
+            $first,
+            $first_kind,
+            $first_held,
+            same_arm($second, $second_kind, $second_held, $same, $otherwise)
+        )
+    };
+}
+
+macro_rules! same_arm {
+    ($variant:ident, $held:ident, ($second:expr, $kind:ident, $other:ident, $same:expr, $otherwise:expr)) => {
+        match $second {
+            $kind::$variant($other) => $same,
+            _ => $otherwise,
+        }
+    };
+}
+
+/// The name of the variant that a calendar is of, in parentheses behind that of the enum.
+macro_rules! variant_name {
+    ($any:expr) => {
+        match_variant!($any, AnyCalendar, _held, name_arm())
+    };
+}
+
+macro_rules! name_arm {
+    ($variant:ident, $held:ident, ()) => {
+        concat!("AnyCalendar (", stringify!($variant), ")")
+    };
+}
+
+impl<'t> PartialEq for AnyDateInner<'t> {
+    ghost eq = { any_eq };
+
+    ghost laws = { any_alike };
+
+    fn eq(&self, other: &Self) -> bool {
+        if_same_variant!((self, AnyDateInner(date)), (other, AnyDateInner(other)) => date == other, else false)
+    }
+}
+
+impl<'t> Eq for AnyDateInner<'t> {
+    ghost laws = { any_equal };
+}
+
+impl<'t> PartialOrd for AnyDateInner<'t> {
+    ghost partial_cmp = { any_cmp };
+
+    ghost laws = { any_partial_order };
+
+    fn partial_cmp(&self, other: &Self) -> Option<Ordering> {
+        if_same_variant!((self, AnyDateInner(date)), (other, AnyDateInner(other)) => Some(date.cmp(other)), else None)
+    }
+}
+
+impl<'t> UnstableSealed for AnyCalendar<'t> {}
+
+impl<'t> Calendar for AnyCalendar<'t> {
+    ghost use Rattle.cal_any.specs.AnyLaws.{any_lawful, any_dated, any_named, any_equal_days, any_ordered_days};
+    ghost use Rattle.cal_any.specs.AnyLaws.{any_compatible_itself, any_compatible_back, any_compatible_on};
+    ghost use Rattle.cal_any.specs.AnyLaws.{any_shared, any_shared_day};
+
+    type DateInner = AnyDateInner<'t>;
+
+    type Year = YearInfo;
+
+    type DateCompatibilityError = MismatchedCalendarError;
+
+    ghost system = { any_system };
+
+    ghost date_of = { any_date };
+
+    ghost belongs = { any_belongs };
+
+    ghost compatible = { any_compatible };
+
+    ghost is_cheap = { any_is_cheap };
+
+    ghost algorithm = { any_algorithm };
+
+    ghost name = { any_name };
+
+    fn owns(&self, date: &AnyDateInner<'t>) -> bool {
+        if_same_variant!((self, AnyCalendar(calendar)), (date, AnyDateInner(date)) => calendar.owns(date), else false)
+    }
+
+    fn new_date(
+        &self,
+        year: YearInput<'_>,
+        month: Month,
+        day: u8,
+    ) -> Result<AnyDateInner<'t>, DateNewError> {
+        Ok(date_with_calendar!(self, calendar => calendar.new_date(year, month, day)?))
+    }
+
+    fn from_fields(
+        &self,
+        fields: DateFields<'_>,
+        options: DateFromFieldsOptions,
+    ) -> Result<AnyDateInner<'t>, DateFromFieldsError> {
+        Ok(date_with_calendar!(self, calendar => calendar.from_fields(fields, options)?))
+    }
+
+    fn has_cheap_iso_conversion(&self) -> bool {
+        with_calendar!(self, calendar => calendar.has_cheap_iso_conversion())
+    }
+
+    fn from_rata_die(&self, rd: RataDie) -> AnyDateInner<'t> {
+        date_with_calendar!(self, calendar => calendar.from_rata_die(rd))
+    }
+
+    fn to_rata_die(&self, date: &AnyDateInner<'t>) -> RataDie {
+        with_date!(self, date, calendar => calendar.to_rata_die(date))
+    }
+
+    fn months_in_year(&self, date: &AnyDateInner<'t>) -> u8 {
+        with_date!(self, date, calendar => calendar.months_in_year(date))
+    }
+
+    fn days_in_year(&self, date: &AnyDateInner<'t>) -> u16 {
+        with_date!(self, date, calendar => calendar.days_in_year(date))
+    }
+
+    fn days_in_month(&self, date: &AnyDateInner<'t>) -> u8 {
+        with_date!(self, date, calendar => calendar.days_in_month(date))
+    }
+
+    fn is_in_leap_year(&self, date: &AnyDateInner<'t>) -> bool {
+        with_date!(self, date, calendar => calendar.is_in_leap_year(date))
+    }
+
+    fn year_info(&self, date: &AnyDateInner<'t>) -> YearInfo {
+        with_date!(self, date, calendar => calendar.year_info(date).into_year_info())
+    }
+
+    fn extended_year(&self, date: &AnyDateInner<'t>) -> i32 {
+        with_date!(self, date, calendar => calendar.extended_year(date))
+    }
+
+    fn month(&self, date: &AnyDateInner<'t>) -> MonthInfo {
+        with_date!(self, date, calendar => calendar.month(date))
+    }
+
+    fn day_of_month(&self, date: &AnyDateInner<'t>) -> DayOfMonth {
+        with_date!(self, date, calendar => calendar.day_of_month(date))
+    }
+
+    fn day_of_year(&self, date: &AnyDateInner<'t>) -> DayOfYear {
+        with_date!(self, date, calendar => calendar.day_of_year(date))
+    }
+
+    fn add(
+        &self,
+        date: &AnyDateInner<'t>,
+        duration: DateDuration,
+        options: DateAddOptions,
+    ) -> Result<AnyDateInner<'t>, DateAddError> {
+        Ok(date_with_date!(self, date, calendar => calendar.add(date, duration, options)?))
+    }
+
+    fn until(
+        &self,
+        date1: &AnyDateInner<'t>,
+        date2: &AnyDateInner<'t>,
+        options: DateDifferenceOptions,
+    ) -> DateDuration {
+        with_two_dates!(self, date1, date2, calendar => calendar.until(date1, date2, options))
+    }
+
+    fn until_counted<L: Ledger>(
+        &self,
+        date1: &AnyDateInner<'t>,
+        date2: &AnyDateInner<'t>,
+        options: DateDifferenceOptions,
+        steps: &mut Steps<L>,
+    ) -> DateDuration {
+        with_two_dates!(self, date1, date2, calendar => calendar.until_counted(date1, date2, options, steps))
+    }
+
+    fn check_date_compatibility(&self, other: &Self) -> Result<(), MismatchedCalendarError> {
+        let alike = if_same_variant!((self, AnyCalendar(first)), (other, AnyCalendar(second)) =>
+            first.check_date_compatibility(second).is_ok(), else false);
+        if alike {
+            Ok(())
+        } else {
+            Err(MismatchedCalendarError)
+        }
+    }
+
+    fn calendar_algorithm(&self) -> Option<CalendarAlgorithm> {
+        with_calendar!(self, calendar => calendar.calendar_algorithm())
+    }
+
+    fn debug_name(&self) -> &'static str {
+        variant_name!(self)
+    }
+
+    ghost refusal = { λ _ _ _. record {} };
+
+    ghost lawful = { any_lawful };
+
+    ghost dated = { any_dated };
+
+    ghost named = { any_named };
+
+    ghost equal_days = { any_equal_days };
+
+    ghost ordered_days = { any_ordered_days };
+
+    ghost compatible_itself = { any_compatible_itself };
+
+    ghost compatible_back = { any_compatible_back };
+
+    ghost compatible_on = { any_compatible_on };
+
+    ghost shared = { any_shared };
+
+    ghost shared_day = { any_shared_day };
+}
+
+impl<'t> AsCalendar for AnyCalendar<'t> {
+    type Calendar = AnyCalendar<'t>;
+
+    ghost cal_of = { λ c. c };
+
+    fn as_calendar(&self) -> &AnyCalendar<'t> {
+        self
+    }
+}
