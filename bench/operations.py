@@ -20,10 +20,16 @@ OPERATIONS = {
     "year": ("addition of one year, less `day`", "day"),
     "month": ("addition of one month, less `day`", "day"),
     "add-day": ("addition of one day, less `day`", "day"),
+    "add-months": ("addition of twelve months, less `day`", "day"),
+    "add-far-months": ("addition of the months of about two million years, less `day`", "day"),
     "pair": ("two day numbers to fields", None),
     "difference": ("difference in years, some centuries apart, less `pair`", "pair"),
+    "months": ("difference in months over a year, less `pair`", "pair"),
+    "far-months": ("difference in months over about two million years, less `pair`", "pair"),
 }
-CALENDARS = ["iso", "gregorian", "julian"]
+CALENDARS = [
+    *["iso", "gregorian", "buddhist", "roc", "japanese", "julian", "coptic", "ethiopic", "indian", "persian", "hebrew"],
+]
 FEW = 1_000_000
 MANY = 11_000_000
 ROUNDS = 5

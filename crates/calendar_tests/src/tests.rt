@@ -1,6 +1,7 @@
 //! What constructors and bags of fields name, by tables.
 
 mod constructors;
+mod days;
 mod eras;
 mod faults;
 mod reference_years;

@@ -31,15 +31,7 @@ pub fn date_of_form(
         answer_by (λ d. any_date calendar d.inner) result ≡ resolve_fields (any_system calendar) fields strictly }
     ensures calendar { IfOk result (λ d. d.calendar ≡ calendar) }
 {
-    let fields = DateFields {
-        era: None,
-        era_year: None,
-        extended_year: Some(extended_year),
-        month: Some(Month::new(month)),
-        month_code: None,
-        ordinal_month: None,
-        day: Some(day),
-    };
+    let fields = DateFields::from_year_month_day(extended_year, Month::new(month), day);
     let reject = DateFromFieldsOptions {
         overflow: Some(Overflow::Reject),
         missing_fields_strategy: None,

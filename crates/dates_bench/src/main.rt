@@ -8,8 +8,10 @@ mod words;
 
 use anyhow::{Context, Result};
 use cal_base::Iso;
-use cal_gregory::Gregorian;
-use cal_julian::Julian;
+use cal_coptic::{Coptic, Ethiopian};
+use cal_gregory::{Buddhist, Gregorian, Japanese, Roc};
+use cal_hebrew::Hebrew;
+use cal_julian::{Indian, Julian, Persian, PersianCorrections};
 use measure::measure;
 use std::env;
 use std::process::ExitCode;
@@ -17,10 +19,26 @@ use words::{CalendarName, Work, read_words};
 
 /// The checksum of the work.
 fn checksum(work: Work) -> i64 {
-    match work.calendar {
-        CalendarName::Iso => measure(work.operation, work.count, Iso),
-        CalendarName::Gregorian => measure(work.operation, work.count, Gregorian),
-        CalendarName::Julian => measure(work.operation, work.count, Julian),
+    let Work {
+        operation,
+        calendar,
+        count,
+    } = work;
+    match calendar {
+        CalendarName::Iso => measure(operation, count, Iso),
+        CalendarName::Gregorian => measure(operation, count, Gregorian),
+        CalendarName::Buddhist => measure(operation, count, Buddhist),
+        CalendarName::Roc => measure(operation, count, Roc),
+        CalendarName::Japanese => measure(operation, count, Japanese::new()),
+        CalendarName::Julian => measure(operation, count, Julian),
+        CalendarName::Coptic => measure(operation, count, Coptic),
+        CalendarName::Ethiopian => measure(operation, count, Ethiopian::new()),
+        CalendarName::Indian => measure(operation, count, Indian),
+        CalendarName::Persian => {
+            let calendar = Persian::new(PersianCorrections::none());
+            measure(operation, count, calendar)
+        }
+        CalendarName::Hebrew => measure(operation, count, Hebrew),
     }
 }
 
@@ -37,7 +55,7 @@ fn run(rt: &HostRuntime) -> Result<u8> {
         }
         None => {
             eprintln!(rt;
-                "usage: dates_bench day|year|month|add-day|pair|difference iso|gregorian|julian COUNT"
+                "usage: dates_bench OPERATION CALENDAR COUNT, as day iso 1000; bench/operations.py names all"
             )?;
             Ok(2)
         }

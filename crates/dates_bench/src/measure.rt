@@ -1,6 +1,7 @@
 //! The operations, repeated over days of some centuries.
 
 ghost use Rattle.std.specs.Prelude.{◌≡◌, ◌+◌, ◌*◌, ◌%◌, ◌<◌, pos};
+ghost use Rattle.cal_days.specs.Day.{IsValidDay};
 ghost use Rattle.cal_model.specs.CalendarList.{IsOn};
 
 use crate::words::Operation;
@@ -13,33 +14,8 @@ const CONSTRAIN: DateAddOptions = DateAddOptions {
     overflow: Some(Overflow::Constrain),
 };
 
-const IN_YEARS: DateDifferenceOptions = DateDifferenceOptions {
-    largest_unit: Some(DateDurationUnit::Years),
-};
-
-const ONE_YEAR: DateDuration = DateDuration {
-    is_negative: false,
-    years: 1,
-    months: 0,
-    weeks: 0,
-    days: 0,
-};
-
-const ONE_MONTH: DateDuration = DateDuration {
-    is_negative: false,
-    years: 0,
-    months: 1,
-    weeks: 0,
-    days: 0,
-};
-
-const ONE_DAY: DateDuration = DateDuration {
-    is_negative: false,
-    years: 0,
-    months: 0,
-    weeks: 0,
-    days: 1,
-};
+/// The months of about two million years.
+const FAR_MONTHS: i32 = 23900000;
 
 /// The day number of a turn, from 1643 to 2465. Turn follows turn by 7919 days.
 fn day_of_turn(turn: u32) -> u64
@@ -49,45 +25,56 @@ fn day_of_turn(turn: u32) -> u64
     600000 + u64::from(turn) * 7919 % 300000
 }
 
-/// The date of a day number.
-fn date_on<A: AsCalendar + Copy>(day: u64, calendar: A) -> Date<A>
+/// The date of a valid day.
+fn date_on<A: AsCalendar + Copy>(day: i64, calendar: A) -> Date<A>
 where
     A::Calendar: Calendar,
-    requires { day < 900000 }
+    requires { IsValidDay day }
     ensures on { let c = A.cal_of calendar in
-        IsOn (A.Calendar.system c).list (pos day) (A.Calendar.date_of c result.inner) }
+        IsOn (A.Calendar.system c).list day (A.Calendar.date_of c result.inner) }
     ensures calendar { result.calendar ≡ calendar }
 {
-    Date::from_rata_die(RataDie::new(day as i64), calendar)
+    Date::from_rata_die(RataDie::new(day), calendar)
 }
 
 /// The day number, from the date that it was turned into.
-fn day_and_back<A: AsCalendar + Copy>(day: u64, calendar: A) -> i64
+fn day_and_back<A: AsCalendar + Copy>(day: i64, calendar: A) -> i64
 where
     A::Calendar: Calendar,
-    requires { day < 900000 }
-    ensures { result ≡ pos day }
+    requires { IsValidDay day }
+    ensures { result ≡ day }
 {
     date_on(day, calendar).to_rata_die().to_i64_date()
 }
 
 /// The day number of a date with a duration added, and 0 where there is no such date.
-fn day_of_sum<A: AsCalendar + Copy>(date: Date<A>, duration: DateDuration) -> i64
+fn day_of_sum<A: AsCalendar + Copy>(day: i64, duration: DateDuration, calendar: A) -> i64
 where
     A::Calendar: Calendar,
+    requires { IsValidDay day }
 {
-    match date.try_added_with_options(duration, CONSTRAIN) {
+    match date_on(day, calendar).try_added_with_options(duration, CONSTRAIN) {
         Ok(sum) => sum.to_rata_die().to_i64_date(),
         Err(_) => 0,
     }
 }
 
-/// The sum of the parts of the difference of two dates, in years, and 0 where there is no difference.
-fn parts_between<A: AsCalendar + Copy>(from: &Date<A>, to: &Date<A>) -> i64
+/// The sum of the parts of the difference of the dates of two days, and 0 where there is no difference.
+fn parts_between<A: AsCalendar + Copy>(
+    from: i64,
+    to: i64,
+    largest_unit: DateDurationUnit,
+    calendar: A,
+) -> i64
 where
     A::Calendar: Calendar,
+    requires from { IsValidDay from }
+    requires to { IsValidDay to }
 {
-    match from.try_until_with_options(to, IN_YEARS) {
+    let options = DateDifferenceOptions {
+        largest_unit: Some(largest_unit),
+    };
+    match date_on(from, calendar).try_until_with_options(&date_on(to, calendar), options) {
         Ok(between) => {
             i64::from(between.years) + i64::from(between.months) + i64::from(between.days)
         }
@@ -95,41 +82,77 @@ where
     }
 }
 
-/// The sum of the days of the month of two dates.
-fn days_of_both<A: AsCalendar + Copy>(first: &Date<A>, second: &Date<A>) -> i64
+/// The sum of the days of the month of the dates of two days.
+fn days_of_both<A: AsCalendar + Copy>(first: i64, second: i64, calendar: A) -> i64
 where
     A::Calendar: Calendar,
+    requires first { IsValidDay first }
+    requires second { IsValidDay second }
 {
-    i64::from(first.day_of_month().0) + i64::from(second.day_of_month().0)
+    let first = date_on(first, calendar).day_of_month().0;
+    let second = date_on(second, calendar).day_of_month().0;
+    i64::from(first) + i64::from(second)
 }
 
-/// The day number of the other date of a pair, 547 to 821 years before.
-fn other_day(day: u64) -> u64
+/// The day of the other date of a pair, 547 to 821 years before.
+fn other_day(day: u64) -> i64
     requires { day < 900000 }
-    ensures { result < 900000 }
+    ensures { IsValidDay result }
 {
-    day * 2 / 3
+    (day * 2 / 3) as i64
 }
 
-/// The result of the operation on the date of a day number.
-fn result_on<A: AsCalendar + Copy>(operation: Operation, day: u64, calendar: A) -> i64
+/// A day about a million years earlier.
+fn far_before(day: u64) -> i64
+    requires { day < 900000 }
+    ensures { IsValidDay result }
+{
+    day as i64 - 365000000
+}
+
+/// A day about a million years later.
+fn far_after(day: u64) -> i64
+    requires { day < 900000 }
+    ensures { IsValidDay result }
+{
+    day as i64 + 364000000
+}
+
+/// The result of the operation on the date of a day.
+fn result_on<A: AsCalendar + Copy>(operation: Operation, turn_day: u64, calendar: A) -> i64
 where
     A::Calendar: Calendar,
-    requires { day < 900000 }
-    ensures { operation ≡ Operation.Day → result ≡ pos day }
+    requires { turn_day < 900000 }
+    ensures { operation ≡ Operation.Day → result ≡ pos turn_day }
 {
+    let day = turn_day as i64;
     match operation {
         Operation::Day => day_and_back(day, calendar),
-        Operation::AddYear => day_of_sum(date_on(day, calendar), ONE_YEAR),
-        Operation::AddMonth => day_of_sum(date_on(day, calendar), ONE_MONTH),
-        Operation::AddDay => day_of_sum(date_on(day, calendar), ONE_DAY),
-        Operation::Pair => days_of_both(
-            &date_on(other_day(day), calendar),
-            &date_on(day, calendar),
+        Operation::AddYear => day_of_sum(day, DateDuration::for_years(1), calendar),
+        Operation::AddMonth => day_of_sum(day, DateDuration::for_months(1), calendar),
+        Operation::AddDay => day_of_sum(day, DateDuration::for_days(1), calendar),
+        Operation::AddMonthsOfAYear => day_of_sum(day, DateDuration::for_months(12), calendar),
+        Operation::AddFarMonths => day_of_sum(
+            far_before(turn_day),
+            DateDuration::for_months(FAR_MONTHS),
+            calendar,
         ),
-        Operation::Difference => {
-            parts_between(&date_on(other_day(day), calendar), &date_on(day, calendar))
+        Operation::Pair => days_of_both(other_day(turn_day), day, calendar),
+        Operation::Difference => parts_between(
+            other_day(turn_day),
+            day,
+            DateDurationUnit::Years,
+            calendar,
+        ),
+        Operation::MonthsOverAYear => {
+            parts_between(day, day + 366, DateDurationUnit::Months, calendar)
         }
+        Operation::FarMonths => parts_between(
+            far_before(turn_day),
+            far_after(turn_day),
+            DateDurationUnit::Months,
+            calendar,
+        ),
     }
 }
 

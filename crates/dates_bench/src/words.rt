@@ -11,10 +11,18 @@ pub enum Operation {
     AddMonth,
     /// The addition of a day.
     AddDay,
+    /// The addition of twelve months.
+    AddMonthsOfAYear,
+    /// The addition of the months of about two million years.
+    AddFarMonths,
     /// The dates of two day numbers, some centuries apart.
     Pair,
     /// The difference in years between two such dates.
     Difference,
+    /// The difference in months between two dates a year apart.
+    MonthsOverAYear,
+    /// The difference in months between two dates about two million years apart.
+    FarMonths,
 }
 
 /// A calendar's name.
@@ -24,8 +32,24 @@ pub enum CalendarName {
     Iso,
     /// The Gregorian calendar.
     Gregorian,
+    /// The Buddhist calendar.
+    Buddhist,
+    /// The ROC calendar.
+    Roc,
+    /// The Japanese calendar.
+    Japanese,
     /// The Julian calendar.
     Julian,
+    /// The Coptic calendar.
+    Coptic,
+    /// The Ethiopian calendar.
+    Ethiopian,
+    /// The Indian calendar.
+    Indian,
+    /// The Persian calendar.
+    Persian,
+    /// The Hebrew calendar.
+    Hebrew,
 }
 
 /// An operation, the calendar of its dates, and how often it is done.
@@ -45,8 +69,12 @@ fn read_operation(word: &str) -> Option<Operation> {
         "year" => Some(Operation::AddYear),
         "month" => Some(Operation::AddMonth),
         "add-day" => Some(Operation::AddDay),
+        "add-months" => Some(Operation::AddMonthsOfAYear),
+        "add-far-months" => Some(Operation::AddFarMonths),
         "pair" => Some(Operation::Pair),
         "difference" => Some(Operation::Difference),
+        "months" => Some(Operation::MonthsOverAYear),
+        "far-months" => Some(Operation::FarMonths),
         _ => None,
     }
 }
@@ -55,7 +83,15 @@ fn read_calendar(word: &str) -> Option<CalendarName> {
     match word {
         "iso" => Some(CalendarName::Iso),
         "gregorian" => Some(CalendarName::Gregorian),
+        "buddhist" => Some(CalendarName::Buddhist),
+        "roc" => Some(CalendarName::Roc),
+        "japanese" => Some(CalendarName::Japanese),
         "julian" => Some(CalendarName::Julian),
+        "coptic" => Some(CalendarName::Coptic),
+        "ethiopic" => Some(CalendarName::Ethiopian),
+        "indian" => Some(CalendarName::Indian),
+        "persian" => Some(CalendarName::Persian),
+        "hebrew" => Some(CalendarName::Hebrew),
         _ => None,
     }
 }

@@ -342,7 +342,7 @@ where
         }
     }
 
-    /// The difference of [`Date::try_until_with_options`] with at most 8 look-ups of years; where months are
+    /// The difference of [`Date::try_until_with_options`]. It adds at most 8 ticks to the counter; where months are
     /// the largest unit, at most 8 and one more for each year between the dates.
     pub fn until_counted<B: AsCalendar<Calendar = A::Calendar>, L: Ledger>(
         &self,

@@ -15,9 +15,16 @@ mod tests;
 pub use any_calendar::{AnyCalendar, AnyDateInner};
 pub use cal_arith::Steps;
 pub use cal_base::{AsCalendar, Calendar, Iso, IsoDateInner, Ref};
+pub use cal_coptic::{Coptic, CopticDateInner, Ethiopian, EthiopianDateInner, EthiopianEraStyle};
 pub use cal_days::RataDie;
-pub use cal_gregory::{Gregorian, GregorianDateInner};
-pub use cal_julian::{Julian, JulianDateInner};
+pub use cal_gregory::{
+    Buddhist, BuddhistDateInner, EraStartDate, Gregorian, GregorianDateInner, Japanese,
+    JapaneseDateInner, JapaneseEras, JapaneseErasIter, Roc, RocDateInner,
+};
+pub use cal_hebrew::{Hebrew, HebrewDateInner};
+pub use cal_julian::{
+    Indian, IndianDateInner, Julian, JulianDateInner, Persian, PersianCorrections, PersianDateInner,
+};
 pub use cal_types::{
     CalendarAlgorithm, CyclicYear, DateAddError, DateAddOptions, DateDifferenceOptions,
     DateDuration, DateDurationUnit, DateError, DateFields, DateFromFieldsError,

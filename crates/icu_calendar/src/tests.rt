@@ -39,15 +39,7 @@ const IN_DAYS: DateDifferenceOptions = DateDifferenceOptions {
 
 /// Fields with a year, a plain month and a day alone.
 fn fields(year: i32, month: u8, day: u8) -> DateFields<'static> {
-    DateFields {
-        era: None,
-        era_year: None,
-        extended_year: Some(year),
-        month: Some(Month::new(month)),
-        month_code: None,
-        ordinal_month: None,
-        day: Some(day),
-    }
+    DateFields::from_year_month_day(year, Month::new(month), day)
 }
 
 fn duration(is_negative: bool, years: u32, months: u32, weeks: u32, days: u32) -> DateDuration {

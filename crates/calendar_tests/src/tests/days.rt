@@ -1,0 +1,137 @@
+//! Days of which the dates are known, and dates there and back.
+
+use super::*;
+use EthiopianEraStyle::{AmeteAlem, AmeteMihret};
+use icu_calendar::{
+    AsCalendar, Buddhist, Calendar, Coptic, Ethiopian, EthiopianEraStyle, Hebrew, Indian, Japanese,
+    Persian, PersianCorrections, RataDie, Roc,
+};
+
+/// What a date shows: its extended year, its month code, its day, and its era with the year in it.
+type Shown = (i32, &'static str, u8, &'static str, i32);
+
+/// Whether a date shows this.
+fn shows<A: AsCalendar + Copy>(date: &Date<A>, shown: Shown) -> bool
+where
+    A::Calendar: Calendar,
+{
+    let (extended_year, code, day, era, year) = shown;
+    match date.year().era() {
+        None => false,
+        Some(named) => {
+            named.era.as_str() == era
+                && named.year == year
+                && named.extended_year == extended_year
+                && date.month().standard_code.0.as_str() == code
+                && date.day_of_month().0 == day
+        }
+    }
+}
+
+/// The day that the fields of a day's date name in the calendar.
+fn day_from_fields<A: AsCalendar + Copy>(day: i64, calendar: A) -> Result<i64, DateFromFieldsError>
+where
+    A::Calendar: Calendar,
+{
+    let date = Date::from_rata_die(clamped(day), calendar);
+    let month_code = date.month().standard_code;
+    let fields = DateFields {
+        extended_year: Some(date.year().extended_year()),
+        month_code: Some(month_code.0.as_bytes()),
+        day: Some(date.day_of_month().0),
+        ..DateFields::default()
+    };
+    match Date::try_from_fields(fields, STRICT, calendar) {
+        Ok(named) => Ok(named.to_rata_die().to_i64_date()),
+        Err(cause) => Err(cause),
+    }
+}
+
+/// The day number, brought to the valid range.
+fn clamped(day: i64) -> RataDie {
+    RataDie::new(day.clamp(-365242499, 365242134))
+}
+
+/// That dates of days show what is known of them.
+fn assert_known<A: AsCalendar + Copy>(rt: &impl Abort, calendar: A, known: &[(i64, Shown)])
+where
+    A::Calendar: Calendar,
+{
+    for (day, shown) in known {
+        let date = Date::from_rata_die(clamped(*day), calendar);
+        assert!(rt; shows(&date, *shown), "of {day}: {date:?}");
+    }
+}
+
+#[test]
+fn known_days_have_known_dates(rt: HostRuntime) {
+    assert_known(&rt, Buddhist, &[(727443, (2535, "M09", 2, "be", 2535))]);
+    let roc = [
+        (738946, (113, "M03", 1, "roc", 113)),
+        (697978, (1, "M01", 1, "roc", 1)),
+        (697977, (0, "M12", 31, "broc", 1)),
+    ];
+    assert_known(&rt, Roc, &roc);
+    let japanese = [
+        (738946, (2024, "M03", 1, "reiwa", 6)),
+        (726103, (1989, "M01", 1, "showa", 64)),
+        (726110, (1989, "M01", 8, "heisei", 1)),
+        (683369, (1872, "M01", 1, "ce", 1872)),
+    ];
+    assert_known(&rt, Japanese::new(), &japanese);
+    assert_known(&rt, Coptic, &[(719781, (1687, "M13", 6, "am", 1687))]);
+    let mihret = [
+        (719164, (1962, "M04", 24, "am", 1962)),
+        (738774, (2015, "M13", 6, "am", 2015)),
+    ];
+    assert_known(&rt, Ethiopian::new_with_era_style(AmeteMihret), &mihret);
+    let alem = [(719164, (7462, "M04", 24, "aa", 7462))];
+    assert_known(&rt, Ethiopian::new_with_era_style(AmeteAlem), &alem);
+    let indian = [
+        (727443, (1914, "M06", 11, "shaka", 1914)),
+        (738946, (1945, "M12", 11, "shaka", 1945)),
+    ];
+    assert_known(&rt, Indian, &indian);
+    let persian = [
+        (775489, (1502, "M12", 30, "ap", 1502)),
+        (775490, (1503, "M01", 1, "ap", 1503)),
+    ];
+    assert_known(&rt, Persian::new(PersianCorrections::none()), &persian);
+    let hebrew = [
+        (738196, (5782, "M05L", 9, "am", 5782)),
+        (738438, (5783, "M01", 15, "am", 5783)),
+        (740029, (5787, "M05L", 10, "am", 5787)),
+        (740414, (5788, "M06", 10, "am", 5788)),
+        (740611, (5789, "M01", 1, "am", 5789)),
+    ];
+    assert_known(&rt, Hebrew, &hebrew);
+}
+
+/// That days near year 1, near today and at both ends of the valid range come back from their fields.
+fn assert_back<A: AsCalendar + Copy>(rt: &impl Abort, calendar: A)
+where
+    A::Calendar: Calendar,
+{
+    for first in [-1000i64, 0, 738000, -365242499, 365241134] {
+        for after in 0..=1000i64 {
+            let day = first.saturating_add(after);
+            assert_eq!(rt; day_from_fields(day, calendar), Ok(day), "of {day}");
+        }
+    }
+}
+
+#[test]
+fn days_come_back_from_their_fields(rt: HostRuntime) {
+    assert_back(&rt, Iso);
+    assert_back(&rt, Gregorian);
+    assert_back(&rt, Buddhist);
+    assert_back(&rt, Roc);
+    assert_back(&rt, Japanese::new());
+    assert_back(&rt, Julian);
+    assert_back(&rt, Coptic);
+    assert_back(&rt, Ethiopian::new_with_era_style(AmeteMihret));
+    assert_back(&rt, Ethiopian::new_with_era_style(AmeteAlem));
+    assert_back(&rt, Indian);
+    assert_back(&rt, Persian::new(PersianCorrections::none()));
+    assert_back(&rt, Hebrew);
+}
