@@ -1,5 +1,7 @@
 pub mod AnswerLemmas
 mod SplitLemmas
+mod TakingLemmas
+mod KeyLemmas
 mod FieldLemmas
 pub mod BagLemmas
 mod LineLemmas

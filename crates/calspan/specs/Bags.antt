@@ -56,6 +56,10 @@ with_field bag (MonthCode x) = if is_none bag.month_code then Some (record bag {
 with_field bag (OrdinalMonth x) = if is_none bag.ordinal_month then Some (record bag { ordinal_month = Some x }) else None
 with_field bag (Day x) = if is_none bag.day then Some (record bag { day = Some x }) else None
 
+-- the bag with the field of one more word, of a key that is rarely given
+abbrev pub with_rarer_word : Bag → List ℕ → Option Bag
+with_rarer_word bag word = option_and_then (with_field bag) (rarer_field_read word)
+
 -- the bag with the field of one more word
 abbrev pub with_word : Bag → List ℕ → Option Bag
 with_word bag word = option_and_then (with_field bag) (field_read word)

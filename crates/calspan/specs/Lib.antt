@@ -2,6 +2,7 @@ pub mod Words
 pub mod WordsLeft
 pub mod Command
 pub mod Status
+pub mod Taking
 pub mod Texts
 pub mod RequestSaid
 pub mod LineSaid

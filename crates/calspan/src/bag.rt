@@ -2,8 +2,11 @@
 ghost use Rattle.std.specs.Prelude.{◌≡◌, Some, None, MatchOption};
 ghost use Rattle.std.specs.Option.{option_map};
 ghost use Rattle.cal_types.specs.Bag.{bag_of};
-ghost use Rattle.calspan.specs.Bags.{field_read, rarer_field_read, with_field, no_fields, bag_before_to, bag_of_all};
-ghost use Rattle.calspan.specs.Reading.{IsReading};
+ghost use Rattle.cal_types.specs.Month.{month_read};
+ghost use Rattle.cal_types.specs.MonthParts.{month_parts};
+ghost use Rattle.calspan.specs.Words.{int_of, byte_of};
+ghost use Rattle.calspan.specs.Bags.{with_field, with_word, with_rarer_word, no_fields, bag_before_to, bag_of_all};
+ghost use Rattle.calspan.specs.Reading.{IsReading, next_word};
 ghost use Rattle.calspan.specs.WordsLeft.{words_left};
 
 use crate::words::{Words, byte, int};
@@ -22,40 +25,6 @@ enum Field<'a> {
 }
 
 ghost use Rattle.calspan.specs.FieldSaid.{field_said};
-
-// The field that a word KEY=VALUE names, of those that name a date beside an extended year, a month
-// and a day. None where the key isn't one of them, or the value isn't one of it.
-fn read_rarer_field<'a>(word: &'a [u8]) -> Option<Field<'a>>
-    ensures { option_map field_said result ≡ rarer_field_read word.now }
-{
-    if let Some(era) = word.strip_prefix(b"era=") {
-        return Some(Field::Era(era));
-    }
-    if let Some(year) = word.strip_prefix(b"era-year=") {
-        return Some(Field::EraYear(int(year)?));
-    }
-    if let Some(code) = word.strip_prefix(b"month-code=") {
-        return Some(Field::MonthCode(code));
-    }
-    let ordinal = word.strip_prefix(b"ordinal=")?;
-    Some(Field::OrdinalMonth(byte(ordinal)?))
-}
-
-// The field that a word KEY=VALUE names. None where the key isn't known, or the value isn't one of it.
-fn read_field<'a>(word: &'a [u8]) -> Option<Field<'a>>
-    ensures { option_map field_said result ≡ field_read word.now }
-{
-    if let Some(year) = word.strip_prefix(b"year=") {
-        return Some(Field::ExtendedYear(int(year)?));
-    }
-    if let Some(code) = word.strip_prefix(b"month=") {
-        return Some(Field::Month(Month::try_from_utf8(code).ok()?));
-    }
-    if let Some(day) = word.strip_prefix(b"day=") {
-        return Some(Field::Day(byte(day)?));
-    }
-    read_rarer_field(word)
-}
 
 // Sets a field that isn't set. None where it is, since a key stands at most once in a bag.
 fn set_field<'a>(fields: &mut DateFields<'a>, field: Field<'a>) -> Option<()>
@@ -79,6 +48,67 @@ fn set_field<'a>(fields: &mut DateFields<'a>, field: Field<'a>) -> Option<()>
     Some(())
 }
 
+// The number that the next word spells, with a sign or without one.
+fn next_int(words: &mut Words) -> Option<i32>
+    ensures { IsReading (next_word int_of (words_left words.old)) result (words_left words.new) }
+{
+    int(words.next()?)
+}
+
+// The number up to 255 that the next word spells.
+fn next_byte(words: &mut Words) -> Option<u8>
+    ensures { IsReading (next_word byte_of (words_left words.old)) result (words_left words.new) }
+{
+    byte(words.next()?)
+}
+
+// The month whose code the next word is.
+fn next_month(words: &mut Words) -> Option<Month>
+    ensures { let reading = next_word month_read (words_left words.old) in
+        IsReading reading (option_map month_parts result) (words_left words.new) }
+{
+    Month::try_from_utf8(words.next()?).ok()
+}
+
+// Sets the field that the next word KEY=VALUE names, of those that name a date beside an extended year, a month
+// and a day.
+fn set_next_rarer_field<'a>(fields: &mut DateFields<'a>, words: &mut Words<'a>) -> Option<()>
+    ensures { let reading = next_word (with_rarer_word (bag_of fields.old)) (words_left words.old) in
+        IsReading reading (option_map (λ _. bag_of fields.new) result) (words_left words.new) }
+{
+    if words.take_key(b"era=") {
+        return set_field(fields, Field::Era(words.next()?));
+    }
+    if words.take_key(b"era-year=") {
+        return set_field(fields, Field::EraYear(next_int(words)?));
+    }
+    if words.take_key(b"month-code=") {
+        return set_field(fields, Field::MonthCode(words.next()?));
+    }
+    if words.take_key(b"ordinal=") {
+        return set_field(fields, Field::OrdinalMonth(next_byte(words)?));
+    }
+    None
+}
+
+// Sets the field that the next word KEY=VALUE names. None where the key isn't known, the value isn't one of it,
+// or the field is set.
+fn set_next_field<'a>(fields: &mut DateFields<'a>, words: &mut Words<'a>) -> Option<()>
+    ensures { let reading = next_word (with_word (bag_of fields.old)) (words_left words.old) in
+        IsReading reading (option_map (λ _. bag_of fields.new) result) (words_left words.new) }
+{
+    if words.take_key(b"year=") {
+        return set_field(fields, Field::ExtendedYear(next_int(words)?));
+    }
+    if words.take_key(b"month=") {
+        return set_field(fields, Field::Month(next_month(words)?));
+    }
+    if words.take_key(b"day=") {
+        return set_field(fields, Field::Day(next_byte(words)?));
+    }
+    set_next_rarer_field(fields, words)
+}
+
 /// The fields that the words before `to` name; that word is taken too. None where there is no such word,
 /// a word before it isn't `KEY=VALUE` of a known key and a value of it, or a key stands twice.
 pub fn read_bag_to<'a>(words: &mut Words<'a>) -> Option<DateFields<'a>>
@@ -86,13 +116,10 @@ pub fn read_bag_to<'a>(words: &mut Words<'a>) -> Option<DateFields<'a>>
         IsReading reading (option_map bag_of result) (words_left words.new) }
 {
     let mut fields = DateFields::default();
-    while let Some(word) = words.next() {
-        if word == b"to".as_slice() {
-            return Some(fields);
-        }
-        set_field(&mut fields, read_field(word)?)?;
+    while !words.take(b"to") {
+        set_next_field(&mut fields, words)?;
     }
-    None
+    Some(fields)
 }
 
 /// The fields that all words that are left name. None where one of them isn't `KEY=VALUE` of a known key
@@ -101,8 +128,8 @@ pub fn read_bag<'a>(words: &mut Words<'a>) -> Option<DateFields<'a>>
     ensures { option_map bag_of result ≡ bag_of_all (Some no_fields) (words_left words.old) }
 {
     let mut fields = DateFields::default();
-    while let Some(word) = words.next() {
-        set_field(&mut fields, read_field(word)?)?;
+    while !words.is_done() {
+        set_next_field(&mut fields, words)?;
     }
     Some(fields)
 }

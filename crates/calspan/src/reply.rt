@@ -1,5 +1,6 @@
 //! The reply to a request: the texts of dates, durations and causes.
 ghost use Rattle.std.specs.Prelude.{◌≡◌, ◌+◌, ◌≤◌, ◌<◌, ◌++◌, ◌∷◌, [], ◌↔◌, IsTrue, length, List, ℕ, if◌then◌else◌};
+ghost use Rattle.std.specs.Fmt.{signed_decimal};
 ghost use Rattle.arrayvec.specs.ArrayVec.{array_vec_len};
 ghost use Rattle.cal_types.specs.declared.duration.DateDuration.{DateDuration};
 ghost use Rattle.icu_calendar.specs.AnySystem.{any_system, any_date};
@@ -10,10 +11,9 @@ ghost use Rattle.calspan.specs.Replies.{year_text, numbered_text, day_text, part
 ghost use Rattle.calspan.specs.RequestSaid.{request_said};
 
 use crate::request::Request;
-use crate::text::{Pending, push_all, push_number, push_signed, push_two_digits};
+use crate::text::{Pending, push_all, push_few, push_number, push_signed, push_two_digits};
 use cal_types::{DateDuration, DateFromFieldsError, YearInfo};
 use icu_calendar::{AnyCalendar, BagSide, Date, Span, SpanError, span};
-use itoa::Buffer;
 
 // A year of an era, or of a cycle.
 fn push_year(text: &mut Pending, year: &YearInfo)
@@ -23,7 +23,7 @@ fn push_year(text: &mut Pending, year: &YearInfo)
 {
     match year {
         YearInfo::Era(era) => {
-            push_all(text, era.era.as_bytes());
+            push_few(text, era.era.as_bytes());
             text.push(b'.');
             push_signed(text, i64::from(era.year));
         }
@@ -144,11 +144,11 @@ fn push_error(text: &mut Pending, error: SpanError)
 
 // A date: its extended year, the year that it is printed in, its month code, its day, and the text of
 // its day number.
-fn push_date(text: &mut Pending, date: &Date<AnyCalendar>, day_number: &[u8])
-    requires { array_vec_len text.old + length day_number.now + 70 ≤ 8192 }
-    ensures items { text.new.items ≡ text.old.items
-        ++ numbered_text (any_system date.now.calendar) (any_date date.now.calendar date.now.inner) day_number.now }
-    ensures len { array_vec_len text.new ≤ array_vec_len text.old + length day_number.now + 70 }
+fn push_date(text: &mut Pending, date: &Date<AnyCalendar>, number: i64)
+    requires { array_vec_len text.old + 92 ≤ 8192 }
+    ensures items { let c = any_system date.now.calendar in let t = any_date date.now.calendar date.now.inner in
+        text.new.items ≡ text.old.items ++ numbered_text c t (signed_decimal number) }
+    ensures len { array_vec_len text.new ≤ array_vec_len text.old + 92 }
 {
     let year = date.year();
     push_signed(text, i64::from(year.extended_year()));
@@ -159,20 +159,19 @@ fn push_date(text: &mut Pending, date: &Date<AnyCalendar>, day_number: &[u8])
     text.push(b'/');
     push_two_digits(text, date.day_of_month().0);
     text.push(b'@');
-    push_all(text, day_number);
+    push_signed(text, number);
 }
 
 // A date of the first calendar, and the same day in the second. Both have one day number.
 fn push_day(text: &mut Pending, date: &Date<AnyCalendar>, shown: &Date<AnyCalendar>)
-    requires { array_vec_len text.old + 181 ≤ 8192 }
+    requires { array_vec_len text.old + 185 ≤ 8192 }
     ensures items { let c = any_system date.now.calendar in let t = any_date date.now.calendar date.now.inner in
         let other = any_system shown.now.calendar in let u = any_date shown.now.calendar shown.now.inner in
         day_number other.list u ≡ day_number c.list t
         → text.new.items ≡ text.old.items ++ day_text c other t u }
-    ensures len { array_vec_len text.new ≤ array_vec_len text.old + 181 }
+    ensures len { array_vec_len text.new ≤ array_vec_len text.old + 185 }
 {
-    let mut buffer = Buffer::new();
-    let number = buffer.format(date.to_rata_die().to_i64_date()).as_bytes();
+    let number = date.to_rata_die().to_i64_date();
     push_date(text, date, number);
     text.push(b' ');
     push_date(text, shown, number);
@@ -180,7 +179,7 @@ fn push_day(text: &mut Pending, date: &Date<AnyCalendar>, shown: &Date<AnyCalend
 
 // Both days, and the difference.
 fn push_span(text: &mut Pending, span: &Span)
-    requires { array_vec_len text.old + 460 ≤ 8192 }
+    requires { array_vec_len text.old + 470 ≤ 8192 }
     ensures { (c shown : AnyCalendar) → HasCalendars c shown span.now
         → ShowsDays (any_system c) (any_system shown) (span_dates span.now)
         → text.new.items ≡ text.old.items ++ span_text (any_system c) (any_system shown) (span_dates span.now) }

@@ -1,8 +1,10 @@
 //! What a request line asks.
-ghost use Rattle.std.specs.Prelude.{◌≡◌};
+ghost use Rattle.std.specs.Prelude.{◌≡◌, true};
+ghost use Rattle.std.specs.List.{list_all};
 ghost use Rattle.std.specs.Option.{option_map};
 ghost use Rattle.calspan.specs.Words.{words_of};
 ghost use Rattle.calspan.specs.WordsLeft.{words_left};
+ghost use Rattle.calspan.specs.Taking.{is_no_space};
 ghost use Rattle.calspan.specs.Reading.{IsReading, next_word};
 ghost use Rattle.calspan.specs.Requests.{is_unbuilt_name, calendar_named, unit_named, overflow_named, missing_fields_named, fixed_word, header_read, request_read};
 
@@ -54,12 +56,10 @@ ghost use Rattle.calspan.specs.RequestSaid.{header_said, request_said};
 
 // A word that says nothing of its own.
 fn next_is(words: &mut Words, name: &[u8]) -> Option<()>
+    requires { list_all is_no_space name.now ≡ true }
     ensures { IsReading (next_word (fixed_word name.now) (words_left words.old)) result (words_left words.new) }
 {
-    match words.next() {
-        Some(word) if word == name => Some(()),
-        _ => None,
-    }
+    if words.take(name) { Some(()) } else { None }
 }
 
 // Whether a word is the program name of a calendar that isn't built.
@@ -86,16 +86,16 @@ fn is_unbuilt(word: &[u8]) -> bool
 fn next_calendar(words: &mut Words) -> Option<CalendarName>
     ensures { IsReading (next_word calendar_named (words_left words.old)) result (words_left words.new) }
 {
+    if words.take(b"iso") {
+        return Some(CalendarName::Built(AnyCalendar::Iso(Iso)));
+    }
+    if words.take(b"gregorian") {
+        return Some(CalendarName::Built(AnyCalendar::Gregorian(Gregorian)));
+    }
+    if words.take(b"julian") {
+        return Some(CalendarName::Built(AnyCalendar::Julian(Julian)));
+    }
     match words.next() {
-        Some(word) if word == b"iso".as_slice() => {
-            Some(CalendarName::Built(AnyCalendar::Iso(Iso)))
-        }
-        Some(word) if word == b"gregorian".as_slice() => {
-            Some(CalendarName::Built(AnyCalendar::Gregorian(Gregorian)))
-        }
-        Some(word) if word == b"julian".as_slice() => {
-            Some(CalendarName::Built(AnyCalendar::Julian(Julian)))
-        }
         Some(word) if is_unbuilt(word) => Some(CalendarName::Unbuilt),
         _ => None,
     }
@@ -104,35 +104,54 @@ fn next_calendar(words: &mut Words) -> Option<CalendarName>
 fn next_unit(words: &mut Words) -> Option<Option<DateDurationUnit>>
     ensures { IsReading (next_word unit_named (words_left words.old)) result (words_left words.new) }
 {
-    match words.next() {
-        Some(word) if word == b"years".as_slice() => Some(Some(DateDurationUnit::Years)),
-        Some(word) if word == b"months".as_slice() => Some(Some(DateDurationUnit::Months)),
-        Some(word) if word == b"weeks".as_slice() => Some(Some(DateDurationUnit::Weeks)),
-        Some(word) if word == b"days".as_slice() => Some(Some(DateDurationUnit::Days)),
-        Some(word) if word == b"none".as_slice() => Some(None),
-        _ => None,
+    if words.take(b"years") {
+        return Some(Some(DateDurationUnit::Years));
+    }
+    if words.take(b"months") {
+        return Some(Some(DateDurationUnit::Months));
+    }
+    if words.take(b"weeks") {
+        return Some(Some(DateDurationUnit::Weeks));
+    }
+    if words.take(b"days") {
+        return Some(Some(DateDurationUnit::Days));
+    }
+    if words.take(b"none") {
+        Some(None)
+    } else {
+        None
     }
 }
 
 fn next_overflow(words: &mut Words) -> Option<Option<Overflow>>
     ensures { IsReading (next_word overflow_named (words_left words.old)) result (words_left words.new) }
 {
-    match words.next() {
-        Some(word) if word == b"constrain".as_slice() => Some(Some(Overflow::Constrain)),
-        Some(word) if word == b"reject".as_slice() => Some(Some(Overflow::Reject)),
-        Some(word) if word == b"none".as_slice() => Some(None),
-        _ => None,
+    if words.take(b"constrain") {
+        return Some(Some(Overflow::Constrain));
+    }
+    if words.take(b"reject") {
+        return Some(Some(Overflow::Reject));
+    }
+    if words.take(b"none") {
+        Some(None)
+    } else {
+        None
     }
 }
 
 fn next_missing_fields(words: &mut Words) -> Option<Option<MissingFieldsStrategy>>
     ensures { IsReading (next_word missing_fields_named (words_left words.old)) result (words_left words.new) }
 {
-    match words.next() {
-        Some(word) if word == b"reject".as_slice() => Some(Some(MissingFieldsStrategy::Reject)),
-        Some(word) if word == b"ecma".as_slice() => Some(Some(MissingFieldsStrategy::Ecma)),
-        Some(word) if word == b"none".as_slice() => Some(None),
-        _ => None,
+    if words.take(b"reject") {
+        return Some(Some(MissingFieldsStrategy::Reject));
+    }
+    if words.take(b"ecma") {
+        return Some(Some(MissingFieldsStrategy::Ecma));
+    }
+    if words.take(b"none") {
+        Some(None)
+    } else {
+        None
     }
 }
 

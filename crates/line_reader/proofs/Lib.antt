@@ -1,3 +1,4 @@
+pub mod FirstLemmas
 pub mod PartLemmas
 pub mod PrefixLemmas
 mod BufferLemmas

@@ -1,15 +1,13 @@
 -- A look for an LF.
-use Rattle.std.proofs.Common.{◌≡◌, ℕ, ◌+◌, ◌<◌, Bool, true, false, cond, List, [], ◌∷◌, ◌++◌, length, take, get_or, Option, Some, None, position, refl, ◌∙◌, sym, ap, subst, eqb, ◌==◌, arith, ltb}
-use Rattle.std.specs.List.{position_or_len}
+use Rattle.std.proofs.Common.{◌≡◌, ℕ, ◌+◌, ◌<◌, List, [], ◌∷◌, ◌++◌, take, get_or, Some, None, position, ◌∙◌, sym, ap, subst, eqb, ◌==◌, arith}
 use Rattle.std.proofs.lemmas.List.{append_assoc, take_more, get_or-take, length-take}
 use Rattle.std.proofs.lemmas.List.Quantifiers.{position-Some}
-use Rattle.std.proofs.lemmas.List.Sums.{fails_before_first}
 use Rattle.std.proofs.lemmas.Bool.{eqb-true}
-use borrow.Author.Tests.{ltb-false}
 use Rattle.line_reader.specs.declared.buffer.LineBuffer.{LineBuffer}
 use Rattle.line_reader.specs.Buffer.{Holds}
 use Rattle.line_reader.specs.Lines.{closed_lines, open_line}
 use Rattle.line_reader.specs.Looks.{EndsLine, GoesOn}
+use Rattle.line_reader.proofs.FirstLemmas.{none_passes}
 use Rattle.line_reader.proofs.PartLemmas.{HasNoLf, closed_lines-push_lf, open_line-push_lf, closed_lines-append, open_line-append}
 
 -- bytes without an LF
@@ -19,15 +17,8 @@ goes_on old new bytes before none h more = record {
   closed = closed_lines-append before bytes none;
 }
 
-cond_none : (b : Bool) (n : ℕ) → ◌≡◌ {A = Option ℕ} (cond b (Some n) None) None → b ≡ false
-cond_none true n h = cc
-cond_none false n h = refl
-
 pub HasNoLf-position : (bytes : List ℕ) → position (λ (b : ℕ). b == 10) bytes ≡ None → HasNoLf bytes
-HasNoLf-position bytes h =
-    let test : ℕ → Bool = λ b. b == 10 in
-    let past = ltb-false (position_or_len test bytes) (length bytes) (cond_none (ltb (position_or_len test bytes) (length bytes)) (position_or_len test bytes) h) in
-    record { none = λ k lt. fails_before_first test bytes k 0 (omega (arith, past)) }
+HasNoLf-position bytes h = record { none = none_passes (λ (b : ℕ). b == 10) bytes h }
 
 -- bytes up to the first LF
 pub ends_line : (old new : LineBuffer) (bytes before : List ℕ) (n : ℕ) → position (λ (b : ℕ). b == 10) bytes ≡ Some n → Holds old (open_line before)

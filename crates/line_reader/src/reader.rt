@@ -4,6 +4,7 @@ ghost use Rattle.line_reader.specs.Looks.{Looks};
 
 use crate::buffer::LineBuffer;
 use byte_io::Source;
+use memchr::memchr;
 
 /// The most bytes that are read: 16 MiB.
 pub const LIMIT: usize = 16777216;
@@ -52,7 +53,7 @@ fn first_line_feed(bytes: &[u8]) -> Option<usize>
     ensures value { result ≡ position (λ b. b == 10) bytes.now }
     ensures within { IfSome result (λ i. i < length bytes.now) }
 {
-    bytes.iter().position(|b| *b == b'\n')
+    memchr(b'\n', bytes)
 }
 
 // Puts the bytes up to an LF into the line, and says how many they are with it, if one is there.

@@ -1,4 +1,4 @@
-use Rattle.std.proofs.Common.{◌≡◌, ℕ, List, [], ◌∷◌, ◌++◌, FitsSigned, to_z, of_z, w32, w64, rules, refl, ap, ◌∙◌, append_assoc, arith}
+use Rattle.std.proofs.Common.{◌≡◌, ℕ, List, [], ◌∷◌, ◌++◌, FitsSigned, to_z, of_z, w32, w64, rules, refl, ap, ◌∙◌, append_assoc, arith, to_z-of_z}
 use Rattle.std.specs.Fmt.{signed_decimal}
 use Rattle.cal_days.proofs.Signed.{signed}
 use Rattle.cal_types.specs.Year.{extended_year_of}
@@ -21,8 +21,8 @@ pushed : (old a y m d n s t u v w x z q all : List ℕ) → s ≡ old ++ a → t
     → all ≡ old ++ (a ++ 47 ∷ y ++ 47 ∷ m ++ 47 ∷ d ++ 64 ∷ n)
 pushed old a y m d n s t u v w x z q all e1 e2 e3 e4 e5 e6 e7 e8 e9 = rw (e9, e8, e7, e6, e5, e4, e3, e2, e1) (simp append_assoc)
 
-same_parts : (a y m d b z o e n : List ℕ) → a ≡ b → y ≡ z → m ≡ o → d ≡ e → a ++ 47 ∷ y ++ 47 ∷ m ++ 47 ∷ d ++ 64 ∷ n ≡ b ++ 47 ∷ z ++ 47 ∷ o ++ 47 ∷ e ++ 64 ∷ n
-same_parts a y m d b z o e n f g h i = rw (f, g, h, i) refl
+same_parts : (a y m d n b z o e p : List ℕ) → a ≡ b → y ≡ z → m ≡ o → d ≡ e → n ≡ p → a ++ 47 ∷ y ++ 47 ∷ m ++ 47 ∷ d ++ 64 ∷ n ≡ b ++ 47 ∷ z ++ 47 ∷ o ++ 47 ∷ e ++ 64 ∷ p
+same_parts a y m d n b z o e p f g h i j = rw (f, g, h, i, j) refl
 
 pub returns-clause-items : goal.returns-clause-items
 returns-clause-items c =
@@ -38,5 +38,6 @@ returns-clause-items c =
     let printed = ap year_text c.year-year.ensures in
     let code = c.as_bytes.ensures.value ∙ ap (λ (p : MonthInfoParts). p.standard_code) c.month.ensures in
     let day = ap two_digits c.day_of_month.ensures in
-    pushed old _ _ _ _ _ _ _ _ _ _ _ _ _ c.push_all-2.new.text.items c.push_signed.ensures.items c.push.ensures.items c.push_year.ensures.items c.push-2.ensures.items c.push_all.ensures c.push-3.ensures.items c.push_two_digits.ensures c.push-4.ensures.items c.push_all-2.ensures
-    ∙ ap (λ (x : List ℕ). old ++ x) (same_parts _ _ _ _ _ _ _ _ c.args.day_number.now extended printed code day)
+    let number = ap signed_decimal (to_z-of_z c.ranges.number) in
+    pushed old _ _ _ _ _ _ _ _ _ _ _ _ _ c.push_signed-2.new.text.items c.push_signed.ensures.items c.push.ensures.items c.push_year.ensures.items c.push-2.ensures.items c.push_all.ensures c.push-3.ensures.items c.push_two_digits.ensures c.push-4.ensures.items c.push_signed-2.ensures.items
+    ∙ ap (λ (x : List ℕ). old ++ x) (same_parts _ _ _ _ _ _ _ _ _ _ extended printed code day number)

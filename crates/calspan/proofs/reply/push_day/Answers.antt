@@ -17,7 +17,7 @@ returns-clause-items c same =
     let old = c.args.text.now.items in
     let first = any_system c.args.date.now.calendar in let t = any_date c.args.date.now.calendar c.args.date.now.inner in
     let second = any_system c.args.shown.now.calendar in let u = any_date c.args.shown.now.calendar c.args.shown.now.inner in
-    let kept : to_z w64 (of_z w64 c.to_i64_date.result) ≡ c.to_i64_date.result = omega (arith, signed) in
-    let number = c.as_bytes-number.ensures.value ∙ (c.format.ensures.text ∙ ap signed_decimal (kept ∙ (c.to_i64_date.ensures.value ∙ c.to_rata_die.ensures))) in
+    let kept : to_z w64 (of_z w64 c.to_i64_date-number.result) ≡ c.to_i64_date-number.result = omega (arith, signed) in
+    let number = ap signed_decimal (kept ∙ (c.to_i64_date-number.ensures.value ∙ c.to_rata_die.ensures)) in
     pushed old _ _ _ _ c.push_date-2.new.text.items c.push_date.ensures.items c.push.ensures.items c.push_date-2.ensures.items
     ∙ ap (λ (x : List ℕ). old ++ x) (same_texts _ _ _ _ (ap (numbered_text first t) number) (ap (numbered_text second u) (number ∙ ap signed_decimal (sym same))))
