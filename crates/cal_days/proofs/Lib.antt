@@ -7,4 +7,5 @@ pub mod JulianLemmas
 pub mod CopticLemmas
 pub mod MoonLemmas
 pub mod HebrewLemmas
+pub mod IslamicLemmas
 pub mod PersianLemmas

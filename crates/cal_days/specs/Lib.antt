@@ -6,5 +6,6 @@ pub mod March
 pub mod Julian
 pub mod Coptic
 pub mod Hebrew
+pub mod Islamic
 pub mod Molad
 pub mod Persian

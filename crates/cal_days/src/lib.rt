@@ -9,6 +9,7 @@
 pub mod coptic;
 pub mod gregorian;
 pub mod hebrew;
+pub mod islamic;
 pub mod julian;
 pub mod persian;
 pub mod ranges;

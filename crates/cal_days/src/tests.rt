@@ -1,8 +1,8 @@
 //! Known days and years, from published conversion tables.
 
 use crate::gregorian::{is_leap_year, year_from_fixed, year_start};
-use crate::julian;
 use crate::rata_die::RataDie;
+use crate::{islamic, julian};
 
 #[test]
 fn years_start_on_known_days(rt: HostRuntime) {
@@ -128,6 +128,55 @@ fn days_lie_in_known_julian_years(rt: HostRuntime) {
             julian::year_from_fixed(RataDie::new(day)),
             year,
             "at {day}"
+        );
+    }
+}
+
+#[test]
+fn tabular_islamic_years_start_on_known_days(rt: HostRuntime) {
+    let cases = [
+        (1, 227015, false),
+        (0, 226661, false),
+        (2, 227369, true),
+        (3, 227724, false),
+        (1445, 738720, true),
+        (1446, 739075, false),
+    ];
+    for (year, day, is_leap) in cases {
+        assert!(rt; -8000000 <= year && year <= 8000000);
+        let friday = islamic::year_start(year, islamic::FRIDAY_EPOCH);
+        let thursday = islamic::year_start(year, islamic::THURSDAY_EPOCH);
+        assert_eq!(rt; friday.to_i64_date(), day, "at {year}");
+        assert_eq!(rt; thursday.to_i64_date(), day - 1, "at {year}");
+        assert_eq!(rt; islamic::is_leap_year(year), is_leap, "at {year}");
+    }
+}
+
+#[test]
+fn mean_islamic_years_are_rounded_toward_year_1(rt: HostRuntime) {
+    let cases = [
+        (1, 227014, 227015),
+        (2, 227368, 227369),
+        (31, 237645, 237646),
+        (0, 226660, 226661),
+        (-1, 226306, 226307),
+        (-2, 225951, 225952),
+        (-29, 216383, 216384),
+    ];
+    for (year, eve, day) in cases {
+        assert!(rt; -8000000 <= year && year <= 8000000);
+        assert_eq!(rt; islamic::mean_start(year).to_i64_date(), day, "at {year}");
+        assert!(rt; -365242499 <= eve && eve <= 365242134);
+        assert!(rt; -365242499 <= day && day <= 365242134);
+        assert_eq!(rt;
+            islamic::mean_year_from_fixed(RataDie::new(day)),
+            year,
+            "at {day}"
+        );
+        assert_eq!(rt;
+            islamic::mean_year_from_fixed(RataDie::new(eve)),
+            year - 1,
+            "on {eve}"
         );
     }
 }

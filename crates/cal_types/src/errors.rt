@@ -188,6 +188,36 @@ pub enum TinyStrError {
     NonAscii,
 }
 
+/// A table of years isn't accepted.
+#[derive(Clone, Copy, Debug, PartialEq, Eq, Error)]
+#[error("Row {row} of the table breaks its rule on {part}")]
+pub struct TableFault {
+    /// The first row that breaks a rule, counted from 1.
+    pub row: usize,
+    /// The first rule that this row breaks.
+    pub part: TablePart,
+}
+
+/// What a row of a table of years is tested for, in this order.
+#[derive(Clone, Copy, Debug, PartialEq, Eq, Error)]
+pub enum TablePart {
+    /// The row's year is in range and follows the row before.
+    #[error("year")]
+    Year,
+    /// The row starts where the year before it ends.
+    #[error("join")]
+    Join,
+    /// The last row ends where the computed year after it starts.
+    #[error("end")]
+    End,
+    /// Of each three years in a row one has a leap month.
+    #[error("leap")]
+    Leap,
+    /// The row's year is one that the rule without the table makes a leap year.
+    #[error("rule")]
+    Rule,
+}
+
 /// The range's fields as they are.
 impl From<RangeError> for DateError {
     ghost use Rattle.cal_types.specs.declared.errors.DateError.TheVariants.{Range};

@@ -23,7 +23,7 @@ pub use duration::{DateDuration, DateDurationUnit};
 pub use errors::{
     DateAddError, DateError, DateFromFieldsError, DateNewError, EcmaReferenceYearError,
     LunisolarDateError, MismatchedCalendarError, MonthCodeParseError, MonthError, RangeError,
-    TinyStrError, UnknownEraError,
+    TableFault, TablePart, TinyStrError, UnknownEraError,
 };
 pub use fields::DateFields;
 pub use month::Month;

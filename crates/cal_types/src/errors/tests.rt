@@ -135,6 +135,27 @@ fn range_errors_print_their_texts(rt: HostRuntime) -> Result<(), Fail> {
 }
 
 #[test]
+fn table_faults_print_their_texts(rt: HostRuntime) -> Result<(), Fail> {
+    for (part, want) in [
+        (TablePart::Year, "year"),
+        (TablePart::Join, "join"),
+        (TablePart::End, "end"),
+        (TablePart::Leap, "leap"),
+        (TablePart::Rule, "rule"),
+    ] {
+        let text = format!(in rt.alloc(); "{part}")?;
+        assert_eq!(rt; text.as_str(), want);
+    }
+    let fault = TableFault {
+        row: 2,
+        part: TablePart::Join,
+    };
+    let text = format!(in rt.alloc(); "{fault}")?;
+    assert_eq!(rt; text.as_str(), "Row 2 of the table breaks its rule on join");
+    Ok(())
+}
+
+#[test]
 fn smaller_errors_become_larger_ones(rt: HostRuntime) {
     assert_eq!(rt;
         DateNewError::from(UnknownEraError),
