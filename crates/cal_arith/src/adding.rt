@@ -1,11 +1,11 @@
 //! Adding a duration to a date, as ECMAScript Temporal's NonISODateAdd.
 
 ghost use Rattle.std.specs.Prelude.{◌≡◌, ◌+◌, ◌*◌, ◌≤◌, ◌+ℤ◌, pos, neg_ℤ, true, false, IfSome, IfNone, IfOk};
-ghost use Rattle.cal_days.specs.Day.{IsBetween, IsFieldYear, is_field_year};
+ghost use Rattle.cal_days.specs.Day.{IsBetween, IsFieldYear, IsRuleYear, is_field_year};
 ghost use Rattle.cal_model.specs.CalendarList.{day_number, month_length, date};
 ghost use Rattle.cal_model.specs.Difference.{toward};
 ghost use Rattle.cal_model.specs.Adding.{is_addable, IsValidOn, IsSumFromMonth, IsSum};
-ghost use Rattle.cal_arith.specs.Given.{HasMonth};
+ghost use Rattle.cal_arith.specs.Given.{HasMonth, IsGiven};
 ghost use Rattle.cal_arith.specs.Dates.{answer_of, date_of, Belongs, IsGivenDate};
 ghost use Rattle.cal_arith.specs.Directions.{is_backward};
 
@@ -153,6 +153,19 @@ fn field_year(year: i32, years: u32, direction: Direction, shift: i32) -> Option
     }
 }
 
+/// The year of an extended year. A given year that has this number isn't looked up again.
+fn looked_up<C: Years>(given: C::YearInfo, extended_year: i32, cal: &C) -> C::YearInfo
+    requires given { IsGiven (C.years cal.now) given }
+    requires range { IsRuleYear extended_year }
+    ensures { result ≡ (C.years cal.now).year_of extended_year }
+{
+    if cal.extended_from_year_info(given) == extended_year {
+        given
+    } else {
+        cal.year_info_from_extended(extended_year)
+    }
+}
+
 /// The date with a duration added, or the first fault. The limit on years is tested on the year with the
 /// shift added.
 pub(crate) fn added<C: Years>(
@@ -176,7 +189,7 @@ pub(crate) fn added<C: Years>(
     let year = cal.extended_from_year_info(from.year);
     let reached = match field_year(year, duration.years, direction, shift) {
         None => return Err(DateAddError::Overflow),
-        Some(number) => cal.year_info_from_extended(number),
+        Some(number) => looked_up(from.year, number, cal),
     };
     match cal.ordinal_in_other_year(from.year, from.month, reached, overflow) {
         None => Err(DateAddError::MonthNotInYear),

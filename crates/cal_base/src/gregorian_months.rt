@@ -12,11 +12,10 @@ pub fn days_in_month(leap: bool, month: u8) -> u8
     requires { (1 ≤ month) × (month ≤ 12) }
     ensures { result ≡ gregorian_month_length leap month }
 {
-    match month {
-        2 if leap => 29,
-        2 => 28,
-        4 | 6 | 9 | 11 => 30,
-        _ => 31,
+    if month == 2 {
+        28 + u8::from(leap)
+    } else {
+        30 + (month + month / 8) % 2
     }
 }
 

@@ -47,11 +47,7 @@ impl IsoYear {
         requires { (1 ≤ month) × (month ≤ 12) }
         ensures { result ≡ gregorian_month_length (gregorian_leap self.number) month }
     {
-        if month == 2 {
-            days_in_month(self.is_leap(), month)
-        } else {
-            days_in_month(false, month)
-        }
+        days_in_month(month == 2 && self.is_leap(), month)
     }
 }
 

@@ -85,11 +85,7 @@ impl JulianYear {
         requires month { (1 ≤ month) × (month ≤ 12) }
         ensures { result ≡ gregorian_month_length (julian_leap self.extended_year) month }
     {
-        if month == 2 {
-            days_in_month(self.is_leap(), month)
-        } else {
-            days_in_month(false, month)
-        }
+        days_in_month(month == 2 && self.is_leap(), month)
     }
 }
 

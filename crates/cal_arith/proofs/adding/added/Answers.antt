@@ -11,10 +11,10 @@ use Rattle.cal_arith.specs.Given.{IsGiven}
 use Rattle.cal_arith.specs.Directions.{is_backward}
 use Rattle.cal_arith.proofs.GivenLemmas.{given_by}
 use Rattle.cal_arith.proofs.adding.added.Given.{Over}
-use Rattle.cal_arith.proofs.adding.added.Goals.{After-year_info_from_extended-reached}
+use Rattle.cal_arith.proofs.adding.added.Goals.{After-looked_up-reached}
 use Rattle.cal_arith.proofs.adding.added.Goals as goal
 
-module _ (g : Over) (c : After-year_info_from_extended-reached g) where
+module _ (g : Over) (c : After-looked_up-reached g) where
   -- the year that the years lead to
   abbrev target : ℤ
   target = (g.C.YearShapes.years c.args.cal.now).extended c.args.from.year +ℤ toward c.args.duration.is_negative c.args.duration.years
@@ -42,17 +42,17 @@ module _ (g : Over) (c : After-year_info_from_extended-reached g) where
   in_range : IsRuleYear target
   in_range = omega (arith, signed, in_field, c.requires.shift)
 
-  reached : IsGiven (g.C.YearShapes.years c.args.cal.now) c.year_info_from_extended-reached.result × ((g.C.YearShapes.years c.args.cal.now).extended c.year_info_from_extended-reached.result ≡ target)
+  reached : IsGiven (g.C.YearShapes.years c.args.cal.now) c.looked_up-reached.result × ((g.C.YearShapes.years c.args.cal.now).extended c.looked_up-reached.result ≡ target)
   reached =
       let number : c.in-Some.number ≡ target = some.0 ∙ ap (λ (y : ℤ). y +ℤ toward c.args.duration.is_negative c.args.duration.years) same_year in
-      given_by (g.C.YearShapes.years c.args.cal.now) (g.met.C.YearShapes.numbered c.args.cal.now) _ _ target c.year_info_from_extended-reached.ensures
+      given_by (g.C.YearShapes.years c.args.cal.now) (g.met.C.YearShapes.numbered c.args.cal.now) _ _ target c.looked_up-reached.ensures
       (omega (arith, signed, number, in_range)) in_range
 
-  spot_there : (r : Option ℕ) → spot (g.C.YearShapes.years c.args.cal.now).list ((g.C.YearShapes.years c.args.cal.now).extended c.year_info_from_extended-reached.result) (month_at (g.C.YearShapes.years c.args.cal.now).list ((g.C.YearShapes.years c.args.cal.now).extended c.args.from.year) c.args.from.month) c.args.overflow ≡ r → spot (g.C.YearShapes.years c.args.cal.now).list target (month_at (g.C.YearShapes.years c.args.cal.now).list ((g.C.YearShapes.years c.args.cal.now).extended c.args.from.year) c.args.from.month) c.args.overflow ≡ r
+  spot_there : (r : Option ℕ) → spot (g.C.YearShapes.years c.args.cal.now).list ((g.C.YearShapes.years c.args.cal.now).extended c.looked_up-reached.result) (month_at (g.C.YearShapes.years c.args.cal.now).list ((g.C.YearShapes.years c.args.cal.now).extended c.args.from.year) c.args.from.month) c.args.overflow ≡ r → spot (g.C.YearShapes.years c.args.cal.now).list target (month_at (g.C.YearShapes.years c.args.cal.now).list ((g.C.YearShapes.years c.args.cal.now).extended c.args.from.year) c.args.from.month) c.args.overflow ≡ r
   spot_there r here = subst (λ (x : ℤ). spot (g.C.YearShapes.years c.args.cal.now).list x (month_at (g.C.YearShapes.years c.args.cal.now).list ((g.C.YearShapes.years c.args.cal.now).extended c.args.from.year) c.args.from.month) c.args.overflow ≡ r) reached.1 here
 
-pub year_info_from_extended-reached-requires : goal.year_info_from_extended-reached-requires
-year_info_from_extended-reached-requires g c =
+pub looked_up-reached-requires-clause-range : goal.looked_up-reached-requires-clause-range
+looked_up-reached-requires-clause-range g c =
     let same : to_z w32 (of_z w32 c.extended_from_year_info-year.result) ≡ (g.C.YearShapes.years c.args.cal.now).extended c.args.from.year = omega (arith, signed) in
     let same_shift : to_z w32 (of_z w32 c.args.shift) ≡ c.args.shift = omega (arith, signed) in
     let field = is_between-true (neg_ℤ (pos 1040000)) (pos 1040000) (to_z w32 (of_z w32 c.extended_from_year_info-year.result) +ℤ toward (is_backward c.from_sign-direction.result) c.args.duration.years +ℤ to_z w32 (of_z w32 c.args.shift)) c.in-Some.ensures.some.1 in
@@ -60,12 +60,12 @@ year_info_from_extended-reached-requires g c =
     omega (arith, signed, number, field, same_shift, c.requires.shift)
 
 pub ordinal_in_other_year-requires-clause-other : goal.ordinal_in_other_year-requires-clause-other
-ordinal_in_other_year-requires-clause-other g c = (reached g (goal.at.ordinal_in_other_year-requires-clause-other g c).After-year_info_from_extended-reached).0
+ordinal_in_other_year-requires-clause-other g c = (reached g (goal.at.ordinal_in_other_year-requires-clause-other g c).After-looked_up-reached).0
 
 pub months_away-there-requires : goal.months_away-there-requires
 months_away-there-requires g c =
-    let s = (goal.at.months_away-there-requires g c).After-year_info_from_extended-reached in
-    let list = (g.C.YearShapes.years c.args.cal.now).list in let y = (g.C.YearShapes.years c.args.cal.now).extended c.year_info_from_extended-reached.result in
+    let s = (goal.at.months_away-there-requires g c).After-looked_up-reached in
+    let list = (g.C.YearShapes.years c.args.cal.now).list in let y = (g.C.YearShapes.years c.args.cal.now).extended c.looked_up-reached.result in
     let range : IsBetween (neg_ℤ (pos 2080000)) (pos 2080000) (target g s) = omega (arith, signed, in_field g s, c.requires.shift) in
     record {
       range = subst (IsBetween (neg_ℤ (pos 2080000)) (pos 2080000)) (sym (reached g s).1) range;
@@ -78,7 +78,7 @@ months_away-there-requires g c =
 
 pub returns-in-None-ordinal_in_other_year-clause-sum : goal.returns-in-None-ordinal_in_other_year-clause-sum
 returns-in-None-ordinal_in_other_year-clause-sum g c =
-    let s = (goal.at.returns-in-None-ordinal_in_other_year-clause-sum g c).After-year_info_from_extended-reached in
+    let s = (goal.at.returns-in-None-ordinal_in_other_year-clause-sum g c).After-looked_up-reached in
     let there = spot_there g s None (sym c.ordinal_in_other_year.ensures ∙ c.in-None-ordinal_in_other_year.is) in
     let addable : is_addable c.args.duration ≡ true = sym c.can_be_added.ensures ∙ c.if-not-can_be_added.false in
     let field = field_is g s in
@@ -86,12 +86,12 @@ returns-in-None-ordinal_in_other_year-clause-sum g c =
 
 pub returns-in-Some-ordinal_in_other_year-clause-sum : goal.returns-in-Some-ordinal_in_other_year-clause-sum
 returns-in-Some-ordinal_in_other_year-clause-sum g c =
-    let s = (goal.at.returns-in-Some-ordinal_in_other_year-clause-sum g c).After-year_info_from_extended-reached in
+    let s = (goal.at.returns-in-Some-ordinal_in_other_year-clause-sum g c).After-looked_up-reached in
     let list = (g.C.YearShapes.years c.args.cal.now).list in
     let place = c.in-Some-ordinal_in_other_year.place in
     let there = spot_there g s (Some place) (sym c.ordinal_in_other_year.ensures ∙ c.in-Some-ordinal_in_other_year.is) in
     let z = (g.C.YearShapes.years c.args.cal.now).extended c.months_away-there.result.year in let j = c.months_away-there.result.month in
-    let signed_move = subst (λ (b : Bool). IsMonthsAfter list ((g.C.YearShapes.years c.args.cal.now).extended c.year_info_from_extended-reached.result) place (toward b c.args.duration.months) z j) c.from_sign-direction.ensures c.months_away-there.ensures.moved in
+    let signed_move = subst (λ (b : Bool). IsMonthsAfter list ((g.C.YearShapes.years c.args.cal.now).extended c.looked_up-reached.result) place (toward b c.args.duration.months) z j) c.from_sign-direction.ensures c.months_away-there.ensures.moved in
     let moved = subst (λ (x : ℤ). IsMonthsAfter list x place (toward c.args.duration.is_negative c.args.duration.months) z j) (reached g s).1 signed_move in
     let addable : is_addable c.args.duration ≡ true = sym c.can_be_added.ensures ∙ c.if-not-can_be_added.false in
     let field = field_is g s in
