@@ -1,1 +1,3 @@
+mod IndianMonthLemmas
+mod PersianDayLemmas
 mod SearchLemmas

@@ -1,13 +1,12 @@
 -- The months and the first days of the years of the Indian list, and its bounds.
-use Rattle.std.proofs.Common.{◌≡◌, ℕ, ◌+◌, ◌-◌, ◌*◌, ◌≤◌, Bool, true, false, if◌then◌else◌, min, refl, ap, ◌∙◌, arith, ℤ, pos, neg_ℤ, ◌+ℤ◌, ◌-ℤ◌, ◌≤ℤ◌, ◌<ℤ◌, unsigned_abs, inl}
-use Rattle.std.specs.Prelude.{sum_by, slice_index_or, nat_le}
-use Rattle.std.proofs.lemmas.Bool.Decides.{nat_tests}
+use Rattle.std.proofs.Common.{◌≡◌, ℕ, ◌-◌, ◌≤◌, Bool, true, false, if◌then◌else◌, refl, ap, arith, ℤ, pos, neg_ℤ, ◌+ℤ◌, ◌-ℤ◌, ◌≤ℤ◌, ◌<ℤ◌, unsigned_abs, inl}
+use Rattle.std.specs.Prelude.{sum_by, slice_index_or}
 use Rattle.cal_days.specs.Day.{IsBetween, IsCoveredYear, IsValidDay, IsFieldYear, IsRuleYear}
 use Rattle.cal_days.specs.Division.{floor_div}
 use Rattle.cal_days.specs.Gregorian.{gregorian_start, gregorian_year_length, leap_days_through}
 use Rattle.cal_days.proofs.Signed.{signed}
 use Rattle.cal_days.proofs.GregorianLemmas.{gregorian_start-bounds, gregorian_start-next}
-use Rattle.cal_model.specs.CalendarList.{Date, date, days_of, no_entry, month_length, days_before, month_number, year_length, start_of_year, day_number, IsDate, IsValidDate, IsLawful, IsOn}
+use Rattle.cal_model.specs.CalendarList.{Date, days_of, no_entry, month_length, days_before, month_number, year_length, start_of_year, day_number, IsDate, IsValidDate, IsLawful}
 use Rattle.cal_model.specs.PlainMonths.{numbered_month, HasPlainMonths}
 use Rattle.cal_model.proofs.ListLemmas.{start_of_year-unique, date-in_year}
 use Rattle.cal_model.proofs.MonthCases.{by_month}
@@ -17,27 +16,9 @@ use Rattle.cal_julian.specs.IndianList.{indian_leap, indian_start, indian_months
 months_at : (leap : Bool) (i : ℕ) → 1 ≤ i → i ≤ 12 → (slice_index_or (indian_months leap) (i - 1) no_entry).month ≡ numbered_month i
 months_at leap = by_month (λ i. (slice_index_or (indian_months leap) (i - 1) no_entry).month ≡ numbered_month i) refl refl refl refl refl refl refl refl refl refl refl refl
 
--- the months by their places
-pub indian_month_length-first : (leap : Bool) → indian_month_length leap 1 ≡ (if leap then 31 else 30)
-indian_month_length-first leap = refl
-
-pub indian_month_length-others : (leap : Bool) (i : ℕ) → 2 ≤ i → i ≤ 12 → indian_month_length leap i ≡ (if nat_le i 6 then 31 else 30)
-indian_month_length-others leap i low high =
-    by_month (λ n. 2 ≤ n → indian_month_length leap n ≡ (if nat_le n 6 then 31 else 30))
-    (λ two. absurd (omega arith)) (λ _. refl) (λ _. refl) (λ _. refl) (λ _. refl) (λ _. refl) (λ _. refl) (λ _. refl) (λ _. refl) (λ _. refl) (λ _. refl) (λ _. refl) i (omega arith) high low
-
 lengths_within : (leap : Bool) (i : ℕ) → 1 ≤ i → i ≤ 12 → (1 ≤ indian_month_length leap i) × (indian_month_length leap i ≤ 31)
 lengths_within true = by_month (λ i. (1 ≤ indian_month_length true i) × (indian_month_length true i ≤ 31)) (omega arith, omega arith) (omega arith, omega arith) (omega arith, omega arith) (omega arith, omega arith) (omega arith, omega arith) (omega arith, omega arith) (omega arith, omega arith) (omega arith, omega arith) (omega arith, omega arith) (omega arith, omega arith) (omega arith, omega arith) (omega arith, omega arith)
 lengths_within false = by_month (λ i. (1 ≤ indian_month_length false i) × (indian_month_length false i ≤ 31)) (omega arith, omega arith) (omega arith, omega arith) (omega arith, omega arith) (omega arith, omega arith) (omega arith, omega arith) (omega arith, omega arith) (omega arith, omega arith) (omega arith, omega arith) (omega arith, omega arith) (omega arith, omega arith) (omega arith, omega arith) (omega arith, omega arith)
-
--- how far the months before a month fall short of a first month of 31 days
-abbrev pub shortfall : Bool → ℕ → ℕ
-shortfall leap i = if leap then 0 else (if nat_le i 1 then 0 else 1)
-
--- the months before a month, in closed form
-pub indian_days_before-closed : (leap : Bool) (i : ℕ) → 1 ≤ i → i ≤ 12 → indian_days_before leap i + shortfall leap i ≡ 30 * (i - 1) + min (i - 1) 6
-indian_days_before-closed true = by_month (λ i. indian_days_before true i + shortfall true i ≡ 30 * (i - 1) + min (i - 1) 6) refl refl refl refl refl refl refl refl refl refl refl refl
-indian_days_before-closed false = by_month (λ i. indian_days_before false i + shortfall false i ≡ 30 * (i - 1) + min (i - 1) 6) refl refl refl refl refl refl refl refl refl refl refl refl
 
 days_in_year : (leap : Bool) → sum_by days_of (indian_months leap) ≡ (if leap then 366 else 365)
 days_in_year true = refl
@@ -79,19 +60,6 @@ pub indian_start-next : (y : ℤ) → indian_start (y +ℤ pos 1) ≡ indian_sta
 indian_start-next y =
     let same : y +ℤ pos 1 +ℤ pos 78 ≡ y +ℤ pos 78 +ℤ pos 1 = omega (arith, signed) in
     omega (arith, signed, ap gregorian_start same, gregorian_start-next (y +ℤ pos 78), year_length-indian y)
-
--- the first day in the Gregorian year in which it begins
-pub indian_start-gregorian : (y g : ℤ) → y ≡ g -ℤ pos 78 → indian_start y ≡ gregorian_start g +ℤ pos 80
-indian_start-gregorian y g e =
-    let same : y +ℤ pos 78 ≡ g = omega (arith, signed, e) in
-    ap (λ (z : ℤ). gregorian_start z +ℤ pos 80) same
-
-pub gregorian_year_length-within : (g : ℤ) → (365 ≤ gregorian_year_length g) × (gregorian_year_length g ≤ 366)
-gregorian_year_length-within g = (grind (arith, nat_tests), grind (arith, nat_tests))
-
--- at most 366 days later
-pub indian_start-near : (y : ℤ) → indian_start (y +ℤ pos 1) ≤ℤ (indian_start y +ℤ pos 366)
-indian_start-near y = omega (arith, signed, indian_start-next y, year_length-indian y, gregorian_year_length-within (y +ℤ pos 78))
 
 -- each year of the list starts where the closed form says
 pub start_of_year-indian : (y : ℤ) → start_of_year indian_list y ≡ indian_start y
@@ -143,13 +111,3 @@ months-apart t u h k =
 -- a year's stored number is its extended year
 pub stored-extended : (y : ℤ) → y ≡ y +ℤ pos 0
 stored-extended y = omega (arith, signed)
-
--- the day p of a year, counted from 0, is a day of the month that it was found in
-pub day_found : (y : ℤ) (leap : Bool) (month day p : ℕ) → indian_leap y ≡ leap → (1 ≤ month) × (month ≤ 12) → (1 ≤ day) × (day ≤ indian_month_length leap month) → indian_days_before leap month + (day - 1) ≡ p → IsOn indian_list (start_of_year indian_list y +ℤ pos p) (date y month day)
-day_found y leap month day p e place within same =
-    let before = days_before-indian y month ∙ ap (λ (b : Bool). indian_days_before b month) e in
-    let length = month_length-indian y month ∙ ap (λ (b : Bool). indian_month_length b month) e in
-    record {
-      date = record { place = (place.0, omega (arith, place.1, indian_list-plain.count y)); day = (within.0, omega (arith, within.1, length)) };
-      day = omega (arith, signed, before, same);
-    }

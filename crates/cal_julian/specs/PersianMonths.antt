@@ -1,5 +1,5 @@
 -- The months of a Persian year in closed form.
-use Rattle.std.proofs.Common.{◌≡◌, ℕ, ◌+◌, ◌-◌, ◌*◌, ◌/◌, ◌<◌, ◌≤◌, Bool, true, false, not, if◌then◌else◌, sum_by, refl, arith}
+use Rattle.std.proofs.Common.{◌≡◌, ℕ, ◌+◌, ◌-◌, ◌*◌, ◌/◌, ◌<◌, ◌≤◌, Bool, true, false, not, if◌then◌else◌, sum_by, min, refl, arith}
 use Rattle.std.specs.Prelude.{◌&&◌, ◌==◌, slice_index_or, nat_le, nat_lt}
 use Rattle.std.proofs.lemmas.Bool.Decides.{nat_tests}
 use Rattle.cal_model.specs.CalendarList.{days_of, no_entry}
@@ -8,17 +8,17 @@ use Rattle.cal_model.proofs.MonthCases.{by_month}
 use Rattle.cal_julian.specs.PersianList.{persian_months, persian_month_length, persian_days_before}
 
 -- the days before a month, in closed form
-pub days_before-closed : (leap : Bool) (i : ℕ) → 1 ≤ i → i ≤ 12 → persian_days_before leap i ≡ (if nat_le i 7 then 31 * (i - 1) else 30 * (i - 1) + 6)
+pub days_before-closed : (leap : Bool) (i : ℕ) → 1 ≤ i → i ≤ 12 → persian_days_before leap i ≡ 30 * (i - 1) + min (i - 1) 6
 days_before-closed leap =
-    by_month (λ i. persian_days_before leap i ≡ (if nat_le i 7 then 31 * (i - 1) else 30 * (i - 1) + 6))
+    by_month (λ i. persian_days_before leap i ≡ 30 * (i - 1) + min (i - 1) 6)
     refl refl refl refl refl refl refl refl refl refl refl refl
 
 -- and in its two parts, which agree on month 7
 pub days_before-long : (leap : Bool) (i : ℕ) → 1 ≤ i → i ≤ 7 → persian_days_before leap i ≡ 31 * (i - 1)
-days_before-long leap i low high = let closed = days_before-closed leap i low (omega arith) in grind (arith, nat_tests, closed)
+days_before-long leap i low high = omega (arith, days_before-closed leap i low (omega arith))
 
 pub days_before-short : (leap : Bool) (i : ℕ) → 7 ≤ i → i ≤ 12 → persian_days_before leap i ≡ 30 * (i - 1) + 6
-days_before-short leap i low high = let closed = days_before-closed leap i (omega arith) high in grind (arith, nat_tests, closed)
+days_before-short leap i low high = omega (arith, days_before-closed leap i (omega arith) high)
 
 -- the lengths of the months
 pub persian_month_length-closed : (leap : Bool) (i : ℕ) → 1 ≤ i → i ≤ 12 → persian_month_length leap i ≡ (if nat_le i 6 then 31 else if i == 12 && not leap then 29 else 30)
@@ -28,6 +28,12 @@ persian_month_length-closed true =
 persian_month_length-closed false =
     by_month (λ i. persian_month_length false i ≡ (if nat_le i 6 then 31 else if i == 12 && not false then 29 else 30))
     refl refl refl refl refl refl refl refl refl refl refl refl
+
+-- of which only the last depends on the year
+pub month_length-others : (leap : Bool) (i : ℕ) → 1 ≤ i → i ≤ 11 → persian_month_length leap i ≡ persian_month_length true i
+month_length-others leap i low high =
+    by_month (λ i. i ≤ 11 → persian_month_length leap i ≡ persian_month_length true i)
+    (λ h. refl) (λ h. refl) (λ h. refl) (λ h. refl) (λ h. refl) (λ h. refl) (λ h. refl) (λ h. refl) (λ h. refl) (λ h. refl) (λ h. refl) (λ h. absurd (omega arith)) i low (omega arith) high
 
 pub persian_month_length-within : (leap : Bool) (i : ℕ) → 1 ≤ i → i ≤ 12 → (1 ≤ persian_month_length leap i) × (persian_month_length leap i ≤ 31)
 persian_month_length-within true = by_month (λ i. (1 ≤ persian_month_length true i) × (persian_month_length true i ≤ 31)) (omega arith, omega arith) (omega arith, omega arith) (omega arith, omega arith) (omega arith, omega arith) (omega arith, omega arith) (omega arith, omega arith) (omega arith, omega arith) (omega arith, omega arith) (omega arith, omega arith) (omega arith, omega arith) (omega arith, omega arith) (omega arith, omega arith)

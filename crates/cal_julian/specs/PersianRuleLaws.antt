@@ -53,6 +53,12 @@ module _ (years : List ℤ) (known : AreCorrectable years) where
     differ : ◌≡◌ {A = Bool} true false → ⊥
     differ f = cc
 
+  -- nor is the year after a corrected one corrected
+  pub corrected-apart : (y : ℤ) → is_corrected years (y -ℤ pos 1) ≡ true → is_corrected years y ≡ true → ⊥
+  corrected-apart y before here = differ (sym (corrected-leap y here) ∙ after_corrected-common y before) where
+    differ : ◌≡◌ {A = Bool} true false → ⊥
+    differ f = cc
+
 joined : (leap corrected before : Bool) (s t : ℤ) → (corrected ≡ true → leap ≡ true) → (before ≡ true → leap ≡ false) → t ≡ s +ℤ pos (if leap then 366 else 365) → (if corrected then t -ℤ pos 1 else t) ≡ (if before then s -ℤ pos 1 else s) +ℤ pos (if (leap && not corrected) || before then 366 else 365)
 joined true true false s t h k e = omega (arith, signed, e)
 joined true false false s t h k e = omega (arith, signed, e)

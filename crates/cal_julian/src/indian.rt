@@ -2,11 +2,14 @@
 //!
 //! Source: the report of India's Calendar Reform Committee (1955), and CLDR (UTS 35) for its era.
 
-ghost use Rattle.std.specs.Prelude.{◌≡◌, ◌+◌, ◌-◌, ◌<◌, ◌≤◌, ◌↔◌, IsTrue, if◌then◌else◌, nat_lt, neg_ℤ, pos, ◌+ℤ◌, ◌<ℤ◌, ◌≤ℤ◌};
+ghost use Rattle.std.specs.Prelude.{◌≡◌, ◌+◌, ◌-◌, ◌<◌, ◌≤◌, ◌↔◌, IsTrue, true, if◌then◌else◌, nat_le, neg_ℤ, pos, ◌+ℤ◌, ◌-ℤ◌};
 ghost use Rattle.cal_days.specs.Day.{IsBetween, IsRuleYear, IsValidDay, is_field_year};
-ghost use Rattle.cal_julian.specs.IndianList.{indian_days_before, indian_leap, indian_month_length, indian_start};
+ghost use Rattle.cal_days.specs.Gregorian.{first_of_march, gregorian_leap};
+ghost use Rattle.cal_model.specs.CalendarList.{date, day_number, IsDate, IsOn};
+ghost use Rattle.cal_julian.specs.IndianList.{indian_leap, indian_list, indian_month_length, vaisakha_days_before, vaisakha_month};
 ghost use Rattle.cal_julian.specs.IndianNames.{indian_reference_year};
 
+use crate::long_months::months_and_day;
 use cal_arith::eras::year_in_only_era;
 use cal_arith::{
     ArithmeticDate, DateFieldsResolver, PackWithMD, Steps, YearShapes, Years, can_be_named,
@@ -27,8 +30,8 @@ use std::sync::ledger::Ledger;
 /// The Gregorian year in which a year begins, less the extended year.
 const YEARS_BEHIND: i32 = 78;
 
-/// The days of that Gregorian year before the first day.
-const DAYS_BEFORE: i64 = 80;
+/// The days from March 1 to April 21, on which the second month, Vaisakha, begins in each year.
+const VAISAKHA_AFTER_MARCH: u16 = 51;
 
 /// The Indian national calendar, in the Saka era.
 ///
@@ -80,13 +83,17 @@ impl IndianYear {
         gregorian::is_leap_year(self.extended_year + YEARS_BEHIND)
     }
 
-    /// The first day of the year.
-    pub(crate) fn first_day(self) -> RataDie
-        requires { IsRuleYear self.extended_year }
-        ensures { result ≡ indian_start self.extended_year }
+    /// The days of a month, 1 to 12. Only the first asks whether the year is a leap year.
+    fn days_in_month(self, month: u8) -> u8
+        requires year { IsRuleYear self.extended_year }
+        requires month { (1 ≤ month) × (month ≤ 12) }
+        ensures { result ≡ indian_month_length (indian_leap self.extended_year) month }
     {
-        let gregorian_start = gregorian::year_start(self.extended_year + YEARS_BEHIND);
-        RataDie::new(gregorian_start.to_i64_date() + DAYS_BEFORE)
+        if month == 1 {
+            days_in_month(self.is_leap(), month)
+        } else {
+            days_in_month(true, month)
+        }
     }
 }
 
@@ -133,76 +140,101 @@ fn days_in_month(leap: bool, month: u8) -> u8
     }
 }
 
-/// The days before a day of a leap year or a common one.
-fn days_before_day(leap: bool, month: u8, day: u8) -> u16
+/// The year on whose first day of Vaisakha a month's year begins, and the month as such years count it, 2 to 13.
+fn in_vaisakha_year(year: i32, month: u8) -> (i32, u8)
+    requires year { IsRuleYear year }
     requires month { (1 ≤ month) × (month ≤ 12) }
-    requires day { (1 ≤ day) × (day ≤ 31) }
-    ensures bound { result ≤ 366 }
-    ensures value { result ≡ indian_days_before leap month + (day - 1) }
+    ensures month { (2 ≤ result.1) × (result.1 ≤ 13) }
+    ensures same { vaisakha_month result.1 ≡ month }
+    ensures year { result.0 ≡ (if nat_le result.1 12 then year else year -ℤ pos 1) }
+    ensures range { IsBetween (neg_ℤ (pos 8000001)) (pos 8000000) result.0 }
 {
-    // As if the first month always had 31 days.
-    let months = u16::from(month - 1);
-    let days = 30 * months + months.min(6) + u16::from(day - 1);
-    if leap || month == 1 { days } else { days - 1 }
-}
-
-/// The day of the year, from 0, as it would be with 31 days in the first month.
-fn day_as_if_31(leap: bool, day_of_year: u16) -> u16
-    requires { day_of_year < 366 }
-    ensures { let later = if nat_lt day_of_year 30 then day_of_year else day_of_year + 1 in
-        result ≡ (if leap then day_of_year else later) }
-{
-    if leap || day_of_year < 30 {
-        day_of_year
+    if month == 1 {
+        (year - 1, 13)
     } else {
-        day_of_year + 1
+        (year, month)
     }
 }
 
-/// The month, 1 to 12, and the day of the month, of a day of a leap year or a common one, which is counted
-/// from 0.
-fn month_and_day(leap: bool, day_of_year: u16) -> (u8, u8)
-    requires { day_of_year < (if leap then 366 else 365) }
-    ensures month { (1 ≤ result.0) × (result.0 ≤ 12) }
-    ensures day { (1 ≤ result.1) × (result.1 ≤ indian_month_length leap result.0) }
-    ensures value { indian_days_before leap result.0 + (result.1 - 1) ≡ day_of_year }
+/// The days from the first day of Vaisakha to that of a month, 2 to 12, or of 13, which is the first of the next
+/// year.
+fn days_from_vaisakha(month: u8) -> u16
+    requires { (2 ≤ month) × (month ≤ 13) }
+    ensures value { result ≡ vaisakha_days_before month }
+    ensures bound { result ≤ 335 }
 {
-    let day = day_as_if_31(leap, day_of_year);
-    if day < 186 {
-        ((day / 31) as u8 + 1, (day % 31) as u8 + 1)
+    let months = u16::from(month - 2);
+    30 * months + months.min(5)
+}
+
+/// The month, 2 to 12, and the day of the month, of a day that lies 0 to 334 days after the first day of Vaisakha.
+fn month_and_day_from_vaisakha(day: u16) -> (u8, u8)
+    requires { day < 335 }
+    ensures month { (2 ≤ result.0) × (result.0 ≤ 12) }
+    ensures day { (1 ≤ result.1) × (result.1 ≤ indian_month_length true result.0) }
+    ensures value { vaisakha_days_before result.0 + (result.1 - 1) ≡ day }
+{
+    if day < 155 {
+        let (months, day) = months_and_day(day);
+        (months + 2, day)
     } else {
-        let rest = day - 186;
+        let rest = day - 155;
         ((rest / 30) as u8 + 7, (rest % 30) as u8 + 1)
     }
 }
 
-/// The year that contains a valid day: the one that begins in the day's Gregorian year, or the one before it.
-fn year_of_day(rd: RataDie) -> IndianYear
-    requires { IsValidDay rd }
-    ensures first { indian_start result.extended_year ≤ℤ rd }
-    ensures last { rd <ℤ indian_start (result.extended_year +ℤ pos 1) }
-    ensures range { IsBetween (neg_ℤ (pos 1000078)) (pos 999921) result.extended_year }
+/// The day number of a date of a year from -8000000 to 8000000.
+fn day_number(year: i32, month: u8, day: u8) -> i64
+    requires year { IsRuleYear year }
+    requires date { IsDate indian_list (date year month day) }
+    ensures value { result ≡ day_number indian_list (date year month day) }
+    ensures bound { IsBetween (neg_ℤ (pos 4000000000)) (pos 4000000000) result }
 {
-    let extended_year = gregorian::year_from_fixed(rd) - YEARS_BEHIND;
-    let year = IndianYear { extended_year };
-    if rd.since(year.first_day()) >= 0 {
-        year
+    let (vaisakha_year, vaisakha_month) = in_vaisakha_year(year, month);
+    let before = VAISAKHA_AFTER_MARCH + days_from_vaisakha(vaisakha_month) + u16::from(day - 1);
+    gregorian::march_start(vaisakha_year + YEARS_BEHIND).to_i64_date() + i64::from(before)
+}
+
+/// The date of a valid day: the year, the month and the day of the month.
+fn date_on(rd: RataDie) -> (i32, u8, u8)
+    requires { IsValidDay rd }
+    ensures on { IsOn indian_list rd (date result.0 result.1 result.2) }
+    ensures year { IsBetween (neg_ℤ (pos 1000079)) (pos 999921) result.0 }
+{
+    let (march_year, since_march) = gregorian::march_year_and_day_from_fixed(rd);
+    if since_march < VAISAKHA_AFTER_MARCH {
+        return date_before_vaisakha(march_year, since_march as u8);
+    }
+    let (month, day) = month_and_day_from_vaisakha(since_march - VAISAKHA_AFTER_MARCH);
+    (march_year - YEARS_BEHIND, month, day)
+}
+
+/// The date of a day that lies 0 to 50 days after March 1 of a Gregorian year.
+fn date_before_vaisakha(march_year: i32, since_march: u8) -> (i32, u8, u8)
+    requires year { IsBetween (neg_ℤ (pos 1000000)) (pos 999999) march_year }
+    requires day { since_march < 51 }
+    ensures on { IsOn indian_list (first_of_march march_year +ℤ pos since_march) (date result.0 result.1 result.2) }
+    ensures year { IsBetween (neg_ℤ (pos 1000079)) (pos 999921) result.0 }
+{
+    let year = march_year - YEARS_BEHIND;
+    // The first month begins on March 22, or a day earlier where a leap day goes before.
+    let day = since_march + leap_days(march_year);
+    if day < 21 {
+        (year - 1, 12, day + 10)
     } else {
-        IndianYear {
-            extended_year: extended_year - 1,
-        }
+        (year, 1, day - 20)
     }
 }
 
-/// The year that contains a valid day, and how many days of that year lie before the day.
-fn year_and_day(rd: RataDie) -> (IndianYear, u16)
-    requires { IsValidDay rd }
-    ensures day { indian_start result.0.extended_year +ℤ pos result.1 ≡ rd }
-    ensures within { rd <ℤ indian_start (result.0.extended_year +ℤ pos 1) }
-    ensures range { IsBetween (neg_ℤ (pos 1000078)) (pos 999921) result.0.extended_year }
+/// The leap days of a Gregorian year, 0 or 1.
+fn leap_days(gregorian_year: i32) -> u8
+    ensures { result ≡ (if gregorian_leap gregorian_year then 1 else 0) }
 {
-    let year = year_of_day(rd);
-    (year, rd.since(year.first_day()) as u16)
+    if gregorian::is_leap_year(gregorian_year) {
+        1
+    } else {
+        0
+    }
 }
 
 impl YearShapes for Indian {
@@ -228,12 +260,11 @@ impl YearShapes for Indian {
     }
 
     fn days_in_provided_month(&self, year: IndianYear, month: u8) -> u8 {
-        days_in_month(year.is_leap(), month)
+        year.days_in_month(month)
     }
 
     fn to_rata_die_inner(&self, year: IndianYear, month: u8, day: u8) -> RataDie {
-        let before = days_before_day(year.is_leap(), month, day);
-        RataDie::new(year.first_day().to_i64_date() + i64::from(before))
+        RataDie::new(day_number(year.extended_year, month, day))
     }
 
     fn min_months_from(&self, _start: IndianYear, count: i32) -> i32 {
@@ -262,6 +293,16 @@ impl YearShapes for Indian {
         Month::new(ordinal_month)
     }
 
+    fn ordinal_in_other_year(
+        &self,
+        _year: IndianYear,
+        ordinal_month: u8,
+        _other: IndianYear,
+        _overflow: Overflow,
+    ) -> Option<u8> {
+        Some(ordinal_month)
+    }
+
     ghost numbered = { λ s y h. refl };
 
     ghost lawful = { λ s. indian_list-lawful };
@@ -287,17 +328,14 @@ impl Years for Indian {
     }
 
     fn year_containing_rd(&self, rd: RataDie) -> IndianYear {
-        year_of_day(rd)
+        IndianYear {
+            extended_year: date_on(rd).0,
+        }
     }
 
     fn year_month_day(&self, rd: RataDie) -> (IndianYear, u8, u8) {
-        let (year, day_of_year) = year_and_day(rd);
-        let (month, day) = month_and_day(year.is_leap(), day_of_year);
-        (year, month, day)
-    }
-
-    fn month_and_day(&self, year: IndianYear, day_of_year: u16) -> (u8, u8) {
-        month_and_day(year.is_leap(), day_of_year)
+        let (extended_year, month, day) = date_on(rd);
+        (IndianYear { extended_year }, month, day)
     }
 }
 

@@ -123,7 +123,12 @@ impl<'t> YearShapes for Persian<'t> {
     }
 
     fn days_in_provided_month(&self, year: PersianYear, month: u8) -> u8 {
-        days_in_month(self.corrections.is_leap_year(year.extended_year), month)
+        // Only the last month asks whether the year is a leap year.
+        if month == 12 {
+            days_in_month(self.corrections.is_leap_year(year.extended_year), month)
+        } else {
+            days_in_month(true, month)
+        }
     }
 
     fn to_rata_die_inner(&self, year: PersianYear, month: u8, day: u8) -> RataDie {
@@ -158,6 +163,16 @@ impl<'t> YearShapes for Persian<'t> {
         Month::new(ordinal_month)
     }
 
+    fn ordinal_in_other_year(
+        &self,
+        _year: PersianYear,
+        ordinal_month: u8,
+        _other: PersianYear,
+        _overflow: Overflow,
+    ) -> Option<u8> {
+        Some(ordinal_month)
+    }
+
     ghost numbered = { λ s y h. refl };
 
     ghost lawful = { λ s. persian_list-lawful (corrected_years s) };
@@ -184,12 +199,14 @@ impl<'t> Years for Persian<'t> {
 
     fn year_containing_rd(&self, rd: RataDie) -> PersianYear {
         PersianYear {
-            extended_year: self.corrections.year_from_fixed(rd),
+            extended_year: self.corrections.year_and_day_from_fixed(rd).0,
         }
     }
 
-    fn month_and_day(&self, _year: PersianYear, day_of_year: u16) -> (u8, u8) {
-        month_and_day(day_of_year)
+    fn year_month_day(&self, rd: RataDie) -> (PersianYear, u8, u8) {
+        let (extended_year, day_of_year) = self.corrections.year_and_day_from_fixed(rd);
+        let (month, day) = month_and_day(day_of_year);
+        (PersianYear { extended_year }, month, day)
     }
 }
 

@@ -1,9 +1,11 @@
 //! The years in which the rule of 33 years is corrected.
 
-ghost use Rattle.std.specs.Prelude.{◌≡◌, ◌↔◌, IsTrue, [], pos, neg_ℤ, ◌+ℤ◌, ◌≤ℤ◌, ◌<ℤ◌};
+ghost use Rattle.std.specs.Prelude.{◌≡◌, ◌↔◌, ◌<◌, IsTrue, [], pos, neg_ℤ, ◌+ℤ◌, ◌<ℤ◌};
 ghost use Rattle.cal_days.specs.Day.{IsBetween, IsRuleYear, IsValidDay};
+ghost use Rattle.cal_days.specs.Persian.{persian_start, persian_year_length};
 ghost use Rattle.cal_julian.specs.PersianRule.{AreCorrectable, IsRising, is_corrected, is_persian_leap, persian_new_year};
 
+use crate::persian_rule::year_and_day_from_fixed;
 use cal_days::{RataDie, persian};
 
 /// Years of the Persian calendar in which the rule of 33 years is corrected: such a year is a common year, and the
@@ -36,7 +38,7 @@ impl<'t> PersianCorrections<'t> {
     fn contains(&self, year: i32) -> bool
         ensures { result ≡ is_corrected self.now.years.now year }
     {
-        self.years.binary_search(&year).is_ok()
+        !self.years.is_empty() && self.years.binary_search(&year).is_ok()
     }
 
     /// Whether a year from -8000000 to 8000000 has 366 days.
@@ -64,19 +66,39 @@ impl<'t> PersianCorrections<'t> {
         }
     }
 
-    /// The year that contains a valid day, -365242499 to 365242134.
-    pub(crate) fn year_from_fixed(&self, rd: RataDie) -> i32
+    /// The year that contains a valid day, -365242499 to 365242134, and how many of its days lie before that day.
+    pub(crate) fn year_and_day_from_fixed(&self, rd: RataDie) -> (i32, u16)
         requires { IsValidDay rd }
-        ensures first { persian_new_year self.now.years.now result ≤ℤ rd }
-        ensures last { rd <ℤ persian_new_year self.now.years.now (result +ℤ pos 1) }
-        ensures range { IsBetween (neg_ℤ (pos 1000621)) (pos 999379) result }
+        ensures day { persian_new_year self.now.years.now result.0 +ℤ pos result.1 ≡ rd }
+        ensures within { rd <ℤ persian_new_year self.now.years.now (result.0 +ℤ pos 1) }
+        ensures range { IsBetween (neg_ℤ (pos 1000621)) (pos 999379) result.0 }
     {
-        let year = persian::year_from_fixed(rd);
-        let next = persian::year_start(year + 1).to_i64_date();
-        if rd.to_i64_date() + 1 != next {
-            return year;
+        let (year, day) = year_and_day_from_fixed(rd);
+        if self.years.is_empty() {
+            return (year, day);
+        }
+        self.corrected(year, day)
+    }
+
+    /// The year of a day, and how many of its days lie before that day, given both as they are by the rule.
+    // The look-up of a year without corrections is compiled in place where this isn't.
+    #[inline(never)]
+    fn corrected(&self, year: i32, day: u16) -> (i32, u16)
+        requires year { IsBetween (neg_ℤ (pos 1000621)) (pos 999378) year }
+        requires day { day < persian_year_length year }
+        ensures day { persian_new_year self.now.years.now result.0 +ℤ pos result.1 ≡ persian_start year +ℤ pos day }
+        ensures within { (persian_start year +ℤ pos day) <ℤ persian_new_year self.now.years.now (result.0 +ℤ pos 1) }
+        ensures range { IsBetween (neg_ℤ (pos 1000621)) (pos 999379) result.0 }
+    {
+        let starts_early = self.contains(year - 1);
+        if starts_early {
+            return (year, day + 1);
         }
         // A corrected year leaves its last day to the next year.
-        if self.contains(year) { year + 1 } else { year }
+        if day == 365 && self.contains(year) {
+            (year + 1, 0)
+        } else {
+            (year, day)
+        }
     }
 }

@@ -4,6 +4,8 @@ ghost use Rattle.std.specs.Prelude.{◌≡◌, ◌+◌, ◌-◌, ◌<◌, ◌≤
 ghost use Rattle.cal_julian.specs.PersianList.{persian_days_before, persian_month_length};
 ghost use Rattle.cal_julian.specs.PersianMonths.{month_of_day};
 
+use crate::long_months::months_and_day;
+
 /// The days of the six months of 31 days.
 const DAYS_IN_LONG_MONTHS: u16 = 186;
 
@@ -26,11 +28,7 @@ fn days_before_month(month: u8) -> u16
     ensures value { (leap : Bool) → result ≡ persian_days_before leap month }
 {
     let months = u16::from(month - 1);
-    if month <= 7 {
-        31 * months
-    } else {
-        30 * months + 6
-    }
+    30 * months + months.min(6)
 }
 
 /// The days of a year before a day of a month, 1 to 12.
@@ -50,7 +48,8 @@ pub fn month_and_day(day_of_year: u16) -> (u8, u8)
     ensures day { (leap : Bool) → result.1 ≡ day_of_year - persian_days_before leap result.0 + 1 }
 {
     if day_of_year < DAYS_IN_LONG_MONTHS {
-        ((day_of_year / 31) as u8 + 1, (day_of_year % 31) as u8 + 1)
+        let (months, day) = months_and_day(day_of_year);
+        (months + 1, day)
     } else {
         let day = day_of_year - DAYS_IN_LONG_MONTHS;
         ((day / 30) as u8 + 7, (day % 30) as u8 + 1)

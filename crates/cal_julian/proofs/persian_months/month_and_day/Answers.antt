@@ -4,9 +4,10 @@ use Rattle.cal_julian.proofs.persian_months.month_and_day.Goals as goal
 
 pub returns-then-day_of_year-lt-DAYS_IN_LONG_MONTHS-clause-day : goal.returns-then-day_of_year-lt-DAYS_IN_LONG_MONTHS-clause-day
 returns-then-day_of_year-lt-DAYS_IN_LONG_MONTHS-clause-day c leap =
-    let month = c.args.day_of_year / 31 + 1 in
-    let place : (1 ≤ month) × (month ≤ 7) = (omega arith, omega (arith, c.if-day_of_year-lt-DAYS_IN_LONG_MONTHS.true)) in
-    omega (arith, days_before-long leap month place.0 place.1)
+    let found = c.months_and_day-months in
+    let month = found.result.0 + 1 in
+    let place : (1 ≤ month) × (month ≤ 7) = (omega arith, omega (arith, found.ensures, c.if-day_of_year-lt-DAYS_IN_LONG_MONTHS.true)) in
+    omega (arith, found.ensures, days_before-long leap month place.0 place.1)
 
 pub returns-else-day_of_year-lt-DAYS_IN_LONG_MONTHS-clause-day : goal.returns-else-day_of_year-lt-DAYS_IN_LONG_MONTHS-clause-day
 returns-else-day_of_year-lt-DAYS_IN_LONG_MONTHS-clause-day c leap =

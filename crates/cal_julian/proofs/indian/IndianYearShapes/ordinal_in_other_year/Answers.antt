@@ -1,0 +1,8 @@
+use Rattle.std.proofs.Common.{sym}
+use Rattle.cal_base.specs.PlainPlaces.{spot-plain}
+use Rattle.cal_julian.specs.IndianList.{indian_list}
+use Rattle.cal_julian.specs.IndianLaws.{indian_list-plain}
+use Rattle.cal_julian.proofs.indian.IndianYearShapes.ordinal_in_other_year.Goals as goal
+
+pub returns : goal.returns
+returns c = sym (spot-plain 12 indian_list indian_list-plain c.args._year.extended_year c.args._other.extended_year c.args.ordinal_month c.args._overflow c.requires.month.place)
