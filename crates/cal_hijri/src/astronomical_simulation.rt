@@ -1,0 +1,85 @@
+//! The rules of the simulated calendar of Mecca.
+
+ghost use Rattle.std.specs.Prelude.{◌≡◌};
+
+use crate::hijri_table::HijriTable;
+use crate::hijri_year::HijriYear;
+use crate::rules::Rules;
+use crate::table_references::reference_year_of_tables;
+use cal_base::scaffold::UnstableSealed;
+use cal_types::{CalendarAlgorithm, EcmaReferenceYearError, MismatchedCalendarError, Month};
+
+/// The rules of a calendar that computes the first sight of the new moon at Mecca: the years of a table, and the
+/// tabular years from Friday on where it has none.
+///
+/// CLDR has no name for the calendar. Dates under two such rules can be compared where the rows are the same.
+#[derive(Clone, Copy, Debug)]
+pub struct AstronomicalSimulation<'t> {
+    table: HijriTable<'t>,
+}
+
+impl<'t> AstronomicalSimulation<'t> {
+    /// The rules with these years.
+    pub fn new(table: HijriTable<'t>) -> AstronomicalSimulation<'t>
+        ensures { result.table ≡ table.entry }
+    {
+        AstronomicalSimulation { table }
+    }
+}
+
+impl<'t> UnstableSealed for AstronomicalSimulation<'t> {}
+
+impl<'t> Rules for AstronomicalSimulation<'t> {
+    ghost use Rattle.std.specs.Prelude.{codes, None};
+    ghost use Rattle.std.specs.Cmp.{on_equiv};
+    ghost use Rattle.cal_hijri.specs.SameRows.{are_same_rows};
+    ghost use Rattle.cal_hijri.specs.TableRules.{same_rows-equivalence, table_reference, table_year, table-joins, table-numbered, table-references, table-shared};
+
+    type DateCompatibilityError = MismatchedCalendarError;
+
+    ghost year_of = { λ s y. table_year s.table.rows.now y };
+
+    ghost reference = { λ _ m d. table_reference m d };
+
+    ghost compatible = { λ s t. are_same_rows s.table.rows.now t.table.rows.now };
+
+    ghost algorithm = { λ _. None };
+
+    ghost name = { λ _. codes "Hijri (simulated, Mecca)" };
+
+    fn year(&self, extended_year: i32) -> HijriYear {
+        self.table.year(extended_year)
+    }
+
+    fn ecma_reference_year(&self, month: Month, day: u8) -> Result<i32, EcmaReferenceYearError> {
+        reference_year_of_tables(month, day)
+    }
+
+    fn check_date_compatibility(&self, other: &Self) -> Result<(), MismatchedCalendarError> {
+        if self.table.has_rows_of(&other.table) {
+            Ok(())
+        } else {
+            Err(MismatchedCalendarError)
+        }
+    }
+
+    fn calendar_algorithm(&self) -> Option<CalendarAlgorithm> {
+        None
+    }
+
+    fn debug_name(&self) -> &'static str {
+        "Hijri (simulated, Mecca)"
+    }
+
+    ghost numbered = { λ s. table-numbered s.table.rows.now s.table.accepted };
+
+    ghost joins = { λ s. table-joins s.table.rows.now s.table.accepted };
+
+    ghost references = { λ _. table-references };
+
+    ghost refusal = { λ _ _ _. record {} };
+
+    ghost alike = { on_equiv (λ s. s.table.rows.now) same_rows-equivalence };
+
+    ghost shared = { λ s t y h _. table-shared s.table.rows.now t.table.rows.now y h };
+}

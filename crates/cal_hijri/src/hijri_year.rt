@@ -1,0 +1,224 @@
+//! A year of a Hijri calendar.
+
+ghost use Rattle.std.specs.Prelude.{◌≡◌, ◌<◌, ◌≤◌, ◌↔◌, IsTrue, IsSome, IfSome, pos};
+ghost use Rattle.std.proofs.Common.{rules};
+ghost use Rattle.std.specs.Cmp.Rules.{comparing, hashing};
+ghost use Rattle.std.specs.Ordering.{int_cmp, int_eq, on, as_partial_cmp};
+ghost use Rattle.std.specs.Hash as fed;
+ghost use Rattle.cal_days.specs.Day.{IsBetween, IsRuleYear};
+ghost use Rattle.cal_hijri.specs.MonthStarts.{AreMonthStarts, HasLengthsOf, HaveMonthLengths, start_at};
+ghost use Rattle.cal_hijri.specs.HijriMonths.{IsNearMean, month_days, prior_days};
+
+use cal_arith::PackWithMD;
+use cal_days::{RataDie, islamic};
+use std::cmp::Ordering;
+use std::hash::{Hash, Hasher};
+
+/// A year of a Hijri calendar: its extended year, its first day, and which of its twelve months have 30 days and
+/// which 29.
+///
+/// The first day lies at most 5 days from the start of the mean year. Years are equal, ordered and hashed by the
+/// extended year.
+#[derive(Clone, Copy, Debug)]
+pub struct HijriYear {
+    pub(crate) extended_year: i32,
+    pub(crate) first_day: i64,
+    /// A bit for each month with 30 days, the first month's the lowest.
+    pub(crate) long_months: u16,
+    ghost near: { IsNearMean extended_year first_day },
+}
+
+impl HijriYear {
+    /// The year of an extended year whose months, and the next year's first one, start on these days.
+    ///
+    /// None exactly where the extended year isn't from -8000000 to 8000000, a month hasn't 29 or 30 days, or the
+    /// first day lies more than 5 days from the start of the mean year.
+    pub fn try_new(extended_year: i32, month_starts: [RataDie; 13]) -> Option<HijriYear>
+        ensures some { IsSome result ↔ AreMonthStarts extended_year month_starts }
+        ensures number { IfSome result (λ y. y.extended_year ≡ extended_year) }
+        ensures first_day { IfSome result (λ y. y.first_day ≡ start_at month_starts 0) }
+        ensures months { IfSome result (λ y. HasLengthsOf month_starts y.long_months) }
+        ensures twelve { IfSome result (λ y. y.long_months < 4096) }
+    {
+        let first_day = month_starts[0];
+        if !is_near_mean(extended_year, first_day) {
+            return None;
+        }
+        let long_months = long_months(&month_starts)?;
+        Some(HijriYear {
+            extended_year,
+            first_day: first_day.to_i64_date(),
+            long_months,
+        })
+    }
+
+    /// The extended year.
+    pub fn extended_year(self) -> i32
+        ensures { result ≡ self.extended_year }
+    {
+        self.extended_year
+    }
+
+    /// The first day.
+    pub fn new_year(self) -> RataDie
+        ensures { result ≡ self.first_day }
+    {
+        RataDie::new(self.first_day)
+    }
+
+    /// How many days a month, 1 to 12, has: 29 or 30.
+    pub fn month_len(self, month: u8) -> u8
+        requires { (1 ≤ month) × (month ≤ 12) }
+        ensures { result ≡ month_days self.long_months month }
+    {
+        days_in_month(self.long_months, month)
+    }
+}
+
+/// Whether a year is from -8000000 to 8000000, and its first day at most 5 days from the start of the mean year.
+fn is_near_mean(extended_year: i32, first_day: RataDie) -> bool
+    ensures { IsTrue result ↔ (IsRuleYear extended_year × IsNearMean extended_year first_day) }
+{
+    if extended_year < -8000000 || extended_year > 8000000 {
+        return false;
+    }
+    let since = first_day.since(islamic::mean_start(extended_year));
+    -5 <= since && since <= 5
+}
+
+/// Whether a month may have so many days.
+fn is_month_length(days: i64) -> bool
+    ensures { IsTrue result ↔ IsBetween (pos 29) (pos 30) days }
+{
+    29 <= days && days <= 30
+}
+
+/// The bits of the months with 30 days, by the days on which the months start and the year ends. None exactly where
+/// a month hasn't 29 or 30 days.
+fn long_months(starts: &[RataDie; 13]) -> Option<u16>
+    ensures some { IsSome result ↔ HaveMonthLengths starts.now 0 }
+    ensures months { IfSome result (λ long. HasLengthsOf starts.now long) }
+    ensures twelve { IfSome result (λ long. long < 4096) }
+{
+    let mut long_months = 0;
+    let mut month = 12;
+    'months: while month > 0 {
+        let days = starts[month].since(starts[month - 1]);
+        if !is_month_length(days) {
+            return None;
+        }
+        long_months = 2 * long_months + (days - 29) as u16;
+        month -= 1;
+    }
+    Some(long_months)
+}
+
+/// How many days a month, 1 to 12, has: 30 where its bit is set.
+pub(crate) fn days_in_month(long_months: u16, month: u8) -> u8
+    requires { (1 ≤ month) × (month ≤ 12) }
+    ensures value { result ≡ month_days long_months month }
+    ensures most { result ≤ 30 }
+{
+    29 + ((long_months >> (month - 1)) % 2) as u8
+}
+
+/// How many days lie before a month, 1 to 12; before a thirteenth one, those of the whole year.
+pub(crate) fn days_before_month(long_months: u16, month: u8) -> u16
+    requires { (1 ≤ month) × (month ≤ 13) }
+    ensures value { result ≡ prior_days long_months month }
+    ensures most { result ≤ 360 }
+{
+    let mut days = 0;
+    let mut place = 1;
+    'months: while place < month {
+        days += u16::from(days_in_month(long_months, place));
+        place += 1;
+    }
+    days
+}
+
+impl PartialEq for HijriYear {
+    ghost eq = { on (λ a. a.extended_year) int_eq };
+
+    ghost laws = { Prim.search (comparing, rules) };
+
+    fn eq(&self, other: &Self) -> bool {
+        self.extended_year == other.extended_year
+    }
+}
+
+impl Eq for HijriYear {
+    ghost laws = { Prim.search (comparing, rules) };
+}
+
+impl Ord for HijriYear {
+    ghost cmp = { on (λ a. a.extended_year) int_cmp };
+
+    ghost total = { Prim.search (comparing, rules) };
+
+    ghost matches_partial_cmp = { Prim.search (comparing, rules) };
+
+    ghost matches_eq = { Prim.search (comparing, rules) };
+
+    fn cmp(&self, other: &Self) -> Ordering {
+        self.extended_year.cmp(&other.extended_year)
+    }
+}
+
+impl PartialOrd for HijriYear {
+    ghost partial_cmp = { as_partial_cmp (on (λ a. a.extended_year) int_cmp) };
+
+    ghost laws = { Prim.search (comparing, rules) };
+
+    fn partial_cmp(&self, other: &Self) -> Option<Ordering> {
+        Some(self.cmp(other))
+    }
+}
+
+impl Hash for HijriYear {
+    ghost hash_input = { λ a. fed.i32 a.extended_year };
+
+    ghost respects_eq = { Prim.search (hashing, rules) };
+
+    fn hash<H: Hasher>(&self, state: &mut H) {
+        self.extended_year.hash(state);
+    }
+}
+
+/// A year of a Hijri calendar, the place of a month in it, and a day of that month, both from 1.
+#[derive(Clone, Copy, Debug)]
+pub struct PackedHijriDate {
+    year: HijriYear,
+    month: u8,
+    day: u8,
+}
+
+impl PackWithMD for HijriYear {
+    ghost use Rattle.cal_arith.specs.Dates.{ymd};
+
+    type Packed = PackedHijriDate;
+
+    ghost stored = { λ y. y.extended_year };
+
+    ghost parts = { λ p. ymd p.year p.month p.day };
+
+    fn pack(self, month: u8, day: u8) -> PackedHijriDate {
+        PackedHijriDate {
+            year: self,
+            month,
+            day,
+        }
+    }
+
+    fn unpack_year(packed: PackedHijriDate) -> HijriYear {
+        packed.year
+    }
+
+    fn unpack_month(packed: PackedHijriDate) -> u8 {
+        packed.month
+    }
+
+    fn unpack_day(packed: PackedHijriDate) -> u8 {
+        packed.day
+    }
+}

@@ -1,0 +1,21 @@
+//! The Hijri calendars: the rules that decide their years, and the calendar over any of them.
+#![tactic(auto)]
+
+mod astronomical_simulation;
+mod hijri;
+mod hijri_table;
+mod hijri_year;
+mod rules;
+mod table_references;
+mod tabular_algorithm;
+#[cfg(test)]
+mod tests;
+mod umm_al_qura;
+
+pub use astronomical_simulation::AstronomicalSimulation;
+pub use hijri::{Hijri, HijriDateInner};
+pub use hijri_table::HijriTable;
+pub use hijri_year::{HijriYear, PackedHijriDate};
+pub use rules::Rules;
+pub use tabular_algorithm::{TabularAlgorithm, TabularAlgorithmEpoch, TabularAlgorithmLeapYears};
+pub use umm_al_qura::UmmAlQura;

@@ -1,0 +1,176 @@
+//! The tabular rules: 11 of 30 years are leap years (Reingold and Dershowitz, Calendrical Calculations, chapter 7).
+
+ghost use Rattle.std.specs.Prelude.{◌≡◌};
+ghost use Rattle.cal_days.specs.Day.{IsRuleYear};
+ghost use Rattle.cal_days.specs.Islamic.{IsIslamicEpoch};
+ghost use Rattle.cal_hijri.specs.HijriList.{tabular_long};
+ghost use Rattle.cal_hijri.specs.TabularRules.{epoch_day, tabular_reference_year, tabular_year};
+
+use crate::hijri_year::HijriYear;
+use crate::rules::Rules;
+use cal_base::plain_months::is_plain;
+use cal_base::scaffold::UnstableSealed;
+use cal_days::islamic;
+use cal_types::{
+    CalendarAlgorithm, EcmaReferenceYearError, HijriCalendarAlgorithm, MismatchedCalendarError,
+    Month,
+};
+
+/// Which of 30 years are leap years.
+#[derive(Clone, Copy, Debug, PartialEq, Eq, PartialOrd, Ord, Hash)]
+pub enum TabularAlgorithmLeapYears {
+    /// The years 2, 5, 7, 10, 13, 16, 18, 21, 24, 26 and 29.
+    TypeII,
+}
+
+/// The day on which year 1 starts.
+#[derive(Clone, Copy, Debug, PartialEq, Eq, PartialOrd, Ord, Hash)]
+pub enum TabularAlgorithmEpoch {
+    /// Thursday, July 15, 622 in the Julian calendar.
+    Thursday,
+    /// Friday, July 16, 622 in the Julian calendar.
+    Friday,
+}
+
+/// The tabular rules: odd months have 30 days and even ones 29, and the last month of a leap year has 30.
+///
+/// CLDR's name for the calendar is `islamic-civil` where year 1 starts on a Friday, and `islamic-tbla` where it
+/// starts on a Thursday. Dates under two such rules can be compared where the rules are the same.
+#[derive(Clone, Copy, Debug, PartialEq, Eq, PartialOrd, Ord, Hash)]
+pub struct TabularAlgorithm {
+    leap_years: TabularAlgorithmLeapYears,
+    epoch: TabularAlgorithmEpoch,
+}
+
+impl TabularAlgorithm {
+    /// The rules with these leap years, from this day on.
+    pub const fn new(
+        leap_years: TabularAlgorithmLeapYears,
+        epoch: TabularAlgorithmEpoch,
+    ) -> TabularAlgorithm
+        ensures leap_years { result.leap_years ≡ leap_years }
+        ensures epoch { result.epoch ≡ epoch }
+    {
+        TabularAlgorithm { leap_years, epoch }
+    }
+}
+
+impl TabularAlgorithmEpoch {
+    /// The day number of the day.
+    fn to_i64_date(self) -> i64
+        ensures day { result ≡ epoch_day self }
+        ensures known { IsIslamicEpoch result }
+    {
+        match self {
+            TabularAlgorithmEpoch::Thursday => islamic::THURSDAY_EPOCH,
+            TabularAlgorithmEpoch::Friday => islamic::FRIDAY_EPOCH,
+        }
+    }
+}
+
+/// The months of a tabular year that have 30 days, as bits, the first month's the lowest.
+fn long_months(year: i32) -> u16
+    ensures { result ≡ tabular_long year }
+{
+    if islamic::is_leap_year(year) {
+        0b1101_0101_0101
+    } else {
+        0b0101_0101_0101
+    }
+}
+
+/// The tabular year of an extended year from -8000000 to 8000000.
+pub(crate) fn tabular_year(rules: TabularAlgorithm, extended_year: i32) -> HijriYear
+    requires { IsRuleYear extended_year }
+    ensures { result ≡ tabular_year rules extended_year }
+{
+    let start = islamic::year_start(extended_year, rules.epoch.to_i64_date());
+    HijriYear {
+        extended_year,
+        first_day: start.to_i64_date(),
+        long_months: long_months(extended_year),
+    }
+}
+
+/// The reference year of a day of a month, 1 to 12: the latest year in which it falls on or before 1972-12-31 of
+/// the ISO calendar.
+pub(crate) fn reference_year(epoch: TabularAlgorithmEpoch, month: u8, day: u8) -> i32
+    ensures { result ≡ tabular_reference_year epoch month day }
+{
+    let last_day = match epoch {
+        TabularAlgorithmEpoch::Thursday => 26,
+        TabularAlgorithmEpoch::Friday => 25,
+    };
+    match month {
+        0..=10 => 1392,
+        11 if day <= last_day => 1392,
+        11 => 1391,
+        _ if day >= 30 => 1390,
+        _ => 1391,
+    }
+}
+
+impl UnstableSealed for TabularAlgorithm {}
+
+impl Rules for TabularAlgorithm {
+    ghost use Rattle.cal_hijri.specs.TabularRules.{tabular_reference, are_same_rules, same_rules-equivalence, algorithm_of_epoch, name_of_epoch, tabular-numbered, tabular-joins, tabular-references, tabular-shared};
+
+    type DateCompatibilityError = MismatchedCalendarError;
+
+    ghost year_of = { λ s y. tabular_year s y };
+
+    ghost reference = { λ s m d. tabular_reference s m d };
+
+    ghost compatible = { λ s t. are_same_rules s t };
+
+    ghost algorithm = { λ s. algorithm_of_epoch s.epoch };
+
+    ghost name = { λ s. name_of_epoch s.epoch };
+
+    fn year(&self, extended_year: i32) -> HijriYear {
+        tabular_year(*self, extended_year)
+    }
+
+    fn ecma_reference_year(&self, month: Month, day: u8) -> Result<i32, EcmaReferenceYearError> {
+        if is_plain(month, 12) {
+            Ok(reference_year(self.epoch, month.number(), day))
+        } else {
+            Err(EcmaReferenceYearError::MonthNotInCalendar)
+        }
+    }
+
+    fn check_date_compatibility(&self, other: &Self) -> Result<(), MismatchedCalendarError> {
+        if self == other {
+            Ok(())
+        } else {
+            Err(MismatchedCalendarError)
+        }
+    }
+
+    fn calendar_algorithm(&self) -> Option<CalendarAlgorithm> {
+        let kind = match self.epoch {
+            TabularAlgorithmEpoch::Thursday => HijriCalendarAlgorithm::Tbla,
+            TabularAlgorithmEpoch::Friday => HijriCalendarAlgorithm::Civil,
+        };
+        Some(CalendarAlgorithm::Hijri(Some(kind)))
+    }
+
+    fn debug_name(&self) -> &'static str {
+        match self.epoch {
+            TabularAlgorithmEpoch::Thursday => "Hijri (astronomical)",
+            TabularAlgorithmEpoch::Friday => "Hijri (civil)",
+        }
+    }
+
+    ghost numbered = { λ s. tabular-numbered s };
+
+    ghost joins = { λ s. tabular-joins s };
+
+    ghost references = { λ s. tabular-references s };
+
+    ghost refusal = { λ _ _ _. record {} };
+
+    ghost alike = { same_rules-equivalence };
+
+    ghost shared = { λ s t y h _. tabular-shared s t y h };
+}
