@@ -1,0 +1,5 @@
+pub mod Finding
+pub mod MoonLemmas
+pub mod MonthBitLemmas
+pub mod PartLemmas
+pub mod TableMonthLemmas

@@ -1,0 +1,122 @@
+//! The rules of the Chinese calendar.
+
+ghost use Rattle.std.specs.Prelude.{◌≡◌};
+ghost use Rattle.cal_east_asian.specs.declared.sides.Side.TheVariants as side;
+
+use crate::east_asian_table::EastAsianTable;
+use crate::east_asian_traditional::EastAsianTraditional;
+use crate::east_asian_traditional_year::EastAsianTraditionalYear;
+use crate::reference_years::reference_year;
+use crate::rules::Rules;
+use crate::same_rows::have_same_rows;
+use crate::sides::Side;
+use crate::table_months::months_between;
+use cal_arith::Steps;
+use cal_base::scaffold::UnstableSealed;
+use cal_types::{CalendarAlgorithm, EcmaReferenceYearError, MismatchedCalendarError, Month};
+use std::sync::ledger::Ledger;
+
+/// The rules of the Chinese calendar, with a table of years.
+///
+/// A year that the table has a row of is that row. Another one is the mean year at 8 hours from Greenwich from 1912
+/// on, the year of the Qing calendar from 1900 to 1911, and the mean year at Beijing's mean time before. CLDR's name
+/// for the calendar is `chinese`. Dates of two such calendars can be compared where their tables have the same rows.
+#[derive(Clone, Copy, Debug)]
+pub struct China<'t> {
+    table: EastAsianTable<'t>,
+    ghost side: { table.side ≡ side.China },
+}
+
+/// The Chinese calendar, with a table of years.
+pub type ChineseTraditional<'t> = EastAsianTraditional<China<'t>>;
+
+impl<'t> China<'t> {
+    /// The rules with a table of China's years.
+    pub fn new(table: EastAsianTable<'t>) -> China<'t>
+        requires { table.side ≡ side.China }
+        ensures { result.table ≡ table.entry }
+    {
+        China { table }
+    }
+}
+
+impl<'t> EastAsianTraditional<China<'t>> {
+    /// The Chinese calendar with a table of China's years.
+    pub fn new(table: EastAsianTable<'t>) -> ChineseTraditional<'t>
+        requires { table.side ≡ side.China }
+        ensures { result.0.table ≡ table.entry }
+    {
+        EastAsianTraditional(China::new(table))
+    }
+}
+
+impl<'t> UnstableSealed for China<'t> {}
+
+impl<'t> Rules for China<'t> {
+    ghost use Rattle.std.specs.Prelude.{Some, codes};
+    ghost use Rattle.std.specs.Cmp.{on_equiv};
+    ghost use Rattle.std.proofs.Common.{sym, ◌∙◌};
+    ghost use Rattle.cal_types.specs.declared.algorithm.CalendarAlgorithm.TheVariants as algorithms;
+    ghost use Rattle.cal_east_asian.specs.EastAsianReferences.{side_reference};
+    ghost use Rattle.cal_east_asian.specs.TableRules.{table_year, have_same_rows as same_rows, table-years, rows-alike, same_rows-years, side_reference-in_range, side_reference-of_kind, side_reference-of_leap_month};
+
+    type DateCompatibilityError = MismatchedCalendarError;
+
+    ghost year_of = { λ s. table_year s.table };
+
+    ghost reference = { λ _ m d. side_reference side.China m d };
+
+    ghost compatible = { λ s t. same_rows s.table t.table };
+
+    ghost algorithm = { λ _. Some algorithms.Chinese };
+
+    ghost name = { λ _. codes "Chinese" };
+
+    fn year(&self, related_iso: i32) -> EastAsianTraditionalYear {
+        self.table.year(related_iso)
+    }
+
+    /// Only years that may have a row are looked up, and the months of the others are counted in closed form.
+    fn months_between_years<L: Ledger>(
+        &self,
+        first: EastAsianTraditionalYear,
+        last: EastAsianTraditionalYear,
+        steps: &mut Steps<L>,
+    ) -> u32 {
+        months_between(&self.table, first.related_iso, last.related_iso, steps) as u32
+    }
+
+    fn ecma_reference_year(&self, month: Month, day: u8) -> Result<i32, EcmaReferenceYearError> {
+        reference_year(Side::China, month, day)
+    }
+
+    fn check_date_compatibility(&self, other: &Self) -> Result<(), MismatchedCalendarError> {
+        if have_same_rows(self.table.rows(), other.table.rows()) {
+            Ok(())
+        } else {
+            Err(MismatchedCalendarError)
+        }
+    }
+
+    fn calendar_algorithm(&self) -> Option<CalendarAlgorithm> {
+        Some(CalendarAlgorithm::Chinese)
+    }
+
+    fn debug_name(&self) -> &'static str {
+        "Chinese"
+    }
+
+    ghost lawful = { λ s. table-years s.table };
+
+    ghost reference_in_range = { λ _ m d y e. side_reference-in_range side.China m d y e };
+
+    ghost reference_of_kind = { λ _ m d e. side_reference-of_kind side.China m d e };
+
+    ghost reference_of_leap_month = { λ _ m d e. side_reference-of_leap_month side.China m d e };
+
+    ghost refusal = { λ _ _ _. record {} };
+
+    ghost alike = { on_equiv (λ s. s.table) rows-alike };
+
+    ghost shared = { λ s t y h _. same_rows-years s.table t.table (s.side ∙ sym t.side) h y };
+}

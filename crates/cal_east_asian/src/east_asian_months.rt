@@ -1,0 +1,115 @@
+//! The months of a Chinese or Korean year, by the place of its leap month, or 0 without one, and a bit for each month
+//! of 30 days, the first month's lowest.
+
+ghost use Rattle.std.specs.Prelude.{◌≡◌, ◌-◌, ◌*◌, ◌≤◌};
+ghost use Rattle.cal_types.specs.MonthParts.{month_parts};
+ghost use Rattle.cal_east_asian.specs.EastAsianYear.{months_of_year};
+ghost use Rattle.cal_east_asian.specs.EastAsianMonths.{month_in_place as month_placed};
+ghost use Rattle.cal_east_asian.specs.EastAsianPlaces.{days_of_months, east_asian_place, is_east_asian_month, leap_status_of_place, month_days, plain_month_place};
+
+use cal_types::{LeapStatus, Month, MonthError, Overflow};
+
+/// How many months a year has.
+pub(crate) fn months_in_year(leap_month: u8) -> u8
+    ensures value { result ≡ months_of_year leap_month }
+    ensures bound { result ≤ 13 }
+{
+    if leap_month == 0 { 12 } else { 13 }
+}
+
+/// How many days the month in a place has.
+pub(crate) fn days_in_month(long_months: u16, place: u8) -> u8
+    requires { (1 ≤ place) × (place ≤ 13) }
+    ensures value { result ≡ month_days long_months place }
+    ensures bound { result ≤ 30 }
+{
+    29 + ((long_months >> (place - 1)) % 2) as u8
+}
+
+/// How many days of the year go before the month in a place.
+pub(crate) fn days_before_month(long_months: u16, place: u8) -> u16
+    requires { (1 ≤ place) × (place ≤ 13) }
+    ensures value { result ≡ days_of_months long_months (place - 1) }
+    ensures bound { result ≤ 390 }
+{
+    let mut days = 0;
+    let mut before = 1;
+    'months: while before < place {
+        days += u16::from(days_in_month(long_months, before));
+        before += 1;
+    }
+    days
+}
+
+/// Whether a month is one of the plain months 1 to 12, or the leap month of one of these numbers.
+pub(crate) fn is_east_asian(month: Month) -> bool
+    ensures { result ≡ is_east_asian_month (month_parts month) }
+{
+    1 <= month.number() && month.number() <= 12
+}
+
+/// The month in a place. The leap month has the number of the month before it.
+pub(crate) fn month_in_place(leap_month: u8, place: u8) -> Month
+    requires { (1 ≤ place) × (place ≤ 13) }
+    ensures { month_parts result ≡ month_placed leap_month place }
+{
+    if place == leap_month {
+        Month::leap(place - 1)
+    } else if leap_month == 0 || place < leap_month {
+        Month::new(place)
+    } else {
+        Month::new(place - 1)
+    }
+}
+
+/// The place of a plain month, 1 to 12.
+fn place_of_plain_month(leap_month: u8, number: u8) -> u8
+    requires { number ≤ 12 }
+    ensures { result ≡ plain_month_place leap_month number }
+{
+    if leap_month == 0 || number < leap_month {
+        number
+    } else {
+        number + 1
+    }
+}
+
+/// The place of a month.
+///
+/// A year has no place for a leap month that it lacks; under [`Overflow::Constrain`] the plain month of its number
+/// stands in for it.
+pub(crate) fn place_of_month(
+    leap_month: u8,
+    month: Month,
+    overflow: Overflow,
+) -> Result<u8, MonthError>
+    ensures { result ≡ east_asian_place leap_month (month_parts month) overflow }
+{
+    if !is_east_asian(month) {
+        return Err(MonthError::NotInCalendar);
+    }
+    if !month.is_leap() {
+        return Ok(place_of_plain_month(leap_month, month.number()));
+    }
+    if leap_month == month.number() + 1 {
+        return Ok(leap_month);
+    }
+    match overflow {
+        Overflow::Reject => Err(MonthError::NotInYear),
+        Overflow::Constrain => Ok(place_of_plain_month(leap_month, month.number())),
+    }
+}
+
+/// How the month in a place stands to the leap month: the month right before the leap month is its base.
+pub(crate) fn leap_status(leap_month: u8, place: u8) -> LeapStatus
+    requires { place ≤ 13 }
+    ensures { result ≡ leap_status_of_place leap_month place }
+{
+    if place == leap_month {
+        LeapStatus::Leap
+    } else if place + 1 == leap_month {
+        LeapStatus::Base
+    } else {
+        LeapStatus::Normal
+    }
+}

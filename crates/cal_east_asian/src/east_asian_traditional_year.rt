@@ -1,0 +1,221 @@
+//! A year of a Chinese or Korean calendar.
+
+ghost use Rattle.std.specs.Prelude.{◌≡◌, ◌↔◌, ◌≤◌, IfSome, IsSome, IsTrue, Some};
+ghost use Rattle.std.proofs.Common.{rules};
+ghost use Rattle.std.specs.Cmp.Rules.{comparing, hashing};
+ghost use Rattle.std.specs.Ordering.{int_cmp, int_eq, on, as_partial_cmp};
+ghost use Rattle.std.specs.Hash as fed;
+ghost use Rattle.cal_days.specs.Day.{IsRuleYear};
+ghost use Rattle.cal_east_asian.specs.EastAsianPlaces.{month_days};
+ghost use Rattle.cal_east_asian.specs.EastAsianYear.{IsEastAsianYear, IsNewYear, is_leap_place, months_of_year};
+ghost use Rattle.cal_east_asian.specs.MonthStarts.{AreYearStarts, HaveLengthsOf, leap_place_read, leap_place_shown, start_at};
+
+use crate::east_asian_months::{days_in_month, months_in_year};
+use crate::month_starts::{first_day, is_new_year, leap_place, long_months};
+use cal_arith::PackWithMD;
+use cal_days::RataDie;
+use std::cmp::Ordering;
+use std::hash::{Hash, Hasher};
+
+/// A year of a Chinese or Korean calendar: its number, the ISO year in which it starts, its first day, the lengths
+/// of its months, and the place of its leap month.
+///
+/// The number lies from -8000000 to 8000000, and the year starts 0 to 34 days after January 19 of its number. It has
+/// 12 months, or 13 with a leap month in the place 2 to 13. A leap month has the number of the month before it.
+///
+/// Years are equal, ordered and hashed by the number.
+#[derive(Clone, Copy, Debug)]
+pub struct EastAsianTraditionalYear {
+    /// The ISO year in which it starts.
+    pub(crate) related_iso: i32,
+    /// The rata die of its first day.
+    pub(crate) new_year: i64,
+    /// A bit for each month of 30 days, the first month's lowest. The other months have 29 days.
+    pub(crate) long_months: u16,
+    /// The place of the leap month, or 0 without one.
+    pub(crate) leap_month: u8,
+    ghost valid: { IsEastAsianYear related_iso new_year leap_month },
+}
+
+impl PartialEq for EastAsianTraditionalYear {
+    ghost eq = { on (λ a. a.related_iso) int_eq };
+
+    ghost laws = { Prim.search (comparing, rules) };
+
+    fn eq(&self, other: &Self) -> bool {
+        self.related_iso == other.related_iso
+    }
+}
+
+impl Eq for EastAsianTraditionalYear {
+    ghost laws = { Prim.search (comparing, rules) };
+}
+
+impl Ord for EastAsianTraditionalYear {
+    ghost cmp = { on (λ a. a.related_iso) int_cmp };
+
+    ghost total = { Prim.search (comparing, rules) };
+
+    ghost matches_partial_cmp = { Prim.search (comparing, rules) };
+
+    ghost matches_eq = { Prim.search (comparing, rules) };
+
+    fn cmp(&self, other: &Self) -> Ordering {
+        self.related_iso.cmp(&other.related_iso)
+    }
+}
+
+impl PartialOrd for EastAsianTraditionalYear {
+    ghost partial_cmp = { as_partial_cmp (on (λ a. a.related_iso) int_cmp) };
+
+    ghost laws = { Prim.search (comparing, rules) };
+
+    fn partial_cmp(&self, other: &Self) -> Option<Ordering> {
+        Some(self.cmp(other))
+    }
+}
+
+impl Hash for EastAsianTraditionalYear {
+    ghost hash_input = { λ a. fed.i32 a.related_iso };
+
+    ghost respects_eq = { Prim.search (hashing, rules) };
+
+    fn hash<H: Hasher>(&self, state: &mut H) {
+        self.related_iso.hash(state);
+    }
+}
+
+impl EastAsianTraditionalYear {
+    /// The year of a number whose months, and the next year's first one, start on these days.
+    ///
+    /// It has 12 months, of which the first 13 starts are read, or with the place of a leap month 13, of which all 14
+    /// are. None exactly where the number isn't from -8000000 to 8000000, a month hasn't 29 or 30 days, the place of
+    /// the leap month isn't from 2 to 13, or the first day isn't 0 to 34 days after January 19 of the number.
+    pub fn try_new(
+        related_iso: i32,
+        month_starts: [RataDie; 14],
+        leap_month: Option<u8>,
+    ) -> Option<EastAsianTraditionalYear>
+        ensures some { IsSome result ↔ AreYearStarts related_iso month_starts leap_month }
+        ensures number { IfSome result (λ y. y.related_iso ≡ related_iso) }
+        ensures start { IfSome result (λ y. y.new_year ≡ start_at month_starts 0) }
+        ensures leap_month { IfSome result (λ y. leap_place_read leap_month ≡ Some y.leap_month) }
+        ensures lengths { IfSome result (λ y. HaveLengthsOf month_starts (months_of_year y.leap_month) y.long_months) }
+    {
+        let place = leap_place(leap_month)?;
+        let new_year = first_day(&month_starts);
+        if !is_new_year(related_iso, new_year) {
+            return None;
+        }
+        let long_months = long_months(&month_starts, months_in_year(place))?;
+        Some(EastAsianTraditionalYear::from_parts(
+            related_iso,
+            new_year.to_i64_date(),
+            long_months,
+            place,
+        ))
+    }
+
+    /// Its number: the ISO year in which it starts.
+    pub fn related_iso(self) -> i32
+        ensures value { result ≡ self.related_iso }
+        ensures range { IsRuleYear result }
+    {
+        self.related_iso
+    }
+
+    /// Its first day.
+    pub fn new_year(self) -> RataDie
+        ensures { result ≡ self.new_year }
+    {
+        RataDie::new(self.new_year)
+    }
+
+    /// The place of its leap month, from 2 to 13, where it has one.
+    pub fn leap_month(self) -> Option<u8>
+        ensures { result ≡ leap_place_shown self.leap_month }
+    {
+        if self.leap_month >= 1 {
+            Some(self.leap_month)
+        } else {
+            None
+        }
+    }
+
+    /// How many months it has: 12, or 13 with a leap month.
+    pub fn months(self) -> u8
+        ensures { result ≡ months_of_year self.leap_month }
+    {
+        months_in_year(self.leap_month)
+    }
+
+    /// How many days the month in a place has: 29 or 30.
+    pub fn month_len(self, month: u8) -> u8
+        requires { (1 ≤ month) × (month ≤ months_of_year self.leap_month) }
+        ensures { result ≡ month_days self.long_months month }
+    {
+        days_in_month(self.long_months, month)
+    }
+
+    /// The year of these parts: its number, the rata die of its first day, a bit for each month of 30 days, the first
+    /// month's lowest, and the place of the leap month, or 0.
+    pub(crate) fn from_parts(
+        related_iso: i32,
+        new_year: i64,
+        long_months: u16,
+        leap_month: u8,
+    ) -> EastAsianTraditionalYear
+        requires number { IsRuleYear related_iso }
+        requires start { IsNewYear related_iso new_year }
+        requires place { IsTrue (is_leap_place leap_month) }
+        ensures number { result.related_iso ≡ related_iso }
+        ensures start { result.new_year ≡ new_year }
+        ensures lengths { result.long_months ≡ long_months }
+        ensures place { result.leap_month ≡ leap_month }
+    {
+        EastAsianTraditionalYear {
+            related_iso,
+            new_year,
+            long_months,
+            leap_month,
+        }
+    }
+}
+
+/// A year of a Chinese or Korean calendar, the place of a month in it, and a day of that month, both from 1.
+#[derive(Clone, Copy, Debug)]
+pub struct PackedEastAsianDate {
+    year: EastAsianTraditionalYear,
+    month: u8,
+    day: u8,
+}
+
+impl PackWithMD for EastAsianTraditionalYear {
+    ghost use Rattle.cal_arith.specs.Dates.{ymd};
+
+    type Packed = PackedEastAsianDate;
+
+    ghost stored = { λ y. y.related_iso };
+
+    ghost parts = { λ p. ymd p.year p.month p.day };
+
+    fn pack(self, month: u8, day: u8) -> PackedEastAsianDate {
+        PackedEastAsianDate {
+            year: self,
+            month,
+            day,
+        }
+    }
+
+    fn unpack_year(packed: PackedEastAsianDate) -> EastAsianTraditionalYear {
+        packed.year
+    }
+
+    fn unpack_month(packed: PackedEastAsianDate) -> u8 {
+        packed.month
+    }
+
+    fn unpack_day(packed: PackedEastAsianDate) -> u8 {
+        packed.day
+    }
+}

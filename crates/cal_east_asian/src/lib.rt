@@ -1,0 +1,31 @@
+//! The Chinese and Korean calendars, and others of their kind under any lawful rules.
+#![tactic(auto)]
+
+mod china;
+mod computed_years;
+mod east_asian_months;
+mod east_asian_table;
+mod east_asian_traditional;
+mod east_asian_traditional_year;
+mod korea;
+mod mean_moons;
+mod mean_years;
+mod month_starts;
+mod qing_years;
+mod reference_years;
+mod rules;
+mod same_rows;
+mod sides;
+mod table_months;
+#[cfg(test)]
+mod tests;
+
+pub use china::{China, ChineseTraditional};
+pub use east_asian_table::EastAsianTable;
+pub use east_asian_traditional::{ChineseDateInner, EastAsianTraditional};
+pub use east_asian_traditional_year::{EastAsianTraditionalYear, PackedEastAsianDate};
+pub use korea::{Korea, KoreanTraditional};
+pub use mean_years::mean_year;
+pub use qing_years::qing_year;
+pub use rules::Rules;
+pub use sides::Side;

@@ -1,0 +1,76 @@
+//! The months of a year by their first days.
+
+ghost use Rattle.std.specs.Prelude.{◌≡◌, ◌↔◌, ◌≤◌, IfSome, IsSome, IsTrue, pos, neg_ℤ, ◌-ℤ◌};
+ghost use Rattle.cal_days.specs.Day.{IsBetween, IsRuleYear};
+ghost use Rattle.cal_east_asian.specs.EastAsianYear.{IsNewYear};
+ghost use Rattle.cal_east_asian.specs.MonthStarts.{HaveLengthsOf, HaveMonthLengths, leap_place_read, start_at};
+
+use cal_days::{RataDie, gregorian};
+
+/// The place of the leap month, or 0 without one. None for a place that isn't from 2 to 13.
+pub(crate) fn leap_place(leap_month: Option<u8>) -> Option<u8>
+    ensures { result ≡ leap_place_read leap_month }
+{
+    match leap_month {
+        None => Some(0),
+        Some(place) => {
+            if 2 <= place && place <= 13 {
+                Some(place)
+            } else {
+                None
+            }
+        }
+    }
+}
+
+/// The first day of the first month.
+pub(crate) fn first_day(starts: &[RataDie; 14]) -> RataDie
+    ensures { result ≡ start_at starts.now 0 }
+{
+    starts[0]
+}
+
+/// Whether a number is one of a year, and the year may start on a day.
+pub(crate) fn is_new_year(related_iso: i32, day: RataDie) -> bool
+    ensures { IsTrue result ↔ (IsRuleYear related_iso × IsNewYear related_iso day) }
+{
+    if related_iso < -8000000 || related_iso > 8000000 {
+        return false;
+    }
+    let since = day.since(gregorian::year_start(related_iso));
+    18 <= since && since <= 52
+}
+
+/// How many days a month has that starts on one day, where the next month starts on another.
+fn days_from(first: RataDie, next: RataDie) -> i64
+    ensures value { result ≡ next -ℤ first }
+    ensures bound { IsBetween (neg_ℤ (pos 100000000000000000)) (pos 100000000000000000) result }
+{
+    next.since(first)
+}
+
+/// Whether a month may have so many days.
+fn is_month_length(days: i64) -> bool
+    ensures { IsTrue result ↔ IsBetween (pos 29) (pos 30) days }
+{
+    days == 29 || days == 30
+}
+
+/// A bit for each month of 30 days, the first month's lowest. None where one of the months hasn't 29 or 30 days.
+pub(crate) fn long_months(starts: &[RataDie; 14], months: u8) -> Option<u16>
+    requires { months ≤ 13 }
+    ensures some { IsSome result ↔ HaveMonthLengths starts.now 0 months }
+    ensures lengths { IfSome result (λ long. HaveLengthsOf starts.now months long) }
+{
+    let mut long_months = 0;
+    let mut month = usize::from(months);
+    'months: while month > 0 {
+        let days = days_from(starts[month - 1], starts[month]);
+        if !is_month_length(days) {
+            return None;
+        }
+        long_months = 2 * long_months + (days - 29) as u16;
+        month -= 1;
+    }
+    Some(long_months)
+}

@@ -1,0 +1,324 @@
+//! Known years, and years by another program.
+//!
+//! The mean years are those of a program in Python that tries the moons and the terms one after another.
+
+mod mean_rules;
+
+use self::mean_rules::MeanRules;
+use crate::china::ChineseTraditional;
+use crate::computed_years::{computed_months_between, computed_year, computed_year_containing_rd};
+use crate::east_asian_table::EastAsianTable;
+use crate::east_asian_traditional::EastAsianTraditional;
+use crate::east_asian_traditional_year::EastAsianTraditionalYear;
+use crate::korea::KoreanTraditional;
+use crate::mean_years::{mean_year, mean_year_containing_rd};
+use crate::qing_years::qing_year;
+use crate::sides::Side;
+use cal_base::Calendar;
+use cal_days::RataDie;
+use cal_types::{
+    DateDifferenceOptions, DateDurationUnit, DateFields, DateFromFieldsError,
+    DateFromFieldsOptions, LeapStatus, MissingFieldsStrategy, Month, Overflow, YearInput,
+};
+
+#[test]
+fn mean_years_have_known_months(rt: HostRuntime) {
+    for (offset, year, new_year, long_months, leap_month) in [
+        (28_800_000, 1912, 698026, 0b10101101010, 0),
+        (32_400_000, 1912, 698026, 0b10101011010, 0),
+        (27_940_000, 1899, 693271, 0b101010101101, 0),
+        (28_800_000, 2024, 738926, 0b11010101010, 0),
+        (32_400_000, 2024, 738926, 0b10110101010, 0),
+        (28_800_000, 2025, 739280, 0b1010101010101, 9),
+        (28_800_000, 2033, 742204, 0b1101010101010, 11),
+        (27_940_000, 0, -314, 0b101010101011, 0),
+        (27_940_000, -8000000, -2921940336, 0b101101010101, 9),
+        (28_800_000, 8000000, 2921939679, 0b110101010101, 0),
+        (32_400_000, 8000000, 2921939679, 0b101101010101, 0),
+    ] {
+        assert!(rt; 27_940_000 <= offset && offset <= 32_400_000);
+        assert!(rt; -8000000 <= year && year <= 8000000);
+        let found = mean_year(offset, year);
+        assert_eq!(rt; found.related_iso, year);
+        assert_eq!(rt; found.new_year, new_year, "at {year}");
+        assert_eq!(rt; found.long_months, long_months, "at {year}");
+        assert_eq!(rt; found.leap_month, leap_month, "at {year}");
+    }
+}
+
+#[test]
+fn days_lie_in_known_mean_years(rt: HostRuntime) {
+    for (offset, day, year) in [
+        (28_800_000, 738925, 2023),
+        (28_800_000, 738926, 2024),
+        (28_800_000, 739279, 2024),
+        (28_800_000, 739280, 2025),
+        (27_940_000, -365242499, -1000000),
+        (32_400_000, 365242134, 999999),
+    ] {
+        assert!(rt; 27_940_000 <= offset && offset <= 32_400_000);
+        assert!(rt; -365242499 <= day && day <= 365242134);
+        assert_eq!(rt;
+            mean_year_containing_rd(offset, RataDie::new(day)).related_iso,
+            year,
+            "at {day}"
+        );
+    }
+}
+
+#[test]
+fn qing_years_have_their_days_and_leap_months(rt: HostRuntime) {
+    for (year, new_year, long_months, leap_month) in [
+        (1900, 693626, 7, 9),
+        (1901, 694010, 6, 0),
+        (1902, 694364, 7, 0),
+        (1903, 694719, 6, 6),
+        (1904, 695102, 6, 0),
+        (1905, 695456, 7, 0),
+        (1906, 695811, 7, 5),
+        (1907, 696195, 6, 0),
+        (1908, 696549, 7, 0),
+        (1909, 696904, 7, 3),
+        (1910, 697288, 6, 0),
+        (1911, 697642, 7, 7),
+    ] {
+        let found = qing_year(year).map(|row| (
+            row.new_year,
+            row.long_months.count_ones(),
+            row.leap_month,
+        ));
+        assert_eq!(rt;
+            found,
+            Some((new_year, long_months, leap_month)),
+            "at {year}"
+        );
+    }
+    assert!(rt; qing_year(1899).is_none() && qing_year(1912).is_none());
+}
+
+#[test]
+fn computed_years_change_at_1900_and_1912(rt: HostRuntime) {
+    for (side, year, new_year, leap_month) in [
+        (Side::China, 1899, 693271, 0),
+        (Side::Korea, 1899, 693271, 0),
+        (Side::China, 1900, 693626, 9),
+        (Side::Korea, 1911, 697642, 7),
+        (Side::China, 1912, 698026, 0),
+        (Side::Korea, 1912, 698026, 0),
+        (Side::China, 1938, 707505, 10),
+        (Side::Korea, 1938, 707505, 11),
+    ] {
+        assert!(rt; -8000000 <= year && year <= 8000000);
+        let found = computed_year(side, year);
+        assert_eq!(rt;
+            (found.new_year, found.leap_month),
+            (new_year, leap_month),
+            "at {year}"
+        );
+    }
+}
+
+#[test]
+fn days_lie_in_known_computed_years(rt: HostRuntime) {
+    for (side, day, year) in [
+        (Side::China, 693625, 1899),
+        (Side::China, 693626, 1900),
+        (Side::Korea, 698025, 1911),
+        (Side::Korea, 698026, 1912),
+        (Side::China, -365242499, -1000000),
+        (Side::Korea, 365242134, 999999),
+    ] {
+        assert!(rt; -365242499 <= day && day <= 365242134);
+        assert_eq!(rt;
+            computed_year_containing_rd(side, RataDie::new(day)).related_iso,
+            year,
+            "at {day}"
+        );
+    }
+}
+
+#[test]
+fn months_of_computed_years_are_counted(rt: HostRuntime) {
+    for (side, from, to, months) in [
+        (Side::China, 1900, 1912, 149),
+        (Side::Korea, 1900, 1901, 13),
+        (Side::Korea, 1912, 1911, -13),
+        (Side::China, 1899, 1900, 12),
+        (Side::China, 2024, 2026, 25),
+    ] {
+        assert!(rt; -8000000 <= from && from <= 8000000);
+        assert!(rt; -8000000 <= to && to <= 8000000);
+        assert_eq!(rt;
+            computed_months_between(side, from, to),
+            months,
+            "at {from}"
+        );
+    }
+}
+
+/// By the mean years at 8 hours 2025 has the leap month 8 in the place 9, and the month before it is its base.
+#[test]
+fn leap_months_are_shown_over_any_rules(rt: HostRuntime) {
+    let calendar = EastAsianTraditional(MeanRules::new(28_800_000));
+    let first = calendar.from_rata_die(RataDie::new(739280));
+    assert_eq!(rt; calendar.extended_year(&first), 2025);
+    assert_eq!(rt; calendar.year_info(&first).year, 42);
+    assert_eq!(rt; calendar.months_in_year(&first), 13);
+    assert_eq!(rt; calendar.is_in_leap_year(&first), true);
+    for (month, ordinal, status) in [
+        (Month::new(7), 7, LeapStatus::Normal),
+        (Month::new(8), 8, LeapStatus::Base),
+        (Month::leap(8), 9, LeapStatus::Leap),
+        (Month::new(9), 10, LeapStatus::Normal),
+    ] {
+        let made = calendar.new_date(YearInput::Extended(2025), month, 1);
+        let date = made.expect(&rt, "the month is there");
+        assert_eq!(rt; calendar.month(&date).ordinal, ordinal);
+        assert_eq!(rt; calendar.month(&date).leap_status(), status);
+    }
+    let absent = calendar.new_date(YearInput::Extended(2024), Month::leap(8), 1);
+    assert_eq!(rt; absent.is_ok(), false);
+}
+
+/// A date belongs to the calendar of its own rules.
+#[test]
+fn a_date_belongs_to_its_own_rules(rt: HostRuntime) {
+    let eight = EastAsianTraditional(MeanRules::new(28_800_000));
+    let nine = EastAsianTraditional(MeanRules::new(32_400_000));
+    let date = eight.from_rata_die(RataDie::new(738926));
+    assert_eq!(rt; eight.owns(&date), true);
+    assert_eq!(rt; nine.owns(&date), false);
+    assert_eq!(rt; eight.check_date_compatibility(&nine).is_ok(), false);
+    assert_eq!(rt; eight.to_rata_die(&date).to_i64_date(), 738926);
+}
+
+/// A year is read from the first days of its months.
+#[test]
+fn a_year_has_the_lengths_between_its_starts(rt: HostRuntime) {
+    let starts = [
+        RataDie::new(738926),
+        RataDie::new(738955),
+        RataDie::new(738985),
+        RataDie::new(739014),
+        RataDie::new(739044),
+        RataDie::new(739073),
+        RataDie::new(739103),
+        RataDie::new(739132),
+        RataDie::new(739162),
+        RataDie::new(739191),
+        RataDie::new(739221),
+        RataDie::new(739250),
+        RataDie::new(739280),
+        RataDie::new(739309),
+    ];
+    let year = EastAsianTraditionalYear::try_new(2024, starts, Some(3)).expect(&rt, "a year");
+    assert_eq!(rt; year.months(), 13);
+    assert_eq!(rt; year.month_len(1), 29);
+    assert_eq!(rt; year.month_len(2), 30);
+    assert_eq!(rt; year.leap_month(), Some(3));
+    assert_eq!(rt;
+        EastAsianTraditionalYear::try_new(2024, starts, Some(1)).is_some(),
+        false
+    );
+    assert_eq!(rt;
+        EastAsianTraditionalYear::try_new(2023, starts, None).is_some(),
+        false
+    );
+}
+
+#[test]
+fn days_have_known_dates_in_china_and_korea(rt: HostRuntime) {
+    let china = ChineseTraditional::new(EastAsianTable::none(Side::China));
+    let korea = KoreanTraditional::new(EastAsianTable::none(Side::Korea));
+    for (day, year, cycle, month, ordinal, day_of_month) in [
+        (698025, 1911, 48, Month::new(12), 13, 30),
+        (698026, 1912, 49, Month::new(1), 1, 1),
+        (693862, 1900, 37, Month::leap(8), 9, 1),
+        (694216, 1901, 38, Month::new(8), 8, 1),
+    ] {
+        assert!(rt; -365242499 <= day && day <= 365242134);
+        let date = china.from_rata_die(RataDie::new(day));
+        assert_eq!(rt; china.extended_year(&date), year);
+        assert_eq!(rt; china.year_info(&date).year, cycle, "on {day}");
+        assert_eq!(rt; china.month(&date).to_input(), month, "on {day}");
+        assert_eq!(rt; china.month(&date).ordinal, ordinal, "on {day}");
+        assert_eq!(rt; china.day_of_month(&date).0, day_of_month, "on {day}");
+        let there = korea.from_rata_die(RataDie::new(day));
+        assert_eq!(rt; korea.month(&there).ordinal, ordinal, "on {day}");
+    }
+    assert_eq!(rt; china.debug_name(), "Chinese");
+    assert_eq!(rt; korea.debug_name(), "Korean");
+    assert_eq!(rt; china.check_date_compatibility(&china).is_ok(), true);
+}
+
+/// From the leap month 8 of 1900 to the month 8 of 1901 no year has passed, since its plain month stands in for the
+/// leap month.
+#[test]
+fn a_leap_month_counts_in_a_difference(rt: HostRuntime) {
+    let china = ChineseTraditional::new(EastAsianTable::none(Side::China));
+    let from = china.from_rata_die(RataDie::new(693862));
+    let to = china.from_rata_die(RataDie::new(694216));
+    let options = DateDifferenceOptions {
+        largest_unit: Some(DateDurationUnit::Years),
+    };
+    let passed = china.until(&from, &to, options);
+    assert_eq!(rt; passed.years, 0);
+    assert_eq!(rt; passed.months, 12);
+    assert_eq!(rt; passed.days, 0);
+}
+
+/// From the first valid day to the last one there are as many months as mean moons, by a program in Python that
+/// numbers the moons of the two days.
+#[test]
+fn months_are_counted_over_all_valid_days(rt: HostRuntime) {
+    let china = ChineseTraditional::new(EastAsianTable::none(Side::China));
+    let korea = KoreanTraditional::new(EastAsianTable::none(Side::Korea));
+    let options = DateDifferenceOptions {
+        largest_unit: Some(DateDurationUnit::Months),
+    };
+    let first = china.from_rata_die(RataDie::new(-365242499));
+    let last = china.from_rata_die(RataDie::new(365242134));
+    let passed = china.until(&first, &last, options);
+    assert_eq!(rt; passed.months, 24736541);
+    assert_eq!(rt; passed.days, 11);
+    let first = korea.from_rata_die(RataDie::new(-365242499));
+    let last = korea.from_rata_die(RataDie::new(365242134));
+    let passed = korea.until(&first, &last, options);
+    assert_eq!(rt; passed.months, 24736541);
+    assert_eq!(rt; passed.days, 11);
+}
+
+/// A leap month 1 has no reference year, and leaves its place to the month 1 under Constrain alone.
+#[test]
+fn a_leap_month_without_a_reference_year_is_constrained(rt: HostRuntime) {
+    let china = ChineseTraditional::new(EastAsianTable::none(Side::China));
+    for (month, overflow, year) in [
+        (Month::leap(1), Overflow::Constrain, 1972),
+        (Month::leap(8), Overflow::Constrain, 1957),
+        (Month::new(12), Overflow::Reject, 1971),
+    ] {
+        let fields = DateFields {
+            month: Some(month),
+            day: Some(1),
+            ..DateFields::default()
+        };
+        let options = DateFromFieldsOptions {
+            overflow: Some(overflow),
+            missing_fields_strategy: Some(MissingFieldsStrategy::Ecma),
+        };
+        let made = china.from_fields(fields, options);
+        let date = made.expect(&rt, "the date is there");
+        assert_eq!(rt; china.extended_year(&date), year);
+    }
+    let fields = DateFields {
+        month: Some(Month::leap(1)),
+        day: Some(1),
+        ..DateFields::default()
+    };
+    let options = DateFromFieldsOptions {
+        overflow: Some(Overflow::Reject),
+        missing_fields_strategy: Some(MissingFieldsStrategy::Ecma),
+    };
+    let refused = china.from_fields(fields, options).err();
+    assert_eq!(rt; refused, Some(DateFromFieldsError::MonthNotInYear));
+}
