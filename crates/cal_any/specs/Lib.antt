@@ -2,3 +2,4 @@ pub mod AnySystem
 pub mod AnyLaws
 pub mod AnyOrder
 pub mod AnyOrderLaws
+pub mod ByKind

@@ -11,11 +11,13 @@ use cal_base::scaffold::UnstableSealed;
 use cal_base::{AsCalendar, Calendar, Iso, IsoDateInner};
 use cal_coptic::{Coptic, CopticDateInner, Ethiopian, EthiopianDateInner};
 use cal_days::RataDie;
+use cal_east_asian::{China, ChineseDateInner, EastAsianTraditional, Korea};
 use cal_gregory::{
     Buddhist, BuddhistDateInner, Gregorian, GregorianDateInner, Japanese, JapaneseDateInner, Roc,
     RocDateInner,
 };
 use cal_hebrew::{Hebrew, HebrewDateInner};
+use cal_hijri::{AstronomicalSimulation, Hijri, HijriDateInner, TabularAlgorithm, UmmAlQura};
 use cal_julian::{Indian, IndianDateInner, Julian, JulianDateInner, Persian, PersianDateInner};
 use cal_types::{
     CalendarAlgorithm, DateAddError, DateAddOptions, DateDifferenceOptions, DateDuration,
@@ -30,14 +32,24 @@ use std::sync::ledger::Ledger;
 pub enum AnyCalendar<'t> {
     /// The Buddhist calendar.
     Buddhist(Buddhist),
+    /// The Chinese calendar.
+    Chinese(EastAsianTraditional<China<'t>>),
     /// The Coptic calendar.
     Coptic(Coptic),
+    /// The Korean calendar.
+    Dangi(EastAsianTraditional<Korea<'t>>),
     /// The Ethiopian calendar, in one of its styles.
     Ethiopian(Ethiopian),
     /// The Gregorian calendar.
     Gregorian(Gregorian),
     /// The Hebrew calendar.
     Hebrew(Hebrew),
+    /// The Hijri calendar as it is simulated for Mecca.
+    HijriSimulated(Hijri<AstronomicalSimulation<'t>>),
+    /// The Hijri calendar by the tabular rules.
+    HijriTabular(Hijri<TabularAlgorithm>),
+    /// The Hijri calendar of Umm al-Qura.
+    HijriUmmAlQura(Hijri<UmmAlQura<'t>>),
     /// The Indian calendar.
     Indian(Indian),
     /// The ISO calendar.
@@ -62,14 +74,24 @@ pub enum AnyCalendar<'t> {
 pub enum AnyDateInner<'t> {
     /// A date of the Buddhist calendar.
     Buddhist(BuddhistDateInner),
+    /// A date of the Chinese calendar.
+    Chinese(ChineseDateInner<China<'t>>),
     /// A date of the Coptic calendar.
     Coptic(CopticDateInner),
+    /// A date of the Korean calendar.
+    Dangi(ChineseDateInner<Korea<'t>>),
     /// A date of the Ethiopian calendar.
     Ethiopian(EthiopianDateInner),
     /// A date of the Gregorian calendar.
     Gregorian(GregorianDateInner),
     /// A date of the Hebrew calendar.
     Hebrew(HebrewDateInner),
+    /// A date of the Hijri calendar as it is simulated for Mecca.
+    HijriSimulated(HijriDateInner<AstronomicalSimulation<'t>>),
+    /// A date of the Hijri calendar by the tabular rules.
+    HijriTabular(HijriDateInner<TabularAlgorithm>),
+    /// A date of the Hijri calendar of Umm al-Qura.
+    HijriUmmAlQura(HijriDateInner<UmmAlQura<'t>>),
     /// A date of the Indian calendar.
     Indian(IndianDateInner),
     /// A date of the ISO calendar.
@@ -92,10 +114,15 @@ macro_rules! match_variant {
     ($value:expr, $kind:ident, $held:ident, $arm:ident $arguments:tt) => {
         match $value {
             $kind::Buddhist($held) => $arm!(Buddhist, $held, $arguments),
+            $kind::Chinese($held) => $arm!(Chinese, $held, $arguments),
             $kind::Coptic($held) => $arm!(Coptic, $held, $arguments),
+            $kind::Dangi($held) => $arm!(Dangi, $held, $arguments),
             $kind::Ethiopian($held) => $arm!(Ethiopian, $held, $arguments),
             $kind::Gregorian($held) => $arm!(Gregorian, $held, $arguments),
             $kind::Hebrew($held) => $arm!(Hebrew, $held, $arguments),
+            $kind::HijriSimulated($held) => $arm!(HijriSimulated, $held, $arguments),
+            $kind::HijriTabular($held) => $arm!(HijriTabular, $held, $arguments),
+            $kind::HijriUmmAlQura($held) => $arm!(HijriUmmAlQura, $held, $arguments),
             $kind::Indian($held) => $arm!(Indian, $held, $arguments),
             $kind::Iso($held) => $arm!(Iso, $held, $arguments),
             $kind::Japanese($held) => $arm!(Japanese, $held, $arguments),
@@ -130,6 +157,22 @@ macro_rules! date_with_calendar {
 macro_rules! date_arm {
     ($variant:ident, $calendar:ident, ($answer:expr)) => {
         AnyDateInner::$variant($answer)
+    };
+}
+
+/// The inner date that the calendar that is held answers, in the same variant, or its refusal.
+macro_rules! date_or_refusal {
+    ($any:expr, $calendar:ident => $answer:expr) => {
+        match_variant!($any, AnyCalendar, $calendar, date_or_refusal_arm($answer))
+    };
+}
+
+macro_rules! date_or_refusal_arm {
+    ($variant:ident, $calendar:ident, ($answer:expr)) => {
+        match $answer {
+            Ok(date) => Ok(AnyDateInner::$variant(date)),
+            Err(cause) => Err(cause),
+        }
     };
 }
 
@@ -284,7 +327,7 @@ impl<'t> Calendar for AnyCalendar<'t> {
         month: Month,
         day: u8,
     ) -> Result<AnyDateInner<'t>, DateNewError> {
-        Ok(date_with_calendar!(self, calendar => calendar.new_date(year, month, day)?))
+        date_or_refusal!(self, calendar => calendar.new_date(year, month, day))
     }
 
     fn from_fields(
@@ -292,7 +335,7 @@ impl<'t> Calendar for AnyCalendar<'t> {
         fields: DateFields<'_>,
         options: DateFromFieldsOptions,
     ) -> Result<AnyDateInner<'t>, DateFromFieldsError> {
-        Ok(date_with_calendar!(self, calendar => calendar.from_fields(fields, options)?))
+        date_or_refusal!(self, calendar => calendar.from_fields(fields, options))
     }
 
     fn has_cheap_iso_conversion(&self) -> bool {

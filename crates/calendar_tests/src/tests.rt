@@ -13,11 +13,11 @@ use icu_calendar::{
 };
 use std::process::Abort;
 
-const GREGORIAN: AnyCalendar = AnyCalendar::Gregorian(Gregorian);
+const GREGORIAN: AnyCalendar<'static> = AnyCalendar::Gregorian(Gregorian);
 
-const ISO: AnyCalendar = AnyCalendar::Iso(Iso);
+const ISO: AnyCalendar<'static> = AnyCalendar::Iso(Iso);
 
-const JULIAN: AnyCalendar = AnyCalendar::Julian(Julian);
+const JULIAN: AnyCalendar<'static> = AnyCalendar::Julian(Julian);
 
 /// The fields of a bag that speak of the year: era, era year and extended year.
 type YearFields = (Option<&'static str>, Option<i32>, Option<i32>);
@@ -89,7 +89,7 @@ const LENIENT: DateFromFieldsOptions = DateFromFieldsOptions {
 fn day_of(
     fields: DateFields<'_>,
     options: DateFromFieldsOptions,
-    calendar: AnyCalendar,
+    calendar: AnyCalendar<'static>,
 ) -> Result<i64, DateFromFieldsError> {
     match Date::try_from_fields(fields, options, calendar) {
         Ok(date) => Ok(date.to_rata_die().to_i64_date()),

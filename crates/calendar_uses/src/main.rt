@@ -3,37 +3,69 @@
 
 mod uses;
 
-use icu_calendar::{AnyCalendar, Date, DateDuration, Gregorian, Iso, Julian, RataDie};
+use icu_calendar::{
+    AnyCalendar, AsCalendar, Calendar, Date, DateDuration, Gregorian, Iso, Julian, RataDie,
+};
 use std::io;
 use uses::{age, date_of_form, in_chosen_calendar, is_earlier, months_later, there_and_back};
 
-const GREGORIAN: AnyCalendar = AnyCalendar::Gregorian(Gregorian);
+const GREGORIAN: AnyCalendar<'static> = AnyCalendar::Gregorian(Gregorian);
+
+// What is printed of a date whose calendar is chosen at run time is printed by a function over any calendar.
+
+/// The date of a form.
+fn print_form<A: AsCalendar>(rt: &HostRuntime, day: u8, date: &Date<A>) -> io::Result<()>
+where
+    A::Calendar: Calendar,
+{
+    println!(rt; "form of 2020-02-{day}: {date:?}, a {:?}", date.weekday())
+}
 
 /// The date of a form that is filled in rightly, and the fault of one that isn't.
 fn print_forms(rt: &HostRuntime) -> io::Result<()> {
     for day in [29, 30] {
         match date_of_form(2020, 2, day, GREGORIAN) {
-            Ok(date) => println!(rt; "form of 2020-02-{day}: {date:?}, a {:?}", date.weekday())?,
+            Ok(date) => print_form(rt, day, &date)?,
             Err(fault) => println!(rt; "form of 2020-02-{day}: {fault}")?,
         }
     }
     Ok(())
 }
 
+/// A day in the calendar that was chosen.
+fn print_same_day<A: AsCalendar>(
+    rt: &HostRuntime,
+    iso: &Date<Iso>,
+    chosen: &Date<A>,
+) -> io::Result<()>
+where
+    A::Calendar: Calendar,
+{
+    let (day, days) = (chosen.day_of_year().0, chosen.days_in_year());
+    println!(rt; "the same day: {iso:?} is {chosen:?}, day {day} of {days}")
+}
+
 /// 2020-02-29 in the Julian calendar.
 fn print_chosen_calendar(rt: &HostRuntime) -> io::Result<()> {
     let iso = Date::from_rata_die(RataDie::new(737484), Iso);
     let julian = in_chosen_calendar(&iso, AnyCalendar::Julian(Julian));
-    let (day, days) = (julian.day_of_year().0, julian.days_in_year());
-    println!(rt; "the same day: {iso:?} is {julian:?}, day {day} of {days}")
+    print_same_day(rt, &iso, &julian)
+}
+
+/// The date so many months after the first.
+fn print_later<A: AsCalendar>(rt: &HostRuntime, months: u32, date: &Date<A>) -> io::Result<()>
+where
+    A::Calendar: Calendar,
+{
+    println!(rt; "{months} months after the first: {date:?}")
 }
 
 /// One month and two months after 2020-01-31.
 fn print_recurrence(rt: &HostRuntime) -> io::Result<()> {
-    let first = Date::from_rata_die(RataDie::new(737455), GREGORIAN);
     for months in [1, 2] {
+        let first = Date::from_rata_die(RataDie::new(737455), GREGORIAN);
         match months_later(first, months) {
-            Ok(date) => println!(rt; "{months} months after the first: {date:?}")?,
+            Ok(date) => print_later(rt, months, &date)?,
             Err(fault) => println!(rt; "{months} months after the first: {fault}")?,
         }
     }

@@ -21,15 +21,15 @@ use icu_calendar::{
 
 /// A form: the date that a year, the number of a month and a day name in a calendar, or the first thing that is
 /// wrong with them.
-pub fn date_of_form(
+pub fn date_of_form<'t>(
     extended_year: i32,
     month: u8,
     day: u8,
-    calendar: AnyCalendar,
-) -> Result<Date<AnyCalendar>, DateFromFieldsError>
+    calendar: AnyCalendar<'t>,
+) -> Result<Date<AnyCalendar<'t>>, DateFromFieldsError>
     ensures named { let fields = form_fields extended_year month day in
-        answer_by (λ d. any_date calendar d.inner) result ≡ resolve_fields (any_system calendar) fields strictly }
-    ensures calendar { IfOk result (λ d. d.calendar ≡ calendar) }
+        answer_by (λ d. any_date calendar.entry d.inner) result ≡ resolve_fields (any_system calendar.entry) fields strictly }
+    ensures calendar { IfOk result (λ d. d.calendar ≡ calendar.entry) }
 {
     let fields = DateFields::from_year_month_day(extended_year, Month::new(month), day);
     let reject = DateFromFieldsOptions {
@@ -40,8 +40,8 @@ pub fn date_of_form(
 }
 
 /// A settings page: the same day in the calendar that a reader chose.
-pub fn in_chosen_calendar(date: &Date<Iso>, calendar: AnyCalendar) -> Date<AnyCalendar>
-    ensures { let shown = day_number (any_system calendar).list (any_date calendar result.inner) in
+pub fn in_chosen_calendar<'t>(date: &Date<Iso>, calendar: AnyCalendar<'t>) -> Date<AnyCalendar<'t>>
+    ensures { let shown = day_number (any_system calendar.entry).list (any_date calendar.entry result.inner) in
         shown ≡ day_number iso_list (iso_date date.now.inner) }
 {
     date.to_calendar(calendar)
@@ -49,17 +49,17 @@ pub fn in_chosen_calendar(date: &Date<Iso>, calendar: AnyCalendar) -> Date<AnyCa
 
 /// A recurrence rule: the date so many months after the first one. A month that lacks the first one's day has
 /// none, and the refusal names the month's last day.
-pub fn months_later(
-    first: Date<AnyCalendar>,
+pub fn months_later<'t>(
+    first: Date<AnyCalendar<'t>>,
     months: u32,
-) -> Result<Date<AnyCalendar>, DateAddError>
-    ensures sum { let s = any_system first.calendar in
-        let t = any_date first.calendar first.inner in
-        let answer = answer_by (λ d. any_date first.calendar d.inner) result in
+) -> Result<Date<AnyCalendar<'t>>, DateAddError>
+    ensures sum { let s = any_system first.entry.calendar in
+        let t = any_date first.entry.calendar first.entry.inner in
+        let answer = answer_by (λ d. any_date first.entry.calendar d.inner) result in
         IsSum s.list s.year_shift t (later_by months) Overflow.Reject answer }
-    ensures lacks_day { let t = any_date first.calendar first.inner in
+    ensures lacks_day { let t = any_date first.entry.calendar first.entry.inner in
         (last : _) → result ≡ Err (DateAddError.InvalidDay last) → last < t.day }
-    ensures calendar { IfOk result (λ d. d.calendar ≡ first.calendar) }
+    ensures calendar { IfOk result (λ d. d.calendar ≡ first.entry.calendar) }
 {
     let later = DateDuration {
         is_negative: false,

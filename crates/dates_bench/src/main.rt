@@ -9,8 +9,10 @@ mod words;
 use anyhow::{Context, Result};
 use cal_base::Iso;
 use cal_coptic::{Coptic, Ethiopian};
+use cal_east_asian::{ChineseTraditional, EastAsianTable, KoreanTraditional, Side};
 use cal_gregory::{Buddhist, Gregorian, Japanese, Roc};
 use cal_hebrew::Hebrew;
+use cal_hijri::{Hijri, HijriTable, TabularAlgorithmEpoch, TabularAlgorithmLeapYears};
 use cal_julian::{Indian, Julian, Persian, PersianCorrections};
 use measure::measure;
 use std::env;
@@ -39,6 +41,25 @@ fn checksum(work: Work) -> i64 {
             measure(operation, count, calendar)
         }
         CalendarName::Hebrew => measure(operation, count, Hebrew),
+        CalendarName::HijriTabular => {
+            let (leap_years, epoch) = (
+                TabularAlgorithmLeapYears::TypeII,
+                TabularAlgorithmEpoch::Friday,
+            );
+            measure(operation, count, Hijri::new_tabular(leap_years, epoch))
+        }
+        CalendarName::HijriUmmAlQura => {
+            let calendar = Hijri::new_umm_al_qura(HijriTable::none());
+            measure(operation, count, calendar)
+        }
+        CalendarName::Chinese => {
+            let calendar = ChineseTraditional::new(EastAsianTable::none(Side::China));
+            measure(operation, count, calendar)
+        }
+        CalendarName::Dangi => {
+            let calendar = KoreanTraditional::new(EastAsianTable::none(Side::Korea));
+            measure(operation, count, calendar)
+        }
     }
 }
 

@@ -50,6 +50,14 @@ pub enum CalendarName {
     Persian,
     /// The Hebrew calendar.
     Hebrew,
+    /// The tabular Hijri calendar from Friday on.
+    HijriTabular,
+    /// The Umm al-Qura calendar, without rows of a table.
+    HijriUmmAlQura,
+    /// The Chinese calendar, without rows of a table.
+    Chinese,
+    /// The Korean calendar, without rows of a table.
+    Dangi,
 }
 
 /// An operation, the calendar of its dates, and how often it is done.
@@ -92,6 +100,10 @@ fn read_calendar(word: &str) -> Option<CalendarName> {
         "indian" => Some(CalendarName::Indian),
         "persian" => Some(CalendarName::Persian),
         "hebrew" => Some(CalendarName::Hebrew),
+        "islamic-civil" => Some(CalendarName::HijriTabular),
+        "islamic-umalqura" => Some(CalendarName::HijriUmmAlQura),
+        "chinese" => Some(CalendarName::Chinese),
+        "dangi" => Some(CalendarName::Dangi),
         _ => None,
     }
 }

@@ -1,5 +1,5 @@
 -- Day numbers of any size, and answers of calls that change a date.
-use Rattle.std.specs.Prelude.{ℤ, pos, neg_ℤ, int_lt, if◌then◌else◌, Result, Ok, Err}
+use Rattle.std.specs.Prelude.{ℤ, int_lt, if◌then◌else◌, Result, Ok, Err}
 use Rattle.cal_days.specs.declared.ranges.TheConstants.{FIRST_VALID_DAY, LAST_VALID_DAY}
 use Rattle.cal_model.specs.CalendarList.{Date}
 

@@ -1,8 +1,3 @@
-pub mod ExtendedDates
-pub mod AnySystem
-pub mod AnyLaws
-pub mod AnyOrder
-pub mod AnyOrderLaws
 pub mod Spans
 pub mod SpanAnswers
 pub mod Clamping
@@ -59,3 +54,18 @@ pub use Rattle.cal_coptic.specs.EthiopianList
 pub use Rattle.cal_coptic.specs.EthiopianSystem
 pub use Rattle.cal_hebrew.specs.HebrewList
 pub use Rattle.cal_hebrew.specs.HebrewSystem
+pub use Rattle.cal_hijri.specs.HijriList
+pub use Rattle.cal_hijri.specs.HijriSystem
+pub use Rattle.cal_hijri.specs.TabularRules
+pub use Rattle.cal_hijri.specs.TableRules
+pub use Rattle.cal_hijri.specs.TableAccepted
+pub use Rattle.cal_east_asian.specs.EastAsianList
+pub use Rattle.cal_east_asian.specs.EastAsianSystem
+pub use Rattle.cal_east_asian.specs.EastAsianReferences
+pub use Rattle.cal_east_asian.specs.MeanYears
+pub use Rattle.cal_east_asian.specs.QingYears
+pub use Rattle.cal_east_asian.specs.ComputedYears
+pub use Rattle.cal_east_asian.specs.TableYears
+pub use Rattle.cal_any.specs.AnySystem
+pub use Rattle.cal_any.specs.AnyOrder
+pub use Rattle.cal_any.specs.AnyLaws

@@ -2,8 +2,8 @@
 use Rattle.std.specs.Prelude.{◌≡◌, Result, Ok, Err}
 use Rattle.icu_calendar.specs.declared.span_parts.Span.{Span}
 use Rattle.icu_calendar.specs.declared.span_parts.SpanError.{SpanError}
-use Rattle.icu_calendar.specs.declared.any_calendar.AnyCalendar.{AnyCalendar}
-use Rattle.icu_calendar.specs.AnySystem.{any_date}
+use Rattle.cal_any.specs.declared.any_calendar.AnyCalendar.{AnyCalendar}
+use Rattle.cal_any.specs.AnySystem.{any_date}
 use Rattle.icu_calendar.specs.Spans.{SpanDates}
 
 -- the dates that a span holds, and its duration

@@ -1,22 +1,51 @@
 //! What the difference of two bags of fields answers.
 
-use crate::any_calendar::AnyCalendar;
 use crate::date::Date;
+use cal_any::AnyCalendar;
+use cal_base::{AsCalendar, Calendar};
 use cal_types::{DateDuration, DateFromFieldsError};
+use std::fmt;
 
 /// Two dates, the same days in a second calendar, and the difference from the first date to the second.
-#[derive(Clone, Copy, Debug)]
-pub struct Span {
+#[derive(Clone, Copy)]
+pub struct Span<'t> {
     /// The date of the first bag.
-    pub from: Date<AnyCalendar>,
+    pub from: Date<AnyCalendar<'t>>,
     /// The same day in the second calendar.
-    pub from_shown: Date<AnyCalendar>,
+    pub from_shown: Date<AnyCalendar<'t>>,
     /// The date of the second bag.
-    pub to: Date<AnyCalendar>,
+    pub to: Date<AnyCalendar<'t>>,
     /// The same day in the second calendar.
-    pub to_shown: Date<AnyCalendar>,
+    pub to_shown: Date<AnyCalendar<'t>>,
     /// The greatest duration, in the units asked for, that leads from the first date and does not surpass the second.
     pub duration: DateDuration,
+}
+
+/// The fields of a [`Span`], as a derived `Debug` prints them.
+fn fmt_fields<A: AsCalendar, W: fmt::Write>(
+    from: (&Date<A>, &Date<A>),
+    to: (&Date<A>, &Date<A>),
+    duration: &DateDuration,
+    f: &mut fmt::Formatter<W>,
+) -> fmt::Result
+where
+    A::Calendar: Calendar,
+{
+    f.debug_struct("Span")
+        .field("from", from.0)
+        .field("from_shown", from.1)
+        .field("to", to.0)
+        .field("to_shown", to.1)
+        .field("duration", duration)
+        .finish()
+}
+
+impl<'t> fmt::Debug for Span<'t> {
+    fn fmt<W: fmt::Write>(&self, f: &mut fmt::Formatter<W>) -> fmt::Result {
+        let from = (&self.from, &self.from_shown);
+        let to = (&self.to, &self.to_shown);
+        fmt_fields(from, to, &self.duration, f)
+    }
 }
 
 /// Which of two bags of fields.

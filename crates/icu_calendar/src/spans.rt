@@ -1,40 +1,39 @@
 //! The difference of two bags of fields.
 
-ghost use Rattle.std.specs.Prelude.{IfOk, Ok};
+ghost use Rattle.std.specs.Prelude.{◌≡◌, IfOk, IfErr, Ok};
 ghost use Rattle.cal_types.specs.Bag.{bag_of};
 ghost use Rattle.cal_model.specs.Adding.{IsSum};
+ghost use Rattle.cal_model.specs.CalendarList.{IsOn, day_number};
+ghost use Rattle.cal_model.specs.CalendarSystem.{resolve_fields};
 ghost use Rattle.cal_model.specs.Difference.{largest_unit_of};
-ghost use Rattle.icu_calendar.specs.AnySystem.{any_system, any_date};
-ghost use Rattle.icu_calendar.specs.Spans.{IsSpan};
+ghost use Rattle.cal_any.specs.AnySystem.{any_system, any_date};
+ghost use Rattle.icu_calendar.specs.Spans.{IsSpan, RefusesBag};
 ghost use Rattle.icu_calendar.specs.SpanAnswers.{span_answer, HasCalendars};
 
-use crate::any_calendar::AnyCalendar;
 use crate::date::Date;
 use crate::span_parts::{BagSide, Span, SpanError};
+use cal_any::AnyCalendar;
+use cal_base::{AsCalendar, Calendar};
 use cal_types::{DateDifferenceOptions, DateFields, DateFromFieldsOptions, Overflow};
 
-/// The dates that two bags of fields name in a calendar, the same days in a second calendar, and the difference
-/// from the first date to the second, which leads back: added to the first date under
-/// [`Overflow::Constrain`], it gives the second.
-///
-/// Where a bag names no date, the error has its side and its first fault; the first bag comes first.
-pub fn span(
+/// The dates that two bags of fields name in a calendar, or the first fault.
+fn named_dates<A: AsCalendar + Copy>(
     from: DateFields<'_>,
     to: DateFields<'_>,
     options: DateFromFieldsOptions,
-    difference: DateDifferenceOptions,
-    calendar: AnyCalendar,
-    shown: AnyCalendar,
-) -> Result<Span, SpanError>
-    ensures calendars { IfOk result (HasCalendars calendar shown) }
-    ensures leads_back { let system = any_system calendar in
-        IfOk result (λ s. let from = any_date calendar s.from.inner in
-        let to = any_date calendar s.to.inner in
-        IsSum system.list system.year_shift from s.duration Overflow.Constrain (Ok to)) }
-    ensures spans { let c = any_system calendar in
-        let list = (any_system shown).list in
-        let unit = largest_unit_of difference.largest_unit in
-        IsSpan c list (bag_of from.entry) (bag_of to.entry) options unit (span_answer result) }
+    calendar: A,
+) -> Result<(Date<A>, Date<A>), SpanError>
+where
+    A::Calendar: Calendar,
+    ensures from { let c = A.cal_of calendar in
+        IfOk result (λ d. resolve_fields (A.Calendar.system c) (bag_of from.entry) options
+        ≡ Ok (A.Calendar.date_of c d.0.inner)) }
+    ensures to { let c = A.cal_of calendar in
+        IfOk result (λ d. resolve_fields (A.Calendar.system c) (bag_of to.entry) options
+        ≡ Ok (A.Calendar.date_of c d.1.inner)) }
+    ensures refused { let system = A.Calendar.system (A.cal_of calendar) in
+        IfErr result (λ e. RefusesBag system (bag_of from.entry) (bag_of to.entry) options e.side e.cause) }
+    ensures calendars { IfOk result (λ d. (d.0.calendar ≡ calendar) × (d.1.calendar ≡ calendar)) }
 {
     let first = match Date::try_from_fields(from, options, calendar) {
         Ok(date) => date,
@@ -43,18 +42,71 @@ pub fn span(
             cause,
         }),
     };
-    let second = match Date::try_from_fields(to, options, calendar) {
-        Ok(date) => date,
-        Err(cause) => return Err(SpanError {
+    match Date::try_from_fields(to, options, calendar) {
+        Ok(second) => Ok((first, second)),
+        Err(cause) => Err(SpanError {
             side: BagSide::To,
             cause,
         }),
-    };
-    Ok(Span {
-        from: first,
-        from_shown: first.to_calendar(shown),
-        to: second,
-        to_shown: second.to_calendar(shown),
-        duration: first.until(&second, difference),
-    })
+    }
+}
+
+/// The days of two dates in another calendar.
+fn shown_days<A: AsCalendar + Copy>(
+    first: &Date<A>,
+    second: &Date<A>,
+    shown: A,
+) -> (Date<A>, Date<A>)
+where
+    A::Calendar: Calendar,
+    ensures first { let c = A.cal_of first.now.calendar in
+        let there = A.cal_of shown in
+        let day = day_number (A.Calendar.system c).list (A.Calendar.date_of c first.now.inner) in
+        IsOn (A.Calendar.system there).list day (A.Calendar.date_of there result.0.inner) }
+    ensures second { let c = A.cal_of second.now.calendar in
+        let there = A.cal_of shown in
+        let day = day_number (A.Calendar.system c).list (A.Calendar.date_of c second.now.inner) in
+        IsOn (A.Calendar.system there).list day (A.Calendar.date_of there result.1.inner) }
+    ensures calendars { (result.0.calendar ≡ shown) × (result.1.calendar ≡ shown) }
+{
+    (first.to_calendar(shown), second.to_calendar(shown))
+}
+
+/// The dates that two bags of fields name in a calendar, the same days in a second calendar, and the difference
+/// from the first date to the second, which leads back: added to the first date under
+/// [`Overflow::Constrain`], it gives the second.
+///
+/// Where a bag names no date, the error has its side and its first fault; the first bag comes first.
+pub fn span<'t>(
+    from: DateFields<'_>,
+    to: DateFields<'_>,
+    options: DateFromFieldsOptions,
+    difference: DateDifferenceOptions,
+    calendar: AnyCalendar<'t>,
+    shown: AnyCalendar<'t>,
+) -> Result<Span<'t>, SpanError>
+    ensures calendars { IfOk result (HasCalendars calendar.entry shown.entry) }
+    ensures leads_back { let system = any_system calendar.entry in
+        IfOk result (λ s. let from = any_date calendar.entry s.from.inner in
+        let to = any_date calendar.entry s.to.inner in
+        IsSum system.list system.year_shift from s.duration Overflow.Constrain (Ok to)) }
+    ensures spans { let c = any_system calendar.entry in
+        let list = (any_system shown.entry).list in
+        let unit = largest_unit_of difference.largest_unit in
+        IsSpan c list (bag_of from.entry) (bag_of to.entry) options unit (span_answer result) }
+{
+    match named_dates(from, to, options, calendar) {
+        Ok((first, second)) => {
+            let (from_shown, to_shown) = shown_days(&first, &second, shown);
+            let duration = first.until(&second, difference);
+            Ok(Span {
+                from: first,
+                from_shown,
+                to: second,
+                to_shown,
+                duration,
+            })
+        }
+        Err(error) => Err(error),
+    }
 }

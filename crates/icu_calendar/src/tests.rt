@@ -9,8 +9,8 @@ mod getters;
 mod spans;
 mod sums;
 
-use crate::any_calendar::AnyCalendar;
 use crate::date::Date;
+use cal_any::AnyCalendar;
 use cal_base::Iso;
 use cal_days::RataDie;
 use cal_gregory::Gregorian;
@@ -21,11 +21,11 @@ use cal_types::{
 };
 use std::process::Abort;
 
-const GREGORIAN: AnyCalendar = AnyCalendar::Gregorian(Gregorian);
+const GREGORIAN: AnyCalendar<'static> = AnyCalendar::Gregorian(Gregorian);
 
-const ISO: AnyCalendar = AnyCalendar::Iso(Iso);
+const ISO: AnyCalendar<'static> = AnyCalendar::Iso(Iso);
 
-const JULIAN: AnyCalendar = AnyCalendar::Julian(Julian);
+const JULIAN: AnyCalendar<'static> = AnyCalendar::Julian(Julian);
 
 /// The options under which a fault is an error.
 const REJECT: DateFromFieldsOptions = DateFromFieldsOptions {
@@ -75,7 +75,7 @@ fn is_named(year: YearInfo, extended_year: i32, era: &str, number: i32) -> bool 
 /// That a date has this day number, extended year, month and day.
 fn assert_date(
     rt: &impl Abort,
-    date: &Date<AnyCalendar>,
+    date: &Date<AnyCalendar<'static>>,
     number: i64,
     extended_year: i32,
     month: u8,

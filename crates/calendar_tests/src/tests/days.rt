@@ -2,9 +2,12 @@
 
 use super::*;
 use EthiopianEraStyle::{AmeteAlem, AmeteMihret};
+use TabularAlgorithmEpoch::{Friday, Thursday};
+use TabularAlgorithmLeapYears::TypeII;
 use icu_calendar::{
-    AsCalendar, Buddhist, Calendar, Coptic, Ethiopian, EthiopianEraStyle, Hebrew, Indian, Japanese,
-    Persian, PersianCorrections, RataDie, Roc,
+    AsCalendar, Buddhist, Calendar, ChineseTraditional, Coptic, EastAsianTable, Ethiopian,
+    EthiopianEraStyle, Hebrew, Hijri, HijriTable, Indian, Japanese, KoreanTraditional, Persian,
+    PersianCorrections, RataDie, Roc, Side, TabularAlgorithmEpoch, TabularAlgorithmLeapYears,
 };
 
 /// What a date shows: its extended year, its month code, its day, and its era with the year in it.
@@ -107,6 +110,29 @@ fn known_days_have_known_dates(rt: HostRuntime) {
     assert_known(&rt, Hebrew, &hebrew);
 }
 
+#[test]
+fn known_days_have_known_hijri_dates(rt: HostRuntime) {
+    let civil = [
+        (738750, (1445, "M02", 1, "ah", 1445)),
+        (739075, (1446, "M01", 1, "ah", 1446)),
+        (742618, (1456, "M01", 1, "ah", 1456)),
+        (227015, (1, "M01", 1, "ah", 1)),
+        (227014, (0, "M12", 29, "bh", 1)),
+    ];
+    assert_known(&rt, Hijri::new_tabular(TypeII, Friday), &civil);
+    let tabular = [
+        (742617, (1456, "M01", 1, "ah", 1456)),
+        (227014, (1, "M01", 1, "ah", 1)),
+    ];
+    assert_known(&rt, Hijri::new_tabular(TypeII, Thursday), &tabular);
+    let simulated = [(738750, (1445, "M02", 1, "ah", 1445))];
+    assert_known(
+        &rt,
+        Hijri::new_simulated_mecca(HijriTable::none()),
+        &simulated,
+    );
+}
+
 /// That days near year 1, near today and at both ends of the valid range come back from their fields.
 fn assert_back<A: AsCalendar + Copy>(rt: &impl Abort, calendar: A)
 where
@@ -134,4 +160,15 @@ fn days_come_back_from_their_fields(rt: HostRuntime) {
     assert_back(&rt, Indian);
     assert_back(&rt, Persian::new(PersianCorrections::none()));
     assert_back(&rt, Hebrew);
+    assert_back(&rt, Hijri::new_tabular(TypeII, Friday));
+    assert_back(&rt, Hijri::new_tabular(TypeII, Thursday));
+    assert_back(&rt, Hijri::new_umm_al_qura(HijriTable::none()));
+    assert_back(
+        &rt,
+        ChineseTraditional::new(EastAsianTable::none(Side::China)),
+    );
+    assert_back(
+        &rt,
+        KoreanTraditional::new(EastAsianTable::none(Side::Korea)),
+    );
 }

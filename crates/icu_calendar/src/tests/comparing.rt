@@ -9,7 +9,7 @@ use std::cmp::Ordering;
 fn assert_order(
     rt: &impl Abort,
     days: (i64, i64),
-    calendars: (AnyCalendar, AnyCalendar),
+    calendars: (AnyCalendar<'static>, AnyCalendar<'static>),
     is_same: bool,
 ) {
     let first = calendars.0.from_rata_die(day(rt, days.0));

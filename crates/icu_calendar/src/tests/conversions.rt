@@ -41,7 +41,12 @@ fn known_days_have_known_dates(rt: HostRuntime) {
 }
 
 /// That a date of the first calendar is the same once it was shown in the second.
-fn assert_there_and_back(rt: &impl Abort, number: i64, first: AnyCalendar, second: AnyCalendar) {
+fn assert_there_and_back(
+    rt: &impl Abort,
+    number: i64,
+    first: AnyCalendar<'static>,
+    second: AnyCalendar<'static>,
+) {
     let date = Date::from_rata_die(day(rt, number), first);
     let there = date.to_calendar(second);
     let back = there.to_calendar(first);

@@ -67,7 +67,7 @@ fn differences_are_known_durations(rt: HostRuntime) {
 /// That the difference of two days, added to the first, gives the second.
 fn assert_leads_back(
     rt: &impl Abort,
-    calendar: AnyCalendar,
+    calendar: AnyCalendar<'static>,
     first: i64,
     second: i64,
     largest_unit: Option<DateDurationUnit>,
@@ -116,8 +116,8 @@ fn differences_lead_back(rt: HostRuntime) {
 
 /// The difference of two dates by a counter that starts at 0.
 fn counted<L: Ledger>(
-    from: &Date<AnyCalendar>,
-    to: &Date<AnyCalendar>,
+    from: &Date<AnyCalendar<'static>>,
+    to: &Date<AnyCalendar<'static>>,
     options: DateDifferenceOptions,
     blank: Blank,
 ) -> Option<DateDuration>

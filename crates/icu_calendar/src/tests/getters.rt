@@ -1,8 +1,9 @@
 //! What dates say of their year, month and day, and how they are written.
 
 use super::*;
+use cal_base::{AsCalendar, Calendar};
 use cal_types::Weekday;
-use std::alloc::AllocError;
+use std::alloc::{AllocError, Global};
 
 #[test]
 fn dates_say_their_place_in_year_month_and_week(rt: HostRuntime) {
@@ -27,6 +28,14 @@ fn dates_say_their_place_in_year_month_and_week(rt: HostRuntime) {
     }
 }
 
+/// The text of a date, by its Debug.
+fn written<A: AsCalendar>(alloc: Global, date: &Date<A>) -> Result<String, AllocError>
+where
+    A::Calendar: Calendar,
+{
+    format!(in alloc; "{date:?}")
+}
+
 #[test]
 fn dates_are_written_with_era_and_calendar(rt: HostRuntime) -> Result<(), AllocError> {
     for (calendar, number, want) in [
@@ -47,10 +56,10 @@ fn dates_are_written_with_era_and_calendar(rt: HostRuntime) -> Result<(), AllocE
         ),
     ] {
         let date = Date::from_rata_die(day(&rt, number), calendar);
-        let text = format!(in rt.alloc(); "{date:?}")?;
+        let text = written(rt.alloc(), &date)?;
         assert_eq!(rt; text.as_str(), want);
     }
-    let text = format!(in rt.alloc(); "{:?}", Date::from_rata_die(RataDie::new(737484), Iso))?;
+    let text = written(rt.alloc(), &Date::from_rata_die(RataDie::new(737484), Iso))?;
     assert_eq!(rt;
         text.as_str(),
         "Date(2020-2-29, default era, for calendar ISO)"
