@@ -29,6 +29,7 @@ OPERATIONS = {
 }
 CALENDARS = [
     *["iso", "gregorian", "buddhist", "roc", "japanese", "julian", "coptic", "ethiopic", "indian", "persian", "hebrew"],
+    *["islamic-civil", "islamic-umalqura", "chinese", "dangi"],
 ]
 FEW = 1_000_000
 MANY = 11_000_000

@@ -20,11 +20,34 @@ REQUESTS = 130_000
 ROUNDS = 5
 CALENDARS = ["iso", "gregorian"]
 UNITS = ["days"]
-ALL_CALENDARS = [*CALENDARS, "julian"]
+ALL_CALENDARS = [
+    *[*CALENDARS, "julian", "buddhist", "coptic", "ethiopic", "ethioaa", "hebrew", "indian", "japanese", "persian", "roc"],
+    *["chinese", "dangi", "islamic-civil", "islamic-simulated", "islamic-tbla", "islamic-umalqura"],
+]
 ALL_UNITS = ["years", "months", "weeks", "days", "none"]
 OVERFLOWS = ["constrain", "reject", "none"]
 STRATEGIES = ["reject", "ecma", "none"]
-ERAS = {"iso": ["default"], "gregorian": ["ce", "ad", "bce", "bc"], "julian": ["ce", "ad", "bce", "bc"]}
+COMMON_ERAS = ["ce", "ad", "bce", "bc"]
+ERAS = {
+    "iso": ["default"],
+    "gregorian": COMMON_ERAS,
+    "julian": COMMON_ERAS,
+    "buddhist": ["be"],
+    "coptic": ["am"],
+    "ethiopic": ["am"],
+    "ethioaa": ["aa"],
+    "hebrew": ["am"],
+    "indian": ["shaka"],
+    "japanese": COMMON_ERAS,
+    "persian": ["ap"],
+    "chinese": [""],
+    "dangi": [""],
+    "islamic-civil": ["ah", "bh"],
+    "islamic-simulated": ["ah", "bh"],
+    "islamic-tbla": ["ah", "bh"],
+    "islamic-umalqura": ["ah", "bh"],
+    "roc": ["roc", "broc"],
+}
 LONGEST_INPUT = 1 << 24
 
 
@@ -41,7 +64,7 @@ def year_fields(chance: random.Random, calendar: str) -> list[str]:
     """The fields of a bag that speak of the year, mostly such as agree."""
     year = chance.choice([chance.randint(1600, 2400), chance.randint(-9999, 9999)])
     era = chance.choice(ERAS[calendar])
-    era_year = 1 - year if era.startswith("b") else year
+    era_year = 1 - year if era in ("bce", "bc", "broc", "bh") else year
     of_era = [f"era={era}", f"era-year={era_year}"]
     kinds = [[f"year={year}"], of_era, [*of_era, f"year={year}"], [], [*of_era, f"year={year + 1}"], of_era[1:]]
     return chance.choices(kinds, [40, 35, 10, 11, 2, 2])[0]

@@ -4,9 +4,9 @@ use Rattle.std.proofs.lemmas.List.{append-nil, append_assoc}
 use Rattle.line_reader.specs.Lines.{closed_lines, open_line, lines_in}
 use Rattle.line_reader.proofs.PartLemmas.{closed_lines-prefix}
 use Rattle.cal_model.specs.Difference.{largest_unit_of}
-use Rattle.icu_calendar.specs.AnySystem.{any_system}
-use Rattle.icu_calendar.specs.AnyLaws.{any_lawful}
 use Rattle.icu_calendar.proofs.SpanLemmas.{span-exists, span-unique}
+use Rattle.calspan.specs.Calendars.{named_system}
+use Rattle.calspan.proofs.CalendarLemmas.{named_lawful}
 use Rattle.calspan.specs.Lines.{Line, Nothing, Long, Asks, Unbuilt, Malformed, line_of}
 use Rattle.calspan.proofs.LineLemmas.{line_says, line_is}
 use Rattle.calspan.specs.Replies.{reply_text, is_refusal, options_of}
@@ -18,9 +18,9 @@ use Rattle.calspan.specs.Laws.{EveryInputHasAnswers, AnswersAreUnique, AnswersTo
 pub answer_exists : (line : Line) (n : ℕ) (s : Progress) → (text : List ℕ) × (next : Progress) × IsAnswerTo line n s text next
 answer_exists Nothing n s = ([], s, (refl, refl))
 answer_exists Long n s = (refusal n (codes "long"), refusing s, (refl, refl))
-answer_exists (Asks calendar other r) n s =
-    let c = any_system calendar in let shown = any_system other in
-    let found = span-exists c shown.list (any_lawful calendar) (any_lawful other) r.from r.to (options_of r) (largest_unit_of r.unit) in
+answer_exists (Asks r) n s =
+    let c = named_system r.calendar in let shown = named_system r.shown in
+    let found = span-exists c shown.list (named_lawful r.calendar) (named_lawful r.shown) r.from r.to (options_of r) (largest_unit_of r.unit) in
     (reply_text c shown found.0, replied s (is_refusal found.0), (is_refusal found.0, record { answer = found.0; span = found.1; says = refl; refuses = refl }, refl))
 answer_exists Unbuilt n s = (refusal n (codes "unbuilt"), refusing s, (refl, refl))
 answer_exists Malformed n s = (refusal n (codes "syntax"), refusing s, (refl, refl))
@@ -29,8 +29,8 @@ answer_exists Malformed n s = (refusal n (codes "syntax"), refusing s, (refl, re
 pub answer_unique : (line : Line) (n : ℕ) (s : Progress) (a b : List ℕ) (p q : Progress) → IsAnswerTo line n s a p → IsAnswerTo line n s b q → (a ≡ b) × (p ≡ q)
 answer_unique Nothing n s a b p q (x, e) (y, f) = (x ∙ sym y, e ∙ sym f)
 answer_unique Long n s a b p q (x, e) (y, f) = (x ∙ sym y, e ∙ sym f)
-answer_unique (Asks calendar other r) n s a b p q (f, x, e) (g, y, h) =
-    let c = any_system calendar in let shown = any_system other in
+answer_unique (Asks r) n s a b p q (f, x, e) (g, y, h) =
+    let c = named_system r.calendar in let shown = named_system r.shown in
     let same = span-unique c shown.list r.from r.to (options_of r) (largest_unit_of r.unit) x.answer y.answer x.span y.span in
     (x.says ∙ (ap (reply_text c shown) same ∙ sym y.says), e ∙ (ap (replied s) (x.refuses ∙ (ap is_refusal same ∙ sym y.refuses)) ∙ sym h))
 answer_unique Unbuilt n s a b p q (x, e) (y, f) = (x ∙ sym y, e ∙ sym f)

@@ -8,3 +8,5 @@ mod LineLemmas
 mod KnownLemmas
 pub mod FormLemmas
 mod RunLemmas
+mod CalendarLemmas
+mod GeneratorLemmas

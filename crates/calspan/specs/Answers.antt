@@ -3,6 +3,7 @@ use Rattle.std.specs.Prelude.{◌≡◌, ℕ, ◌+◌, Bool, true, false, List, 
 use Rattle.line_reader.specs.Lines.{lines_in}
 use Rattle.calspan.specs.Texts.{about_line}
 use Rattle.calspan.specs.Lines.{Line, Nothing, Long, Asks, Unbuilt, Malformed, IsLine}
+use Rattle.calspan.specs.Calendars.{named_system}
 use Rattle.calspan.specs.Replies.{IsReply}
 use Rattle.calspan.specs.declared.answer.Progress.{Progress}
 use Rattle.calspan.specs.declared.status.Status.{Status}
@@ -28,7 +29,7 @@ refusal n why = about_line (codes "err line ") n why
 abbrev pub IsAnswerTo : Line → ℕ → Progress → List ℕ → Progress → Type 0
 IsAnswerTo Nothing n s text next = (text ≡ []) × (next ≡ s)
 IsAnswerTo Long n s text next = (text ≡ refusal n (codes "long")) × (next ≡ refusing s)
-IsAnswerTo (Asks c shown r) n s text next = (refused : Bool) × IsReply c shown r text refused × (next ≡ replied s refused)
+IsAnswerTo (Asks r) n s text next = (refused : Bool) × IsReply (named_system r.calendar) (named_system r.shown) r text refused × (next ≡ replied s refused)
 IsAnswerTo Unbuilt n s text next = (text ≡ refusal n (codes "unbuilt")) × (next ≡ refusing s)
 IsAnswerTo Malformed n s text next = (text ≡ refusal n (codes "syntax")) × (next ≡ refusing s)
 

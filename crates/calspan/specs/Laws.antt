@@ -2,6 +2,7 @@
 use Rattle.std.specs.Prelude.{◌≡◌, ℕ, Bool, false, List, ◌++◌}
 use Rattle.byte_io.specs.Bytes.{IsPrefix}
 use Rattle.calspan.specs.Answers.{IsAnswers}
+use Rattle.calspan.specs.Generator.{IsGenerated}
 use Rattle.calspan.specs.declared.status.Status.{Status}
 
 -- to every input, and to what has come of one, there are answers
@@ -15,3 +16,7 @@ AnswersAreUnique = (bytes : List ℕ) (whole : Bool) (a b : List ℕ) (s t : Sta
 -- the answers to what has come of an input are a prefix of the answers to what comes of it later
 abbrev pub AnswersToPrefixArePrefix : Type 0
 AnswersToPrefixArePrefix = (bytes more : List ℕ) (whole : Bool) (a b : List ℕ) (s t : Status) → IsAnswers bytes false a s → IsAnswers (bytes ++ more) whole b t → IsPrefix a b
+
+-- to every number of requests there is a line, and only one
+abbrev pub EveryNumberHasOneLine : Type 0
+EveryNumberHasOneLine = (n : ℕ) → ((text : List ℕ) × IsGenerated n text) × ((a b : List ℕ) → IsGenerated n a → IsGenerated n b → a ≡ b)

@@ -9,12 +9,15 @@ pub mod LineSaid
 pub mod Reading
 pub mod Bags
 pub mod FieldSaid
+pub mod Calendars
 pub mod Requests
 pub mod BagForms
 pub mod Forms
 pub mod Lines
 pub mod Replies
 pub mod Answers
+pub mod Generator
+pub mod TotalBounds
 pub mod Written
 pub mod Underway
 pub mod Run

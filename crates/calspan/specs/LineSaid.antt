@@ -7,6 +7,6 @@ use Rattle.calspan.specs.RequestSaid.{request_said}
 -- the line that the program's value stands for
 abbrev pub line_said : Line → lines.Line
 line_said Long = lines.Long
-line_said (Asks calendar shown r) = lines.Asks calendar shown (request_said r)
+line_said (Asks r) = lines.Asks (request_said r)
 line_said Unbuilt = lines.Unbuilt
 line_said Malformed = lines.Malformed

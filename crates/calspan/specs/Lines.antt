@@ -2,28 +2,18 @@
 use Rattle.std.specs.Prelude.{◌≡◌, ℕ, Bool, true, false, List, ◌==◌, ◌⊎◌, ◌||◌, nat_lt, nat_eq, length, slice_index, Option, Some, None, codes, if◌then◌else◌}
 use Rattle.std.specs.List.{starts_with}
 use Rattle.std.specs.Str.Lines.{strip_carriage_return}
-use Rattle.icu_calendar.specs.declared.any_calendar.AnyCalendar.{AnyCalendar}
 use Rattle.calspan.specs.Command.{is_text}
 use Rattle.calspan.specs.Words.{words_of}
 use Rattle.calspan.specs.Requests.{Request, request_read}
 use Rattle.calspan.specs.Forms.{IsRequest}
-use Rattle.calspan.specs.declared.request.CalendarName.{CalendarName}
-use Rattle.calspan.specs.declared.request.CalendarName.TheVariants as name
 
--- a line that gives nothing, a request line that is too long, a request in two calendars, a line that can't be answered yet, and one that is
--- no request
+-- a line that gives nothing, a request line that is too long, a request, a row line, which can't be answered yet, and a line that is no request
 pub data Line : Type 0 where
   Nothing : Line
   Long : Line
-  Asks : AnyCalendar → AnyCalendar → Request → Line
+  Asks : Request → Line
   Unbuilt : Line
   Malformed : Line
-
--- a request in calendars of these names: it can't be answered yet where one isn't built
-abbrev pub asks : CalendarName → CalendarName → Request → Line
-asks (name.Built calendar) (name.Built shown) r = Asks calendar shown r
-asks (name.Built calendar) name.Unbuilt r = Unbuilt
-asks name.Unbuilt shown r = Unbuilt
 
 -- whether a line is a row line: `row`, alone or before a space
 abbrev pub is_row : List ℕ → Bool
@@ -37,7 +27,7 @@ is_silent line = length (strip_carriage_return line) == 0 || slice_index line 0 
 pub record SaysRequest (text : List ℕ) (said : Line) : Type 0 where
   pub request : Request
   pub form : IsRequest (words_of text) request
-  pub asks_it : said ≡ asks request.calendar request.shown request
+  pub asks_it : said ≡ Asks request
 
 -- the words are no request
 pub record SaysNone (text : List ℕ) (said : Line) : Type 0 where
@@ -58,7 +48,7 @@ IsLine line said = let text = strip_carriage_return line in SaysAs (is_silent li
 -- the same, as it is read word after word
 abbrev pub asked : Option Request → Line
 asked None = Malformed
-asked (Some r) = asks r.calendar r.shown r
+asked (Some r) = Asks r
 
 abbrev pub said_by : List ℕ → Line
 said_by text = if is_row text then Unbuilt else asked (request_read (words_of text))

@@ -12,9 +12,7 @@ use Rattle.cal_model.specs.CalendarList.{Date, month_at, day_number}
 use Rattle.cal_model.specs.CalendarSystem.{CalendarSystem}
 use Rattle.cal_types.specs.declared.options.DateFromFieldsOptions.{DateFromFieldsOptions}
 use Rattle.cal_model.specs.Difference.{largest_unit_of}
-use Rattle.icu_calendar.specs.AnySystem.{any_system}
 use Rattle.icu_calendar.specs.Spans.{SpanDates, IsSpan}
-use Rattle.icu_calendar.specs.declared.any_calendar.AnyCalendar.{AnyCalendar}
 use Rattle.icu_calendar.specs.declared.span_parts.BagSide.{BagSide}
 use Rattle.icu_calendar.specs.declared.span_parts.BagSide.TheVariants.{From, To}
 use Rattle.icu_calendar.specs.declared.span_parts.SpanError.{SpanError}
@@ -103,8 +101,8 @@ abbrev pub options_of : Request → DateFromFieldsOptions
 options_of r = record { overflow = r.overflow; missing_fields_strategy = r.missing_fields }
 
 -- the text that answers a request in a calendar, shown in a second one, and whether it is a refusal
-pub record IsReply (c shown : AnyCalendar) (r : Request) (text : List ℕ) (refused : Bool) : Type 0 where
+pub record IsReply (c shown : CalendarSystem) (r : Request) (text : List ℕ) (refused : Bool) : Type 0 where
   pub answer : Result SpanDates SpanError
-  pub span : IsSpan (any_system c) (any_system shown).list r.from r.to (options_of r) (largest_unit_of r.unit) answer
-  pub says : text ≡ reply_text (any_system c) (any_system shown) answer
+  pub span : IsSpan c shown.list r.from r.to (options_of r) (largest_unit_of r.unit) answer
+  pub says : text ≡ reply_text c shown answer
   pub refuses : refused ≡ is_refusal answer

@@ -1,5 +1,5 @@
 -- What a request line asks: two bags of fields of one calendar, a second calendar, and a largest unit.
-use Rattle.std.specs.Prelude.{ℕ, Bool, ◌||◌, List, Option, Some, None, option_map, codes, if◌then◌else◌}
+use Rattle.std.specs.Prelude.{ℕ, List, Option, Some, None, option_map, codes, if◌then◌else◌}
 use Rattle.cal_types.specs.Bag.{Bag}
 use Rattle.cal_types.specs.declared.options.Overflow.{Overflow}
 use Rattle.cal_types.specs.declared.options.Overflow.TheVariants as overflow
@@ -7,37 +7,42 @@ use Rattle.cal_types.specs.declared.options.MissingFieldsStrategy.{MissingFields
 use Rattle.cal_types.specs.declared.options.MissingFieldsStrategy.TheVariants as missing
 use Rattle.cal_types.specs.declared.duration.DateDurationUnit.{DateDurationUnit}
 use Rattle.cal_types.specs.declared.duration.DateDurationUnit.TheVariants.{Years, Months, Weeks, Days}
-use Rattle.icu_calendar.specs.declared.any_calendar.AnyCalendar.TheVariants as calendar
 use Rattle.calspan.specs.Command.{is_text}
 use Rattle.calspan.specs.Reading.{Read, next_word, and_then}
 use Rattle.calspan.specs.Bags.{no_fields, bag_before_to, bag_of_all}
-use Rattle.calspan.specs.declared.request.CalendarName.{CalendarName}
-use Rattle.calspan.specs.declared.request.CalendarName.TheVariants.{Built, Unbuilt}
+use Rattle.calspan.specs.declared.named_calendar.NamedCalendar.{NamedCalendar}
+use Rattle.calspan.specs.declared.named_calendar.NamedCalendar.TheVariants as calendar
 
 pub record Request : Type 0 where
-  pub calendar : CalendarName
-  pub shown : CalendarName
+  pub calendar : NamedCalendar
+  pub shown : NamedCalendar
   pub unit : Option DateDurationUnit
   pub overflow : Option Overflow
   pub missing_fields : Option MissingFieldsStrategy
   pub from : Bag
   pub to : Bag
 
--- whether a word is the program name of a calendar that isn't built
-abbrev pub is_unbuilt_name : List ℕ → Bool
-is_unbuilt_name word =
-    is_text word (codes "buddhist") || is_text word (codes "chinese") || is_text word (codes "coptic") || is_text word (codes "dangi")
-    || is_text word (codes "ethiopic") || is_text word (codes "ethioaa") || is_text word (codes "hebrew") || is_text word (codes "indian")
-    || is_text word (codes "islamic-civil") || is_text word (codes "islamic-simulated") || is_text word (codes "islamic-tbla")
-    || is_text word (codes "islamic-umalqura") || is_text word (codes "japanese") || is_text word (codes "persian") || is_text word (codes "roc")
-
 -- the calendar of a program name
-abbrev pub calendar_named : List ℕ → Option CalendarName
+abbrev pub calendar_named : List ℕ → Option NamedCalendar
 calendar_named word =
-    if is_text word (codes "iso") then Some (Built (calendar.Iso (record {})))
-    else (if is_text word (codes "gregorian") then Some (Built (calendar.Gregorian (record {})))
-    else (if is_text word (codes "julian") then Some (Built (calendar.Julian (record {})))
-    else (if is_unbuilt_name word then Some Unbuilt else None)))
+    if is_text word (codes "iso") then Some calendar.Iso
+    else (if is_text word (codes "gregorian") then Some calendar.Gregorian
+    else (if is_text word (codes "julian") then Some calendar.Julian
+    else (if is_text word (codes "buddhist") then Some calendar.Buddhist
+    else (if is_text word (codes "chinese") then Some calendar.Chinese
+    else (if is_text word (codes "coptic") then Some calendar.Coptic
+    else (if is_text word (codes "dangi") then Some calendar.Dangi
+    else (if is_text word (codes "ethiopic") then Some calendar.Ethiopian
+    else (if is_text word (codes "ethioaa") then Some calendar.EthiopianAmeteAlem
+    else (if is_text word (codes "hebrew") then Some calendar.Hebrew
+    else (if is_text word (codes "indian") then Some calendar.Indian
+    else (if is_text word (codes "islamic-civil") then Some calendar.HijriTabularFriday
+    else (if is_text word (codes "islamic-simulated") then Some calendar.HijriSimulated
+    else (if is_text word (codes "islamic-tbla") then Some calendar.HijriTabularThursday
+    else (if is_text word (codes "islamic-umalqura") then Some calendar.HijriUmmAlQura
+    else (if is_text word (codes "japanese") then Some calendar.Japanese
+    else (if is_text word (codes "persian") then Some calendar.Persian
+    else (if is_text word (codes "roc") then Some calendar.Roc else None)))))))))))))))))
 
 -- the largest unit of a word; `none` where it is left out
 abbrev pub unit_named : List ℕ → Option (Option DateDurationUnit)
@@ -68,8 +73,8 @@ fixed_word name word = if is_text word name then Some tt else None
 
 -- what stands before the bags
 pub record Header : Type 0 where
-  pub calendar : CalendarName
-  pub shown : CalendarName
+  pub calendar : NamedCalendar
+  pub shown : NamedCalendar
   pub unit : Option DateDurationUnit
   pub overflow : Option Overflow
   pub missing_fields : Option MissingFieldsStrategy

@@ -4,6 +4,8 @@ use Rattle.std.specs.Io.KnownBytes.{Appends, Consumes, IsAtEnd}
 use Rattle.byte_io.specs.Bytes.{IsPrefix}
 use Rattle.byte_io.specs.Faults.{Rose}
 use Rattle.calspan.specs.Answers.{IsAnswers}
+use Rattle.calspan.specs.Generator.{IsGenerated}
+use Rattle.calspan.specs.Written.{WrotePrefix}
 use Rattle.calspan.specs.declared.status.Status.{Status}
 use Rattle.calspan.specs.declared.status.Status.TheVariants.{Done, Refused, Words, ReadFault, WriteFault, NoMemory, TableRefused, TooLong}
 
@@ -79,6 +81,17 @@ Serves WriteFault old new = StoppedWriting old new
 Serves NoMemory old new = ⊥
 Serves TableRefused old new = ⊥
 Serves TooLong old new = TookTooMuch old new
+
+-- the line of so many requests is written, or a prefix of it where the sink counted a fault
+abbrev pub Generates : Status → ℕ → Option (List ℕ) → Option (List ℕ) → ℕ → ℕ → Type 0
+Generates Done count before now faults more = (text : List ℕ) × IsGenerated count text × Appends before now text
+Generates Refused count before now faults more = ⊥
+Generates Words count before now faults more = ⊥
+Generates ReadFault count before now faults more = ⊥
+Generates WriteFault count before now faults more = (text : List ℕ) × IsGenerated count text × WrotePrefix before now text × Rose faults more
+Generates NoMemory count before now faults more = ⊥
+Generates TableRefused count before now faults more = ⊥
+Generates TooLong count before now faults more = ⊥
 
 -- the input as a whole: all of its answers are written, and the status is its end
 pub record IsAnswered (old new : Outside) (status : Status) (input : List ℕ) : Type 0 where

@@ -60,12 +60,8 @@ fn answer_request(pending: &mut Pending, progress: &mut Progress, number: u64, l
 {
     match read_line(line) {
         Line::Long => refuse(pending, progress, number, b"long"),
-        Line::Asks {
-            calendar,
-            shown,
-            request,
-        } => {
-            if reply(pending, calendar, shown, &request) {
+        Line::Asks(request) => {
+            if reply(pending, &request) {
                 progress.refused = true;
             }
         }

@@ -1,6 +1,6 @@
 //! Laws of requests and answers, each proved as the contract of a function that does nothing.
 ghost use Rattle.calspan.specs.Forms.{RequestsHaveOneForm};
-ghost use Rattle.calspan.specs.Laws.{EveryInputHasAnswers, AnswersAreUnique, AnswersToPrefixArePrefix};
+ghost use Rattle.calspan.specs.Laws.{EveryInputHasAnswers, AnswersAreUnique, AnswersToPrefixArePrefix, EveryNumberHasOneLine};
 
 /// Words are read as a request exactly where they are of the form
 /// `span CAL SHOWN UNIT OVERFLOW MISSING from FIELDS to FIELDS`, and say it. FIELDS are words `KEY=VALUE` of known
@@ -22,4 +22,9 @@ pub fn answers_are_unique()
 /// The answers to what has come of an input are a prefix of the answers to what comes of it later.
 pub fn answers_to_a_prefix_are_a_prefix()
     ensures { AnswersToPrefixArePrefix }
+{}
+
+/// To every number of requests there is a line, and only one.
+pub fn every_number_has_one_line()
+    ensures { EveryNumberHasOneLine }
 {}

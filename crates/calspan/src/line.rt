@@ -2,10 +2,9 @@
 ghost use Rattle.std.specs.Prelude.{◌≡◌, ℕ, List, false};
 ghost use Rattle.std.specs.Str.Lines.{strip_carriage_return};
 ghost use Rattle.line_reader.specs.Buffer.{Holds};
-ghost use Rattle.calspan.specs.Lines.{is_row as text_is_row, is_silent as line_is_silent, asks, said_by, line_of};
+ghost use Rattle.calspan.specs.Lines.{is_row as text_is_row, is_silent as line_is_silent, said_by, line_of};
 
-use crate::request::{CalendarName, Request, read_request};
-use icu_calendar::AnyCalendar;
+use crate::request::{Request, read_request};
 use line_reader::LineBuffer;
 
 /// What a line says that isn't silent.
@@ -14,22 +13,14 @@ pub enum Line<'a> {
     /// It is a request line of more than 512 bytes.
     Long,
     /// It is a request.
-    Asks {
-        /// The calendar of both bags.
-        calendar: AnyCalendar,
-        /// The calendar in which their days are shown.
-        shown: AnyCalendar,
-        /// The request.
-        request: Request<'a>,
-    },
-    /// It is a request or a row line that can't be answered yet.
+    Asks(Request<'a>),
+    /// It is a row line, which can't be answered yet.
     Unbuilt,
     /// It is no request.
     Malformed,
 }
 
 ghost use Rattle.calspan.specs.LineSaid.{line_said};
-ghost use Rattle.calspan.specs.RequestSaid.{request_said};
 
 // Without the one carriage return at its end.
 fn without_return(line: &[u8]) -> &[u8]
@@ -38,23 +29,6 @@ fn without_return(line: &[u8]) -> &[u8]
     match line.split_last() {
         Some((b'\r', rest)) => rest,
         _ => line,
-    }
-}
-
-// What a request asks, where its calendars are built.
-fn asked<'a>(request: Request<'a>) -> Line<'a>
-    ensures { let r = request_said request.entry in line_said result ≡ asks r.calendar r.shown r }
-{
-    let CalendarName::Built(calendar) = request.header.calendar else {
-        return Line::Unbuilt;
-    };
-    let CalendarName::Built(shown) = request.header.shown else {
-        return Line::Unbuilt;
-    };
-    Line::Asks {
-        calendar,
-        shown,
-        request,
     }
 }
 
@@ -73,7 +47,7 @@ fn read_short<'a>(text: &'a [u8]) -> Line<'a>
         return Line::Unbuilt;
     }
     match read_request(text) {
-        Some(request) => asked(request),
+        Some(request) => Line::Asks(request),
         None => Line::Malformed,
     }
 }

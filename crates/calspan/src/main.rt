@@ -4,8 +4,10 @@
 mod answer;
 mod bag;
 mod command;
+mod generator;
 mod laws;
 mod line;
+mod named_calendar;
 mod pending;
 mod reply;
 mod request;
@@ -16,6 +18,7 @@ mod status;
 #[cfg(test)]
 mod tests;
 mod text;
+mod totals;
 mod words;
 
 ghost use Rattle.std.specs.Prelude.{◌≡◌, ◌≢◌};

@@ -10,8 +10,8 @@ use crate::text::Pending;
 use byte_io::{Failed, Sink};
 use line_reader::LineBuffer;
 
-// Writes all of a text, in as many pieces as the sink takes.
-fn write_all<K: Sink>(text: &[u8], sink: &mut K) -> Result<(), Failed>
+/// Writes all of a text, in as many pieces as the sink takes. Where that fails, a prefix of it was written.
+pub fn write_all<K: Sink>(text: &[u8], sink: &mut K) -> Result<(), Failed>
     ensures wrote { Wrote result (K.taken sink.old) (K.taken sink.new) text.now }
     ensures cause { HasCause (K.faults sink.old) (K.faults sink.new) result }
 {

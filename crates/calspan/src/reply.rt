@@ -3,11 +3,12 @@ ghost use Rattle.std.specs.Prelude.{◌≡◌, ◌+◌, ◌≤◌, ◌<◌, ◌+
 ghost use Rattle.std.specs.Fmt.{signed_decimal};
 ghost use Rattle.arrayvec.specs.ArrayVec.{array_vec_len};
 ghost use Rattle.cal_types.specs.declared.duration.DateDuration.{DateDuration};
-ghost use Rattle.icu_calendar.specs.AnySystem.{any_system, any_date};
+ghost use Rattle.cal_any.specs.AnySystem.{any_system, any_date};
 ghost use Rattle.icu_calendar.specs.SpanAnswers.{span_dates, HasCalendars};
-ghost use Rattle.icu_calendar.specs.declared.any_calendar.AnyCalendar.{AnyCalendar};
+ghost use Rattle.cal_any.specs.declared.any_calendar.AnyCalendar.{AnyCalendar};
 ghost use Rattle.cal_model.specs.CalendarList.{day_number};
 ghost use Rattle.calspan.specs.Replies.{year_text, numbered_text, day_text, part_text, parts_text, duration_text, cause_text, side_text, error_text, span_text, ShowsDays, IsReply};
+ghost use Rattle.calspan.specs.Calendars.{named_system};
 ghost use Rattle.calspan.specs.RequestSaid.{request_said};
 
 use crate::request::Request;
@@ -144,7 +145,7 @@ fn push_error(text: &mut Pending, error: SpanError)
 
 // A date: its extended year, the year that it is printed in, its month code, its day, and the text of
 // its day number.
-fn push_date(text: &mut Pending, date: &Date<AnyCalendar>, number: i64)
+fn push_date(text: &mut Pending, date: &Date<AnyCalendar<'_>>, number: i64)
     requires { array_vec_len text.old + 92 ≤ 8192 }
     ensures items { let c = any_system date.now.calendar in let t = any_date date.now.calendar date.now.inner in
         text.new.items ≡ text.old.items ++ numbered_text c t (signed_decimal number) }
@@ -163,7 +164,7 @@ fn push_date(text: &mut Pending, date: &Date<AnyCalendar>, number: i64)
 }
 
 // A date of the first calendar, and the same day in the second. Both have one day number.
-fn push_day(text: &mut Pending, date: &Date<AnyCalendar>, shown: &Date<AnyCalendar>)
+fn push_day(text: &mut Pending, date: &Date<AnyCalendar<'_>>, shown: &Date<AnyCalendar<'_>>)
     requires { array_vec_len text.old + 185 ≤ 8192 }
     ensures items { let c = any_system date.now.calendar in let t = any_date date.now.calendar date.now.inner in
         let other = any_system shown.now.calendar in let u = any_date shown.now.calendar shown.now.inner in
@@ -178,7 +179,7 @@ fn push_day(text: &mut Pending, date: &Date<AnyCalendar>, shown: &Date<AnyCalend
 }
 
 // Both days, and the difference.
-fn push_span(text: &mut Pending, span: &Span)
+fn push_span(text: &mut Pending, span: &Span<'_>)
     requires { array_vec_len text.old + 470 ≤ 8192 }
     ensures { (c shown : AnyCalendar) → HasCalendars c shown span.now
         → ShowsDays (any_system c) (any_system shown) (span_dates span.now)
@@ -193,17 +194,12 @@ fn push_span(text: &mut Pending, span: &Span)
     text.push(b'\n');
 }
 
-/// Appends the reply to a request in a calendar, shown in a second one, and answers whether it is a
-/// refusal.
-pub fn reply(
-    text: &mut Pending,
-    calendar: AnyCalendar,
-    shown: AnyCalendar,
-    request: &Request,
-) -> bool
+/// Appends the reply to a request, and answers whether it is a refusal.
+pub fn reply(text: &mut Pending, request: &Request) -> bool
     requires { array_vec_len text.old + 512 ≤ 8192 }
-    ensures { (answer : List ℕ) × (text.new.items ≡ text.old.items ++ answer)
-        × IsReply calendar shown (request_said request.now) answer result }
+    ensures { let r = request_said request.now in
+        (answer : List ℕ) × (text.new.items ≡ text.old.items ++ answer)
+        × IsReply (named_system r.calendar) (named_system r.shown) r answer result }
 {
     let header = request.header;
     match span(
@@ -211,8 +207,8 @@ pub fn reply(
         request.to,
         header.options,
         header.difference,
-        calendar,
-        shown,
+        header.calendar.calendar(),
+        header.shown.calendar(),
     ) {
         Ok(span) => {
             push_span(text, &span);

@@ -6,35 +6,23 @@ ghost use Rattle.calspan.specs.Words.{words_of};
 ghost use Rattle.calspan.specs.WordsLeft.{words_left};
 ghost use Rattle.calspan.specs.Taking.{is_no_space};
 ghost use Rattle.calspan.specs.Reading.{IsReading, next_word};
-ghost use Rattle.calspan.specs.Requests.{is_unbuilt_name, calendar_named, unit_named, overflow_named, missing_fields_named, fixed_word, header_read, request_read};
+ghost use Rattle.calspan.specs.Requests.{calendar_named, unit_named, overflow_named, missing_fields_named, fixed_word, header_read, request_read};
 
 use crate::bag::{read_bag, read_bag_to};
+use crate::named_calendar::NamedCalendar;
 use crate::words::Words;
-use cal_base::Iso;
-use cal_gregory::Gregorian;
-use cal_julian::Julian;
 use cal_types::{
     DateDifferenceOptions, DateDurationUnit, DateFields, DateFromFieldsOptions,
     MissingFieldsStrategy, Overflow,
 };
-use icu_calendar::AnyCalendar;
-
-/// The calendar of a program name.
-#[derive(Clone, Copy, Debug)]
-pub enum CalendarName {
-    /// A calendar in which requests are answered.
-    Built(AnyCalendar),
-    /// A calendar that isn't built yet.
-    Unbuilt,
-}
 
 /// What stands before a request's bags.
 #[derive(Clone, Copy, Debug)]
 pub struct Header {
     /// The calendar of both bags.
-    pub calendar: CalendarName,
+    pub calendar: NamedCalendar,
     /// The calendar in which their days are shown.
-    pub shown: CalendarName,
+    pub shown: NamedCalendar,
     /// The largest unit of the difference.
     pub difference: DateDifferenceOptions,
     /// How the bags name their dates.
@@ -62,42 +50,64 @@ fn next_is(words: &mut Words, name: &[u8]) -> Option<()>
     if words.take(name) { Some(()) } else { None }
 }
 
-// Whether a word is the program name of a calendar that isn't built.
-fn is_unbuilt(word: &[u8]) -> bool
-    ensures { result ≡ is_unbuilt_name word.now }
-{
-    word == b"buddhist".as_slice()
-        || word == b"chinese".as_slice()
-        || word == b"coptic".as_slice()
-        || word == b"dangi".as_slice()
-        || word == b"ethiopic".as_slice()
-        || word == b"ethioaa".as_slice()
-        || word == b"hebrew".as_slice()
-        || word == b"indian".as_slice()
-        || word == b"islamic-civil".as_slice()
-        || word == b"islamic-simulated".as_slice()
-        || word == b"islamic-tbla".as_slice()
-        || word == b"islamic-umalqura".as_slice()
-        || word == b"japanese".as_slice()
-        || word == b"persian".as_slice()
-        || word == b"roc".as_slice()
-}
-
-fn next_calendar(words: &mut Words) -> Option<CalendarName>
+fn next_calendar(words: &mut Words) -> Option<NamedCalendar>
     ensures { IsReading (next_word calendar_named (words_left words.old)) result (words_left words.new) }
 {
     if words.take(b"iso") {
-        return Some(CalendarName::Built(AnyCalendar::Iso(Iso)));
+        return Some(NamedCalendar::Iso);
     }
     if words.take(b"gregorian") {
-        return Some(CalendarName::Built(AnyCalendar::Gregorian(Gregorian)));
+        return Some(NamedCalendar::Gregorian);
     }
     if words.take(b"julian") {
-        return Some(CalendarName::Built(AnyCalendar::Julian(Julian)));
+        return Some(NamedCalendar::Julian);
     }
-    match words.next() {
-        Some(word) if is_unbuilt(word) => Some(CalendarName::Unbuilt),
-        _ => None,
+    if words.take(b"buddhist") {
+        return Some(NamedCalendar::Buddhist);
+    }
+    if words.take(b"chinese") {
+        return Some(NamedCalendar::Chinese);
+    }
+    if words.take(b"coptic") {
+        return Some(NamedCalendar::Coptic);
+    }
+    if words.take(b"dangi") {
+        return Some(NamedCalendar::Dangi);
+    }
+    if words.take(b"ethiopic") {
+        return Some(NamedCalendar::Ethiopian);
+    }
+    if words.take(b"ethioaa") {
+        return Some(NamedCalendar::EthiopianAmeteAlem);
+    }
+    if words.take(b"hebrew") {
+        return Some(NamedCalendar::Hebrew);
+    }
+    if words.take(b"indian") {
+        return Some(NamedCalendar::Indian);
+    }
+    if words.take(b"islamic-civil") {
+        return Some(NamedCalendar::HijriTabularFriday);
+    }
+    if words.take(b"islamic-simulated") {
+        return Some(NamedCalendar::HijriSimulated);
+    }
+    if words.take(b"islamic-tbla") {
+        return Some(NamedCalendar::HijriTabularThursday);
+    }
+    if words.take(b"islamic-umalqura") {
+        return Some(NamedCalendar::HijriUmmAlQura);
+    }
+    if words.take(b"japanese") {
+        return Some(NamedCalendar::Japanese);
+    }
+    if words.take(b"persian") {
+        return Some(NamedCalendar::Persian);
+    }
+    if words.take(b"roc") {
+        Some(NamedCalendar::Roc)
+    } else {
+        None
     }
 }
 

@@ -25,9 +25,10 @@ struct Case {
     answer: &'static [u8],
 }
 
-// Years, months and days of all kinds, the units, a shorter month, months back, the widest difference, the Julian
-// calendar, and bags of all kinds.
-const CASES: [Case; 33] = [
+// Years, months and days of all kinds, the units, a shorter month, months back, the widest difference, bags of all
+// kinds, leap months, a year of 355 days that the rule of the new year lengthens, reference years, eras that begin
+// within a year, the seam of 1912, and the other calendars.
+const CASES: [Case; 46] = [
     Case {
         line: b"span iso iso none none reject from year=2020 month=M02 day=29 to year=2021 month=M02 day=28",
         answer: b"ok 2020/default.2020/M02/29@737484 2020/default.2020/M02/29@737484 2021/default.2021/M02/28@737849 2021/default.2021/M02/28@737849 P365D\n",
@@ -160,6 +161,58 @@ const CASES: [Case; 33] = [
         line: b"span iso iso days none none from era=a=b era-year=000000001 to year=1 month=M01 day=1\r",
         answer: b"err from NotEnoughFields\n",
     },
+    Case {
+        line: b"span hebrew iso years reject none from year=5782 month=M05L day=9 to year=5783 month=M01 day=15",
+        answer: b"ok 5782/am.5782/M05L/09@738196 2022/default.2022/M02/10@738196 5783/am.5783/M01/15@738438 2022/default.2022/M10/10@738438 P8M6D\n",
+    },
+    Case {
+        line: b"span hebrew iso years reject none from year=5787 month=M05L day=10 to year=5788 month=M06 day=10",
+        answer: b"ok 5787/am.5787/M05L/10@740029 2027/default.2027/M02/17@740029 5788/am.5788/M06/10@740414 2028/default.2028/M03/08@740414 P1Y\n",
+    },
+    Case {
+        line: b"span hebrew iso days reject none from year=5788 month=M01 day=1 to year=5789 month=M01 day=1",
+        answer: b"ok 5788/am.5788/M01/01@740256 2027/default.2027/M10/02@740256 5789/am.5789/M01/01@740611 2028/default.2028/M09/21@740611 P355D\n",
+    },
+    Case {
+        line: b"span hebrew iso days constrain none from year=5783 month-code=M05L ordinal=5 day=1 to year=5783 ordinal=1 day=1",
+        answer: b"err from InconsistentMonth\n",
+    },
+    Case {
+        line: b"span coptic iso years constrain ecma from month=M13 day=7 to month=M13 day=7",
+        answer: b"ok 1687/am.1687/M13/06@719781 1971/default.1971/M09/11@719781 1687/am.1687/M13/06@719781 1971/default.1971/M09/11@719781 P0D\n",
+    },
+    Case {
+        line: b"span japanese iso days reject none from era=heisei era-year=1 month=M01 day=1 to era=meiji era-year=5 month=M01 day=1",
+        answer: b"ok 1989/showa.64/M01/01@726103 1989/default.1989/M01/01@726103 1872/ce.1872/M01/01@683369 1872/default.1872/M01/01@683369 -P42734D\n",
+    },
+    Case {
+        line: b"span persian persian days reject none from year=1502 month=M12 day=30 to year=1503 month=M01 day=1",
+        answer: b"ok 1502/ap.1502/M12/30@775489 1502/ap.1502/M12/30@775489 1503/ap.1503/M01/01@775490 1503/ap.1503/M01/01@775490 P1D\n",
+    },
+    Case {
+        line: b"span iso indian years none none from year=1992 month=M09 day=2 to year=2024 month=M03 day=1",
+        answer: b"ok 1992/default.1992/M09/02@727443 1914/shaka.1914/M06/11@727443 2024/default.2024/M03/01@738946 1945/shaka.1945/M12/11@738946 P31Y5M28D\n",
+    },
+    Case {
+        line: b"span chinese dangi days reject none from year=1911 ordinal=13 day=30 to year=1912 ordinal=1 day=1",
+        answer: b"ok 1911/cycle.48/M12/30@698025 1911/cycle.48/M12/30@698025 1912/cycle.49/M01/01@698026 1912/cycle.49/M01/01@698026 P1D\n",
+    },
+    Case {
+        line: b"span chinese iso years reject none from year=1900 month=M08L day=1 to year=1901 month=M08 day=1",
+        answer: b"ok 1900/cycle.37/M08L/01@693862 1900/default.1900/M09/24@693862 1901/cycle.38/M08/01@694216 1901/default.1901/M09/13@694216 P12M\n",
+    },
+    Case {
+        line: b"span chinese iso days reject ecma from month=M01L day=1 to month=M01 day=1",
+        answer: b"err from MonthNotInYear\n",
+    },
+    Case {
+        line: b"span islamic-simulated iso days reject none from year=1445 month=M02 day=1 to year=1446 month=M01 day=1",
+        answer: b"ok 1445/ah.1445/M02/01@738750 2023/default.2023/M08/18@738750 1446/ah.1446/M01/01@739075 2024/default.2024/M07/08@739075 P325D\n",
+    },
+    Case {
+        line: b"span islamic-civil islamic-tbla days reject none from year=1455 month=M12 day=30 to year=1456 month=M01 day=1",
+        answer: b"err from InvalidDay 29\n",
+    },
 ];
 
 // What the line alone is answered, in pieces of any size.
@@ -206,20 +259,13 @@ fn fields_in_any_order(rt: HostRuntime) -> Result<(), Fail> {
     Ok(())
 }
 
-// Lines that are on the grammar, but in a calendar that isn't built, with a bag that isn't plain, or a row line.
-const UNBUILT: [&[u8]; 7] = [
-    b"span hebrew iso days none none from year=1 month=M01 day=1 to year=1 month=M01 day=1",
-    b"span iso islamic-umalqura days none none from year=1 month=M01 day=1 to year=1 month=M01 day=1",
-    b"span roc roc none constrain ecma from to",
-    b"row",
-    b"row ",
-    b"row hijri 1445 738720 sll",
-    b"row\r",
-];
+// Row lines.
+const ROWS: [&[u8]; 4] = [b"row", b"row ", b"row hijri 1445 738720 sll", b"row\r"];
 
 // Lines off the grammar.
-const MALFORMED: [&[u8]; 33] = [
+const MALFORMED: [&[u8]; 34] = [
     b"span iso",
+    b"span islamic iso days none none from year=1 month=M01 day=1 to year=1 month=M01 day=1",
     b"span iso iso year none none from year=1 month=M01 day=1 to year=1 month=M01 day=1",
     b"span iso iso days ecma none from year=1 month=M01 day=1 to year=1 month=M01 day=1",
     b"span iso iso days none constrain from year=1 month=M01 day=1 to year=1 month=M01 day=1",
@@ -256,7 +302,7 @@ const MALFORMED: [&[u8]; 33] = [
 
 #[test]
 fn lines_on_and_off_the_grammar(rt: HostRuntime) -> Result<(), Fail> {
-    for line in UNBUILT {
+    for line in ROWS {
         assert_answer(&rt, rt.alloc(), line, b"err line 1 unbuilt\n")?;
     }
     for line in MALFORMED {

@@ -4,14 +4,15 @@ ghost use Rattle.byte_io.specs.Faults.{HasCause};
 ghost use Rattle.line_reader.specs.Buffer.{Holds};
 ghost use Rattle.calspan.specs.Command.{command_of};
 ghost use Rattle.calspan.specs.Written.{Stands, Concludes, with_open_line};
-ghost use Rattle.calspan.specs.Run.{Outside, outside, Serves, NoFault, IsAnswered, limit};
+ghost use Rattle.calspan.specs.Run.{Outside, outside, Serves, Generates, NoFault, IsAnswered, limit};
 ghost use Rattle.calspan.specs.Underway.{IsUnderway};
 
 use crate::answer::Progress;
 use crate::command::{Command, read_command};
-use crate::pending::{flush, respond};
+use crate::pending::{flush, respond, write_all};
 use crate::status::Status;
 use crate::text::Pending;
+use crate::totals::{push_totals, totals_over};
 use byte_io::{Failed, Sink, Source};
 use line_reader::{Filled, LineBuffer, Next, Reader};
 use std::alloc::Global;
@@ -129,13 +130,29 @@ fn serve<S: Source, K: Sink>(source: &mut S, sink: &mut K) -> Status
     )
 }
 
+// Writes the line of so many requests.
+fn generate<K: Sink>(count: u32, sink: &mut K) -> Status
+    requires { count ≤ 100000 }
+    ensures { Generates result count (K.taken sink.old) (K.taken sink.new) (K.faults sink.old) (K.faults sink.new) }
+{
+    let mut text = Pending::new();
+    push_totals(&mut text, count, &totals_over(count));
+    match write_all(&text, sink) {
+        Ok(()) => Status::Done,
+        Err(_) => Status::WriteFault,
+    }
+}
+
 /// Does what the words of the command line ask for: with the word `span` alone, reads the source to
-/// its end, line by line, and writes the answer to each line to the sink.
+/// its end, line by line, and writes the answer to each line to the sink; with the word `gen` and a number of one to
+/// six digits up to 100000, writes one line of counts and sums over the answers to so many requests, and reads
+/// nothing.
 ///
 /// The status says how the run ended, and what was written then:
 ///
-/// - `Done` and `Refused`: all answers to the input; `Refused` where one of them is `err`.
-/// - `Words`: nothing, and nothing was read. This comes exactly where the words aren't `span` alone.
+/// - `Done` and `Refused`: all answers to the input; `Refused` where one of them is `err`. With `gen`, `Done` where the
+///   line was written.
+/// - `Words`: nothing, and nothing was read. This comes exactly where the words aren't of these two forms.
 /// - `ReadFault`: the source counted a fault. The answers to all lines whose LF was read.
 /// - `WriteFault`: the sink counted a fault. A prefix of the answers to what was read; nothing is promised of how
 ///   long it is.
@@ -156,6 +173,11 @@ pub fn run<S: Source, K: Sink>(
         (outside (S.left source.old) (K.taken sink.old) (S.faults source.old) (K.faults sink.old))
         (outside (S.left source.new) (K.taken sink.new) (S.faults source.new) (K.faults sink.new)) }
 
+    // With a number of requests nothing is read, and their line is written.
+    ensures generated { (count : ℕ) → command_of (map string_bytes words.now) ≡ Some (Command.Generate count)
+        → (source.new ≡ source.old)
+        × Generates result count (K.taken sink.old) (K.taken sink.new) (K.faults sink.old) (K.faults sink.new) }
+
     // Over every input within the limit, and with no fault, all answers are written.
     ensures headline { command_of (map string_bytes words.now) ≡ Some Command.Span
         → IfSome (S.left source.old) (λ input. length input ≤ limit → NoFault
@@ -167,6 +189,7 @@ pub fn run<S: Source, K: Sink>(
 {
     match read_command(words) {
         Some(Command::Span) => serve(source, sink),
+        Some(Command::Generate(count)) => generate(count, sink),
         None => Status::Words,
     }
 }

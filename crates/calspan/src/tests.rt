@@ -87,7 +87,18 @@ fn answers_in_any_pieces(rt: HostRuntime) -> Result<(), Fail> {
 
 #[test]
 fn other_words_read_and_write_nothing(rt: HostRuntime) -> Result<(), Fail> {
-    let others: [&[&str]; 5] = [&["spam"], &[], &["gen", "1"], &["span", "span"], &["Span"]];
+    let others: [&[&str]; 10] = [
+        &["spam"],
+        &[],
+        &["span", "span"],
+        &["Span"],
+        &["gen"],
+        &["gen", ""],
+        &["gen", "100001"],
+        &["gen", "0000001"],
+        &["gen", "-1"],
+        &["gen", "1", "1"],
+    ];
     for texts in others {
         let words = words(rt.alloc(), texts)?;
         let mut room = [0u8; 64];
@@ -245,4 +256,42 @@ fn words_and_their_numbers(rt: HostRuntime) {
     assert_eq!(rt; byte(b"256"), None);
     assert_eq!(rt; byte(b"0255"), None);
     assert_eq!(rt; byte(b"007"), Some(7));
+}
+
+// The lines were computed by two programs, each written from the rule of the requests alone.
+#[test]
+fn a_number_is_answered_by_counts_and_sums(rt: HostRuntime) -> Result<(), Fail> {
+    for (count, text) in [
+        ("0", b"gen 0 ok 0 err 0 sum 0 parts 0 0 0 0\n".as_slice()),
+        ("000", b"gen 0 ok 0 err 0 sum 0 parts 0 0 0 0\n".as_slice()),
+        (
+            "1",
+            b"gen 1 ok 1 err 0 sum -1851656 parts 3 7 0 29\n".as_slice(),
+        ),
+        (
+            "360",
+            b"gen 360 ok 296 err 64 sum -44550748 parts 90201 763986 5670112 50596390\n".as_slice(),
+        ),
+    ] {
+        let words = words(rt.alloc(), &["gen", count])?;
+        let mut room = [0u8; 256];
+        let mut source = MemorySource::new(b"span iso\n", 4096, &[1]);
+        let mut sink = MemorySink::new(&mut room, 7, &[]);
+        let status = run(rt.alloc(), &words, &mut source, &mut sink);
+        assert_eq!(rt; status, Status::Done);
+        assert_eq!(rt; sink.taken(), text);
+    }
+    Ok(())
+}
+
+#[test]
+fn a_fault_within_the_line_of_a_number_keeps_a_prefix(rt: HostRuntime) -> Result<(), Fail> {
+    let words = words(rt.alloc(), &["gen", "1"])?;
+    let mut room = [0u8; 256];
+    let mut source = PlainSource::new(b"");
+    let mut sink = MemorySink::new(&mut room, 6, &[2]);
+    let status = run(rt.alloc(), &words, &mut source, &mut sink);
+    assert_eq!(rt; status, Status::WriteFault);
+    assert_eq!(rt; sink.taken(), b"gen 1 ".as_slice());
+    Ok(())
 }

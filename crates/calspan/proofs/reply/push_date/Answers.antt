@@ -5,8 +5,8 @@ use Rattle.cal_types.specs.Year.{extended_year_of}
 use Rattle.cal_types.specs.MonthInfo.{MonthInfoParts}
 use Rattle.calspan.specs.Texts.{two_digits}
 use Rattle.calspan.specs.Replies.{year_text}
-use Rattle.icu_calendar.specs.AnySystem.{any_system, any_date}
-use Rattle.icu_calendar.specs.AnyLaws.{any_lawful, any_dated, any_named}
+use Rattle.cal_any.specs.AnySystem.{any_system, any_date}
+use Rattle.cal_any.specs.AnyLaws.{any_lawful, any_dated, any_named}
 use Rattle.calspan.proofs.reply.push_date.Goals as goal
 
 pub push_two_digits-requires-clause-small : goal.push_two_digits-requires-clause-small

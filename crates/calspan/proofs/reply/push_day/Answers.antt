@@ -1,7 +1,7 @@
 use Rattle.std.proofs.Common.{◌≡◌, ℕ, List, [], ◌∷◌, ◌++◌, to_z, of_z, w64, refl, sym, ap, ◌∙◌, append_assoc, arith}
 use Rattle.std.specs.Fmt.{signed_decimal}
 use Rattle.cal_days.proofs.Signed.{signed}
-use Rattle.icu_calendar.specs.AnySystem.{any_system, any_date}
+use Rattle.cal_any.specs.AnySystem.{any_system, any_date}
 use Rattle.calspan.specs.Replies.{numbered_text}
 use Rattle.calspan.proofs.reply.push_day.Goals as goal
 

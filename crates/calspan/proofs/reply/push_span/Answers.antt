@@ -1,7 +1,7 @@
 use Rattle.std.proofs.Common.{◌≡◌, ℕ, List, [], ◌∷◌, ◌++◌, codes, refl, sym, ap, ◌∙◌, append_assoc}
 use Rattle.cal_model.specs.CalendarList.{day_number}
-use Rattle.icu_calendar.specs.AnySystem.{any_system, any_date}
-use Rattle.icu_calendar.specs.declared.any_calendar.AnyCalendar.{AnyCalendar}
+use Rattle.cal_any.specs.AnySystem.{any_system, any_date}
+use Rattle.cal_any.specs.declared.any_calendar.AnyCalendar.{AnyCalendar}
 use Rattle.calspan.specs.Replies.{day_text, duration_text}
 use Rattle.calspan.proofs.reply.push_span.Goals as goal
 

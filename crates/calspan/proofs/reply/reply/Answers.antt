@@ -1,19 +1,30 @@
-use Rattle.std.proofs.Common.{Ok, Err, refl}
-use Rattle.icu_calendar.specs.AnySystem.{any_system}
+use Rattle.std.proofs.Common.{◌≡◌, ℕ, Bool, false, true, List, ◌++◌, Ok, Err, refl, subst}
+use Rattle.cal_model.specs.CalendarSystem.{CalendarSystem}
 use Rattle.icu_calendar.specs.SpanAnswers.{span_dates}
-use Rattle.calspan.specs.Replies.{span_text, error_text}
+use Rattle.cal_any.specs.AnySystem.{any_system}
+use Rattle.calspan.specs.Requests.{Request}
+use Rattle.calspan.specs.Replies.{span_text, error_text, IsReply}
 use Rattle.calspan.proofs.reply.reply.Goals as goal
+
+module _ (r : Request) (old new : List ℕ) where
+  abbrev IsTold : CalendarSystem → CalendarSystem → Bool → Type 0
+  IsTold c shown refused = (answer : List ℕ) × (new ≡ old ++ answer) × IsReply c shown r answer refused
+
+  -- what is told of two systems, is told of the systems of two names
+  named : (a b c shown : CalendarSystem) (refused : Bool) → a ≡ c → b ≡ shown → IsTold a b refused → IsTold c shown refused
+  named a b c shown refused e f h = subst (λ (s : CalendarSystem). IsTold s shown refused) e (subst (λ (s : CalendarSystem). IsTold a s refused) f h)
 
 pub returns-in-Ok : goal.returns-in-Ok
 returns-in-Ok c =
-    let calendar = c.args.calendar in let shown = c.args.shown in
     let dates = span_dates c.in-Ok.span in
-    let spans = c.in-Ok.ensures.spans in (
-      span_text (any_system calendar) (any_system shown) dates,
-      c.push_span.ensures calendar shown c.in-Ok.ensures.calendars (record { from = spans.from_shown.day; to = spans.to_shown.day }),
+    let spans = c.in-Ok.ensures.spans in
+    named _ _ _ (any_system c.calendar.result) (any_system c.calendar-2.result) _ _ false c.calendar.ensures c.calendar-2.ensures (
+      span_text (any_system c.calendar.result) (any_system c.calendar-2.result) dates,
+      c.push_span.ensures c.calendar.result c.calendar-2.result c.in-Ok.ensures.calendars (record { from = spans.from_shown.day; to = spans.to_shown.day }),
       record { answer = Ok dates; span = spans; says = refl; refuses = refl },
     )
 
 pub returns-in-Err : goal.returns-in-Err
 returns-in-Err c =
+    named _ _ _ (any_system c.calendar.result) (any_system c.calendar-2.result) _ _ true c.calendar.ensures c.calendar-2.ensures
     (error_text c.in-Err.error, c.push_error.ensures, record { answer = Err c.in-Err.error; span = c.in-Err.ensures.spans; says = refl; refuses = refl })
