@@ -1,5 +1,7 @@
 //! Days of which the dates are known, and dates there and back.
 
+ghost use Rattle.icu_calendar.specs.Day.{IsValidDay};
+
 use super::*;
 use EthiopianEraStyle::{AmeteAlem, AmeteMihret};
 use TabularAlgorithmEpoch::{Friday, Thursday};
@@ -9,6 +11,7 @@ use icu_calendar::{
     EthiopianEraStyle, Hebrew, Hijri, HijriTable, Indian, Japanese, KoreanTraditional, Persian,
     PersianCorrections, RataDie, Roc, Side, TabularAlgorithmEpoch, TabularAlgorithmLeapYears,
 };
+use std::cmp::Ordering;
 
 /// What a date shows: its extended year, its month code, its day, and its era with the year in it.
 type Shown = (i32, &'static str, u8, &'static str, i32);
@@ -133,17 +136,44 @@ fn known_days_have_known_hijri_dates(rt: HostRuntime) {
     );
 }
 
-/// That days near year 1, near today and at both ends of the valid range come back from their fields.
+/// A day number of the valid range.
+fn valid_day(rt: &impl Abort, number: i64) -> RataDie
+    ensures { IsValidDay result }
+{
+    assert!(rt; -365242499 <= number && number <= 365242134);
+    RataDie::new(number)
+}
+
+/// How the date of a day stands to that of the next day.
+fn order_to_next<A: AsCalendar + Copy>(rt: &impl Abort, day: i64, calendar: A) -> Option<Ordering>
+where
+    A::Calendar: Calendar,
+{
+    let date = calendar.as_calendar().from_rata_die(valid_day(rt, day));
+    let after = valid_day(rt, day.saturating_add(1));
+    let next = calendar.as_calendar().from_rata_die(after);
+    date.partial_cmp(&next)
+}
+
+/// That days near year 1, near today and at both ends of the valid range come back from their fields, and that dates
+/// are ordered as they are.
 fn assert_back<A: AsCalendar + Copy>(rt: &impl Abort, calendar: A)
 where
     A::Calendar: Calendar,
 {
-    for first in [-1000i64, 0, 738000, -365242499, 365241134] {
+    for first in [-1000i64, 0, 738000, -365242499, 365241133] {
         for after in 0..=1000i64 {
             let day = first.saturating_add(after);
             assert_eq!(rt; day_from_fields(day, calendar), Ok(day), "of {day}");
+            assert_eq!(rt;
+                order_to_next(rt, day, calendar),
+                Some(Ordering::Less),
+                "of {day}"
+            );
         }
     }
+    let last = 365242134;
+    assert_eq!(rt; day_from_fields(last, calendar), Ok(last), "of {last}");
 }
 
 #[test]
