@@ -10,6 +10,7 @@ use icu_calendar::{
     AsCalendar, Buddhist, Calendar, ChineseTraditional, Coptic, EastAsianTable, Ethiopian,
     EthiopianEraStyle, Hebrew, Hijri, HijriTable, Indian, Japanese, KoreanTraditional, Persian,
     PersianCorrections, RataDie, Roc, Side, TabularAlgorithmEpoch, TabularAlgorithmLeapYears,
+    YearInput,
 };
 use std::cmp::Ordering;
 
@@ -111,6 +112,29 @@ fn known_days_have_known_dates(rt: HostRuntime) {
         (740611, (5789, "M01", 1, "am", 5789)),
     ];
     assert_known(&rt, Hebrew, &hebrew);
+}
+
+#[test]
+fn eras_of_buddha_and_of_japan_name_known_dates(rt: HostRuntime) {
+    let year_0 = DateFields {
+        era: Some(b"be"),
+        era_year: Some(0),
+        extended_year: Some(0),
+        ordinal_month: Some(1),
+        day: Some(1),
+        ..DateFields::default()
+    };
+    match Date::try_from_fields(year_0, STRICT, Buddhist) {
+        Ok(date) => assert_eq!(rt; date.year().extended_year(), 0),
+        Err(cause) => assert!(rt; false, "{cause}"),
+    }
+    for (era, year) in [("ce", 2024), ("reiwa", 6)] {
+        let year = YearInput::EraYear(era, year);
+        match Date::try_new(year, Month::new(3), 1, Japanese::new()) {
+            Ok(date) => assert_eq!(rt; date.to_rata_die().to_i64_date(), 738946),
+            Err(cause) => assert!(rt; false, "{cause}"),
+        }
+    }
 }
 
 #[test]
