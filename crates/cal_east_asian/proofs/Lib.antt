@@ -1,5 +1,8 @@
 pub mod Finding
 pub mod MoonLemmas
-pub mod MonthBitLemmas
+pub mod PlaceLemmas
 pub mod PartLemmas
 pub mod TableMonthLemmas
+pub mod YearLemmas
+pub mod RowLemmas
+pub mod FaultLemmas

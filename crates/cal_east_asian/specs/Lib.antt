@@ -4,6 +4,7 @@ pub mod EastAsianYears
 pub mod EastAsianPlaces
 pub mod EastAsianList
 pub mod EastAsianEntryLaws
+pub mod MonthDayLaws
 pub mod EastAsianListLaws
 pub mod EastAsianStartLaws
 pub mod SameYears
@@ -11,8 +12,8 @@ pub mod SameYearLaws
 pub mod EastAsianSystem
 pub mod EastAsianNameLaws
 pub mod EastAsianGivenLaws
-pub mod MonthBits
 pub mod MeanYears
+pub mod MeanPlaces
 pub mod MoonLaws
 pub mod LeapMonthLaws
 pub mod MeanYearLaws
@@ -25,6 +26,7 @@ pub mod ComputedYears
 pub mod QingSeams
 pub mod ComputedLaws
 pub mod TableYears
+pub mod TableAccepted
 pub mod TableRows
 pub mod TablePlaces
 pub mod TableYearLaws

@@ -1,33 +1,13 @@
--- Years of the same parts are the same, whatever the proofs of their facts.
-use Rattle.std.proofs.Common.{◌≡◌, ◌↔◌, ℕ, true, ap, subst, ℤ, arith}
+-- The test of years for the same parts finds those that are the same.
+use Rattle.std.proofs.Common.{◌≡◌, ◌↔◌, ℕ, true, subst, ℤ, arith}
 use Rattle.std.specs.Prelude.{IsTrue, ◌&&◌, nat_eq}
 use Rattle.std.specs.Ordering.{int_eq}
-use Rattle.std.proofs.Props.{props}
 use Rattle.std.proofs.lemmas.Int.{ints}
 use Rattle.std.proofs.lemmas.Bool.Decides.{nat_tests}
 use Rattle.cal_model.proofs.DateTests.{and-left, and-right, true-and}
-use Rattle.cal_east_asian.specs.EastAsianYear.{IsEastAsianYear}
 use Rattle.cal_east_asian.specs.SameYears.{same_year}
+pub use Rattle.cal_east_asian.specs.SameYears.{same_parts}
 use Rattle.cal_east_asian.specs.declared.east_asian_traditional_year.EastAsianTraditionalYear.{EastAsianTraditionalYear}
-
-abbrev made : (y d : ℤ) (m p : ℕ) → IsEastAsianYear y d p → EastAsianTraditionalYear
-made y d m p f = record { related_iso = y; new_year = d; long_months = m; leap_month = p; valid = f }
-
-valid-one : (y d : ℤ) (p : ℕ) → IsProp (IsEastAsianYear y d p)
-valid-one y d p = hlevel props
-
--- one part after another
-same_from : (a : EastAsianTraditionalYear) (f : IsEastAsianYear a.related_iso a.new_year a.leap_month) (y d : ℤ) (m p : ℕ) → a.related_iso ≡ y → a.new_year ≡ d → a.long_months ≡ m → a.leap_month ≡ p → (g : IsEastAsianYear y d p) → made a.related_iso a.new_year a.long_months a.leap_month f ≡ made y d m p g
-same_from a f y d m p e1 e2 e3 e4 =
-    let base = made a.related_iso a.new_year a.long_months a.leap_month f in
-    let s0 : (g : IsEastAsianYear a.related_iso a.new_year a.leap_month) → base ≡ made a.related_iso a.new_year a.long_months a.leap_month g = λ g. ap (made a.related_iso a.new_year a.long_months a.leap_month) (valid-one a.related_iso a.new_year a.leap_month f g) in
-    let s1 = subst (λ (x : ℤ). (g : IsEastAsianYear x a.new_year a.leap_month) → base ≡ made x a.new_year a.long_months a.leap_month g) e1 s0 in
-    let s2 = subst (λ (x : ℤ). (g : IsEastAsianYear y x a.leap_month) → base ≡ made y x a.long_months a.leap_month g) e2 s1 in
-    let s3 = subst (λ (x : ℕ). (g : IsEastAsianYear y d a.leap_month) → base ≡ made y d x a.leap_month g) e3 s2 in
-    subst (λ (x : ℕ). (g : IsEastAsianYear y d x) → base ≡ made y d m x g) e4 s3
-
-pub same_parts : (a b : EastAsianTraditionalYear) → a.related_iso ≡ b.related_iso → a.new_year ≡ b.new_year → a.long_months ≡ b.long_months → a.leap_month ≡ b.leap_month → a ≡ b
-same_parts a b e1 e2 e3 e4 = same_from a a.valid b.related_iso b.new_year b.long_months b.leap_month e1 e2 e3 e4 b.valid
 
 int-same : (a b : ℤ) → int_eq a b ≡ true → a ≡ b
 int-same a b h = grind (arith, ints)

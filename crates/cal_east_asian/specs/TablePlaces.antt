@@ -4,8 +4,8 @@ use Rattle.std.specs.Option.{unwrap_or}
 use Rattle.std.proofs.lemmas.Option.{slice_get_cases, slice_get_within}
 use Rattle.std.proofs.lemmas.Int.{by_lt_z}
 use Rattle.cal_days.proofs.Signed.{signed, by_bool}
-use Rattle.cal_east_asian.specs.TableYears.{row_of, chosen_year}
-use Rattle.cal_east_asian.specs.TableYears.{IsRow, IsAccepted}
+use Rattle.cal_east_asian.specs.TableYears.{row_of, chosen_year, IsRow}
+use Rattle.cal_east_asian.specs.TableAccepted.{IsAccepted}
 use Rattle.cal_east_asian.specs.declared.east_asian_traditional_year.EastAsianTraditionalYear.{EastAsianTraditionalYear}
 use Rattle.cal_east_asian.specs.TableRows.{one_row, number-at, number-once}
 

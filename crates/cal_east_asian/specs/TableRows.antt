@@ -3,8 +3,10 @@ use Rattle.std.proofs.Common.{◌≡◌, ℕ, zero, suc, ◌+◌, ◌-◌, ◌<�
 use Rattle.std.proofs.lemmas.Bool.Decides.{Decides-int_eq, nat_tests}
 use Rattle.std.proofs.lemmas.Option.{slice_get_cases, slice_get_within}
 use Rattle.cal_days.proofs.Signed.{signed, by_bool}
-use Rattle.cal_east_asian.specs.TableYears.{IsRow, row_before, is_next, IsAccepted}
+use Rattle.cal_east_asian.specs.TableYears.{IsRow}
+use Rattle.cal_east_asian.specs.TableAccepted.{row_before, is_next, IsAccepted}
 use Rattle.cal_east_asian.specs.declared.east_asian_traditional_year.EastAsianTraditionalYear.{EastAsianTraditionalYear}
+use Rattle.cal_types.specs.declared.errors.TablePart.TheVariants.{Year}
 
 pub left_true : (a b : Bool) → (a && b) ≡ true → a ≡ true
 left_true true b e = refl
@@ -40,7 +42,7 @@ module _ (year_of : ℤ → EastAsianTraditionalYear) (rows : List EastAsianTrad
   -- each row's year is one more than the year of the row before it
   pub next-number : (i : ℕ) (before row : EastAsianTraditionalYear) → IsRow rows i before → IsRow rows (suc i) row → row.related_iso ≡ before.related_iso +ℤ pos 1
   next-number i before row h k =
-      let year = left_true (is_next (row_before rows (suc i)) row) (int_le row.related_iso (pos 9999)) (accepted (suc i) row k).year in
+      let year = left_true (is_next (row_before rows (suc i)) row) (int_le row.related_iso (pos 9999)) (accepted (suc i) row k Year) in
       let known : is_next (Some before) row ≡ true = subst (λ (b : Option EastAsianTraditionalYear). is_next b row ≡ true) (row_before-next rows i before h) year in
       (Decides-int_eq row.related_iso (before.related_iso +ℤ pos 1)).0 known
 

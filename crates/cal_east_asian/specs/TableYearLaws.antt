@@ -4,8 +4,10 @@ use Rattle.std.proofs.lemmas.Bool.Decides.{Decides-int_eq}
 use Rattle.cal_days.specs.Day.{IsRuleYear}
 use Rattle.cal_days.proofs.Signed.{signed}
 use Rattle.cal_east_asian.specs.EastAsianYears.{end_day, AreYears}
-use Rattle.cal_east_asian.specs.TableYears.{chosen_year, leap_by_years, IsRow, joins, ends, leaps_after, IsAccepted}
+use Rattle.cal_east_asian.specs.TableYears.{chosen_year, IsRow}
+use Rattle.cal_east_asian.specs.TableAccepted.{leap_by_years, joins, ends, leaps_after, IsAccepted}
 use Rattle.cal_east_asian.specs.declared.east_asian_traditional_year.EastAsianTraditionalYear.{EastAsianTraditionalYear}
+use Rattle.cal_types.specs.declared.errors.TablePart.TheVariants.{Join, End, Leap}
 use Rattle.cal_east_asian.specs.TableRows.{left_true, right_true, or_right, row_below, row_before-next, next-number, number-at, is_last}
 use Rattle.cal_east_asian.specs.TablePlaces.{by_year, chosen_year-row}
 
@@ -18,7 +20,7 @@ module _ (year_of : ℤ → EastAsianTraditionalYear) (rows : List EastAsianTrad
   first-starts : (y : ℤ) (row : EastAsianTraditionalYear) → IsRow rows 0 row → row.related_iso ≡ y +ℤ pos 1 → row.new_year ≡ end_day (chosen_year year_of rows y)
   first-starts y row h e =
       let same : row.related_iso -ℤ pos 1 ≡ y = omega (arith, signed) in
-      let met = (Decides-int_eq row.new_year (end_day (year_of (row.related_iso -ℤ pos 1)))).0 (accepted 0 row h).join in
+      let met = (Decides-int_eq row.new_year (end_day (year_of (row.related_iso -ℤ pos 1)))).0 (accepted 0 row h Join) in
       by_year year_of rows accepted {P = row.new_year ≡ end_day (chosen_year year_of rows y)} y
       (λ j other k f c. absurd (omega (arith, signed, number-at year_of rows accepted row h j other k)))
       (λ none c. met ∙ ap (λ (z : ℤ). end_day (year_of z)) same ∙ ap (λ (r : EastAsianTraditionalYear). end_day r) (sym c))
@@ -30,7 +32,7 @@ module _ (year_of : ℤ → EastAsianTraditionalYear) (rows : List EastAsianTrad
       (λ before here.
       let step = next-number year_of rows accepted i before row here h in
       let same : before.related_iso ≡ y = omega (arith, signed) in
-      let joined = subst (λ (b : Option EastAsianTraditionalYear). joins year_of b row ≡ true) (row_before-next rows i before here) (accepted (suc i) row h).join in
+      let joined = subst (λ (b : Option EastAsianTraditionalYear). joins year_of b row ≡ true) (row_before-next rows i before here) (accepted (suc i) row h Join) in
       let met = (Decides-int_eq row.new_year (end_day before)).0 joined in
       let kept : before ≡ chosen_year year_of rows y = subst (λ (z : ℤ). before ≡ chosen_year year_of rows z) same (sym (chosen_year-row year_of rows accepted i before here)) in
       met ∙ ap (λ (r : EastAsianTraditionalYear). end_day r) kept)
@@ -43,7 +45,7 @@ module _ (year_of : ℤ → EastAsianTraditionalYear) (rows : List EastAsianTrad
   last-ends : (y : ℤ) (i : ℕ) (row : EastAsianTraditionalYear) → IsRow rows i row → row.related_iso ≡ y → ((j : ℕ) (next : EastAsianTraditionalYear) → IsRow rows j next → next.related_iso ≢ y +ℤ pos 1) → (year_of (y +ℤ pos 1)).new_year ≡ end_day row
   last-ends y i row h e none =
       let last = is_last year_of rows accepted i row h (subst (λ (z : ℤ). (j : ℕ) (next : EastAsianTraditionalYear) → IsRow rows j next → next.related_iso ≢ z +ℤ pos 1) (sym e) none) in
-      let met = or_right (nat_lt (i + 1) (length rows)) (ends year_of row) (accepted i row h).end last in
+      let met = or_right (nat_lt (i + 1) (length rows)) (ends year_of row) (accepted i row h End) last in
       let day = (Decides-int_eq (year_of (row.related_iso +ℤ pos 1)).new_year (end_day row)).0 met in
       subst (λ (z : ℤ). (year_of (z +ℤ pos 1)).new_year ≡ end_day row) e day
 
@@ -52,7 +54,7 @@ module _ (year_of : ℤ → EastAsianTraditionalYear) (rows : List EastAsianTrad
   last-leaps y i row h e none =
       let last = is_last year_of rows accepted i row h (subst (λ (z : ℤ). (j : ℕ) (next : EastAsianTraditionalYear) → IsRow rows j next → next.related_iso ≢ z +ℤ pos 1) (sym e) none) in
       let years = chosen_year year_of rows in
-      or_right (nat_lt (i + 1) (length rows)) (leaps_after years row) (right_true (leap_by_years years row.related_iso) (nat_lt (i + 1) (length rows) || leaps_after years row) (accepted i row h).leap) last
+      or_right (nat_lt (i + 1) (length rows)) (leaps_after years row) (right_true (leap_by_years years row.related_iso) (nat_lt (i + 1) (length rows) || leaps_after years row) (accepted i row h Leap)) last
 
   chosen_year-numbered : AreYears year_of → (y : ℤ) → IsRuleYear y → (chosen_year year_of rows y).related_iso ≡ y
   chosen_year-numbered years y rule =
@@ -74,7 +76,7 @@ module _ (year_of : ℤ → EastAsianTraditionalYear) (rows : List EastAsianTrad
       let years = chosen_year year_of rows in
       let P : Type 0 = leap_by_years years y ≡ true in
       by_year year_of rows accepted {P = P} y
-      (λ i row h e c. subst (λ (z : ℤ). leap_by_years years z ≡ true) e (left_true (leap_by_years years row.related_iso) (nat_lt (i + 1) (length rows) || leaps_after years row) (accepted i row h).leap))
+      (λ i row h e c. subst (λ (z : ℤ). leap_by_years years z ≡ true) e (left_true (leap_by_years years row.related_iso) (nat_lt (i + 1) (length rows) || leaps_after years row) (accepted i row h Leap)))
       (λ none c.
       let back : y -ℤ pos 1 +ℤ pos 1 ≡ y = omega (arith, signed) in
       by_year year_of rows accepted {P = P} (y -ℤ pos 1)

@@ -32,6 +32,9 @@ pub type ChineseTraditional<'t> = EastAsianTraditional<China<'t>>;
 
 impl<'t> China<'t> {
     /// The rules with a table of China's years.
+    ///
+    /// [`EastAsianTable::try_new`] makes a table of rows that are handed in, and [`EastAsianTable::none`] one without
+    /// rows.
     pub fn new(table: EastAsianTable<'t>) -> China<'t>
         requires { table.side ≡ side.China }
         ensures { result.table ≡ table.entry }
@@ -42,6 +45,9 @@ impl<'t> China<'t> {
 
 impl<'t> EastAsianTraditional<China<'t>> {
     /// The Chinese calendar with a table of China's years.
+    ///
+    /// [`EastAsianTable::try_new`] makes a table of rows that are handed in, and [`EastAsianTable::none`] one without
+    /// rows.
     pub fn new(table: EastAsianTable<'t>) -> ChineseTraditional<'t>
         requires { table.side ≡ side.China }
         ensures { result.0.table ≡ table.entry }

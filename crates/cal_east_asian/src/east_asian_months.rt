@@ -1,10 +1,11 @@
 //! The months of a Chinese or Korean year, by the place of its leap month, or 0 without one, and a bit for each month
 //! of 30 days, the first month's lowest.
 
-ghost use Rattle.std.specs.Prelude.{◌≡◌, ◌-◌, ◌*◌, ◌≤◌};
+ghost use Rattle.std.specs.Prelude.{◌≡◌, ◌-◌, ◌*◌, ◌≤◌, sum_by};
 ghost use Rattle.cal_types.specs.MonthParts.{month_parts};
+ghost use Rattle.cal_model.specs.CalendarList.{days_of};
 ghost use Rattle.cal_east_asian.specs.EastAsianYear.{months_of_year};
-ghost use Rattle.cal_east_asian.specs.EastAsianMonths.{month_in_place as month_placed};
+ghost use Rattle.cal_east_asian.specs.EastAsianMonths.{month_in_place as month_placed, year_entries};
 ghost use Rattle.cal_east_asian.specs.EastAsianPlaces.{days_of_months, east_asian_place, is_east_asian_month, leap_status_of_place, month_days, plain_month_place};
 
 use cal_types::{LeapStatus, Month, MonthError, Overflow};
@@ -39,6 +40,15 @@ pub(crate) fn days_before_month(long_months: u16, place: u8) -> u16
         before += 1;
     }
     days
+}
+
+/// How many days a year has.
+pub(crate) fn days_in_year(leap_month: u8, long_months: u16) -> u16
+    ensures value { result ≡ sum_by days_of (year_entries leap_month long_months) }
+    ensures bound { result ≤ 420 }
+{
+    let last = months_in_year(leap_month);
+    days_before_month(long_months, last) + u16::from(days_in_month(long_months, last))
 }
 
 /// Whether a month is one of the plain months 1 to 12, or the leap month of one of these numbers.

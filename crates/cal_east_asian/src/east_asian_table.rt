@@ -1,47 +1,24 @@
 //! Tables of years for China and Korea.
 
-ghost use Rattle.std.specs.Prelude.{◌≡◌, [], slice_get};
+ghost use Rattle.std.specs.Prelude.{◌≡◌, ◌↔◌, [], IsOk, MatchResult};
 ghost use Rattle.cal_days.specs.Day.{IsRuleYear};
 ghost use Rattle.cal_east_asian.specs.ComputedLaws.{computed_year};
+ghost use Rattle.cal_east_asian.specs.TableAccepted.{IsAccepted, IsFirstFault};
 ghost use Rattle.cal_east_asian.specs.TableYears as table;
-ghost use Rattle.cal_east_asian.specs.TableYears.{HasNoRow, IsAccepted, IsRowOf, chosen_year};
+ghost use Rattle.cal_east_asian.specs.TableYears.{HasNoRow, IsRowOf};
 ghost use Rattle.cal_east_asian.specs.declared.east_asian_traditional_year.EastAsianTraditionalYear.{EastAsianTraditionalYear};
 
-use crate::computed_years::computed_year;
+use crate::chosen_years::chosen_year;
 use crate::east_asian_traditional_year::EastAsianTraditionalYear;
 use crate::sides::Side;
-
-/// The row at an index, counted from 0.
-pub(crate) fn row_at(
-    rows: &[EastAsianTraditionalYear],
-    index: usize,
-) -> Option<EastAsianTraditionalYear>
-    ensures { result ≡ slice_get rows.now index }
-{
-    rows.get(index).copied()
-}
-
-/// The row of a year. Rows follow one another, so its place follows from the first row's year.
-fn row_of(rows: &[EastAsianTraditionalYear], related_iso: i32) -> Option<EastAsianTraditionalYear>
-    requires { IsRuleYear related_iso }
-    ensures { result ≡ table.row_of rows.now related_iso }
-{
-    match row_at(rows, 0) {
-        None => None,
-        Some(first) => {
-            if related_iso < first.related_iso {
-                None
-            } else {
-                row_at(rows, (related_iso - first.related_iso) as usize)
-            }
-        }
-    }
-}
+use crate::table_check::check;
+use cal_types::TableFault;
 
 /// Rows of years for China or for Korea, which stand in place of the computed years of their numbers.
 ///
 /// The rows' numbers follow one another, from 1912 to 9999. Each row starts where the year before it ends, the last row
-/// ends where the computed next year starts, and no three years in a row lack a leap month.
+/// ends where the computed next year starts, and no three years in a row lack a leap month. The rows are handed in by
+/// [`EastAsianTable::try_new`]; a table made by [`EastAsianTable::none`] has none.
 #[derive(Clone, Copy, Debug)]
 pub struct EastAsianTable<'t> {
     side: Side,
@@ -56,6 +33,30 @@ impl<'t> EastAsianTable<'t> {
         ensures rows { result.rows.now ≡ [] }
     {
         EastAsianTable { side, rows: &[] }
+    }
+
+    /// The table of these rows, for one side.
+    ///
+    /// A [`TableFault`] names the first row, counted from 1, that isn't as it is to be, and the first part that
+    /// breaks there: [`Year`](cal_types::TablePart::Year) where the first row's year is below 1912, another's isn't
+    /// one more than the row's before it, or one is above 9999; [`Join`](cal_types::TablePart::Join) where the row
+    /// doesn't start where the row before it ends, or the first one not where the computed year before it ends;
+    /// [`End`](cal_types::TablePart::End) where the computed year after the last row doesn't start where that row
+    /// ends; [`Leap`](cal_types::TablePart::Leap) where neither the row's year nor one of the two years before it has
+    /// a leap month, or, at the last row, the same is true of the first or the second year after it. Among these
+    /// years, one without a row is the computed one.
+    pub fn try_new(
+        side: Side,
+        rows: &'t [EastAsianTraditionalYear],
+    ) -> Result<EastAsianTable<'t>, TableFault>
+        ensures first { MatchResult result (λ made. (made.side ≡ side) × (made.rows.now ≡ rows.now))
+            (IsFirstFault (computed_year side) rows.now) }
+        ensures exact { IsOk result ↔ IsAccepted (computed_year side) rows.now }
+    {
+        match check(side, rows) {
+            Ok(()) => Ok(EastAsianTable { side, rows }),
+            Err(fault) => Err(fault),
+        }
     }
 
     /// Whose years these are.
@@ -75,14 +76,11 @@ impl<'t> EastAsianTable<'t> {
     /// The year of a number from -8000000 to 8000000: its row where there is one, and otherwise the computed year.
     pub(crate) fn year(&self, related_iso: i32) -> EastAsianTraditionalYear
         requires { IsRuleYear related_iso }
-        ensures exact { result ≡ chosen_year (computed_year self.now.side) self.now.rows.now related_iso }
+        ensures exact { result ≡ table.chosen_year (computed_year self.now.side) self.now.rows.now related_iso }
         ensures row { (row : EastAsianTraditionalYear) → IsRowOf self.now.rows.now related_iso row → result ≡ row }
         ensures other { HasNoRow self.now.rows.now related_iso → result ≡ computed_year self.now.side related_iso }
         ensures number { result.related_iso ≡ related_iso }
     {
-        match row_of(self.rows, related_iso) {
-            Some(row) => row,
-            None => computed_year(self.side, related_iso),
-        }
+        chosen_year(self.side, self.rows, related_iso)
     }
 }

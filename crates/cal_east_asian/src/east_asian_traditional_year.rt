@@ -1,6 +1,6 @@
 //! A year of a Chinese or Korean calendar.
 
-ghost use Rattle.std.specs.Prelude.{◌≡◌, ◌↔◌, ◌≤◌, IfSome, IsSome, IsTrue, Some};
+ghost use Rattle.std.specs.Prelude.{◌≡◌, ◌↔◌, ◌<◌, ◌≤◌, ◌^◌, IfSome, IsSome, IsTrue, Some};
 ghost use Rattle.std.proofs.Common.{rules};
 ghost use Rattle.std.specs.Cmp.Rules.{comparing, hashing};
 ghost use Rattle.std.specs.Ordering.{int_cmp, int_eq, on, as_partial_cmp};
@@ -101,6 +101,7 @@ impl EastAsianTraditionalYear {
         ensures start { IfSome result (λ y. y.new_year ≡ start_at month_starts 0) }
         ensures leap_month { IfSome result (λ y. leap_place_read leap_month ≡ Some y.leap_month) }
         ensures lengths { IfSome result (λ y. HaveLengthsOf month_starts (months_of_year y.leap_month) y.long_months) }
+        ensures few { IfSome result (λ y. y.long_months < 2 ^ months_of_year y.leap_month) }
     {
         let place = leap_place(leap_month)?;
         let new_year = first_day(&month_starts);

@@ -32,6 +32,9 @@ pub type KoreanTraditional<'t> = EastAsianTraditional<Korea<'t>>;
 
 impl<'t> Korea<'t> {
     /// The rules with a table of Korea's years.
+    ///
+    /// [`EastAsianTable::try_new`] makes a table of rows that are handed in, and [`EastAsianTable::none`] one without
+    /// rows.
     pub fn new(table: EastAsianTable<'t>) -> Korea<'t>
         requires { table.side ≡ side.Korea }
         ensures { result.table ≡ table.entry }
@@ -42,6 +45,9 @@ impl<'t> Korea<'t> {
 
 impl<'t> EastAsianTraditional<Korea<'t>> {
     /// The Korean calendar with a table of Korea's years.
+    ///
+    /// [`EastAsianTable::try_new`] makes a table of rows that are handed in, and [`EastAsianTable::none`] one without
+    /// rows.
     pub fn new(table: EastAsianTable<'t>) -> KoreanTraditional<'t>
         requires { table.side ≡ side.Korea }
         ensures { result.0.table ≡ table.entry }

@@ -2,6 +2,7 @@
 #![tactic(auto)]
 
 mod china;
+mod chosen_years;
 mod computed_years;
 mod east_asian_months;
 mod east_asian_table;
@@ -16,6 +17,7 @@ mod reference_years;
 mod rules;
 mod same_rows;
 mod sides;
+mod table_check;
 mod table_months;
 #[cfg(test)]
 mod tests;

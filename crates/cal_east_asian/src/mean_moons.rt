@@ -2,6 +2,7 @@
 
 ghost use Rattle.std.specs.Prelude.{◌≡◌, ◌+◌, ◌<◌, ◌≤◌, pos, neg_ℤ, ◌+ℤ◌, ◌-ℤ◌, ◌*ℤ◌, ◌≤ℤ◌, ◌<ℤ◌};
 ghost use Rattle.cal_days.specs.Day.{IsRuleYear};
+ghost use Rattle.cal_days.specs.Division.{floor_mod};
 ghost use Rattle.cal_east_asian.specs.MeanYears as mean;
 ghost use Rattle.cal_east_asian.specs.MeanYears.{IsLastMoon, IsNearMoon, IsOffset, day, last_moon, month_total};
 
@@ -12,7 +13,7 @@ const DAY: i64 = 86_400_000;
 pub(crate) const MONTH: i64 = 2_551_442_876;
 
 /// The time from one mean solar term to the next, a twelfth of a mean year of 365.2425 days.
-pub(crate) const TERM: i64 = 2_629_746_000;
+const TERM: i64 = 2_629_746_000;
 
 /// A mean year of 365.2425 days.
 const YEAR: i64 = 31_556_952_000;
@@ -25,12 +26,26 @@ const SOLSTICE_OF_2000: i64 = 63_081_531_840_000;
 
 /// The day of a moment.
 #[tactic(auto, using(cal_days::proofs::Signed::signed), unfolding(cal_days::specs::Division::floor_div))]
-pub(crate) fn day_of(moment: i64) -> i64
+fn day_of(moment: i64) -> i64
     ensures exact { result ≡ day moment }
     ensures first { (pos 86400000 *ℤ result) ≤ℤ moment }
     ensures last { moment <ℤ (pos 86400000 *ℤ result +ℤ pos 86400000) }
 {
     moment.div_euclid(DAY)
+}
+
+/// The day of a moment, and how long after its start the moment is.
+#[tactic(auto, using(cal_days::proofs::Signed::signed_casts))]
+pub(crate) fn day_and_time(moment: i64) -> (i64, u32)
+    requires { (neg_ℤ (pos 600000000000000000) ≤ℤ moment) × (moment ≤ℤ pos 600000000000000000) }
+    ensures day { result.0 ≡ day moment }
+    ensures first { (pos 86400000 *ℤ result.0) ≤ℤ moment }
+    ensures last { moment <ℤ (pos 86400000 *ℤ result.0 +ℤ pos 86400000) }
+    ensures time { result.1 ≡ floor_mod moment 86400000 }
+    ensures bound { result.1 < 86400000 }
+{
+    let day = day_of(moment);
+    (day, (moment - DAY * day) as u32)
 }
 
 /// A mean new moon.
@@ -46,7 +61,7 @@ pub(crate) fn moon(utc_offset: i64, index: i64) -> i64
 
 /// The mean winter solstice before a year.
 #[tactic(auto, using(cal_days::proofs::Signed::signed), unfolding(crate::specs::MeanYears::term))]
-pub(crate) fn solstice(utc_offset: i64, year: i32) -> i64
+fn solstice(utc_offset: i64, year: i32) -> i64
     requires offset { IsOffset utc_offset }
     requires year { IsRuleYear year }
     ensures exact { result ≡ mean.term utc_offset year 0 }
@@ -54,6 +69,17 @@ pub(crate) fn solstice(utc_offset: i64, year: i32) -> i64
 {
     let years = i64::from(year) - 2000;
     SOLSTICE_OF_2000 + utc_offset + YEAR * years
+}
+
+/// Mean solar term 2 of a year.
+#[tactic(auto, using(cal_days::proofs::Signed::signed))]
+pub(crate) fn second_term(utc_offset: i64, year: i32) -> i64
+    requires offset { IsOffset utc_offset }
+    requires year { IsRuleYear year }
+    ensures exact { result ≡ mean.term utc_offset year 2 }
+    ensures near { (neg_ℤ (pos 261000000000000000) ≤ℤ result) × (result ≤ℤ pos 261000000000000000) }
+{
+    solstice(utc_offset, year) + 2 * TERM
 }
 
 /// How long after moon 0 the last moment of a day is.
@@ -91,6 +117,5 @@ pub(crate) fn first_moon(utc_offset: i64, year: i32) -> i64
     ensures next { mean.first_moon utc_offset (year +ℤ pos 1) ≡ result +ℤ pos (month_total utc_offset year) }
     ensures near { (neg_ℤ (pos 110000000) ≤ℤ result) × (result ≤ℤ pos 110000000) }
 {
-    let term = solstice(utc_offset, year) + 2 * TERM;
-    last_moon_by(utc_offset, day_of(term))
+    last_moon_by(utc_offset, day_of(second_term(utc_offset, year)))
 }

@@ -1,119 +1,139 @@
 //! Mean lunisolar years.
 //!
 //! Months begin on the day of a mean new moon. Of the months from the one that has the mean winter solstice on, the
-//! first one that lacks its solar term is the leap month.
+//! first one that lacks its solar term is the leap month: the next month begins on the day of that term or before.
+//!
+//! So a year begins with the last moon on or before the day of term 2, whether or not a leap month goes before it, and
+//! its own leap month is the first of its months that lacks its term. Terms lie farther apart than moons, always by
+//! the same time, so a division finds the first month that may lack its term.
 
-ghost use Rattle.std.specs.Prelude.{◌≡◌, ℕ, ◌+◌, ◌<◌, ◌≤◌, slice_index_or, pos, neg_ℤ, ◌+ℤ◌, ◌≤ℤ◌, ◌<ℤ◌};
+ghost use Rattle.std.specs.Prelude.{◌≡◌, ℕ, ◌+◌, ◌*◌, ◌/◌, ◌%◌, ◌<◌, ◌≤◌, nat_eq, nat_le, if◌then◌else◌, pos, neg_ℤ, ◌+ℤ◌, ◌-ℤ◌, ◌≤ℤ◌, ◌<ℤ◌};
 ghost use Rattle.cal_days.specs.Day.{IsBetween, IsRuleYear, IsValidDay};
 ghost use Rattle.cal_east_asian.specs.MeanYears as mean;
 ghost use Rattle.cal_east_asian.specs.MeanYears.{AreMonths, HasSolsticeMoon, IsOffset, months_of_three};
-ghost use Rattle.cal_east_asian.specs.MeanMonthLaws.{leap_place};
+ghost use Rattle.cal_east_asian.specs.MeanPlaces.{ends_by_term, month_bits, place_from};
 ghost use Rattle.cal_east_asian.specs.MeanTraditionalYears.{IsMeanYear, mean_parts, mean_traditional_year};
-ghost use Rattle.cal_east_asian.specs.MonthBits.{AreNear, start_bit, start_bits};
 ghost use Rattle.cal_east_asian.specs.EastAsianYear.{IsNewYear, months_of_year};
 ghost use Rattle.cal_east_asian.specs.EastAsianYears.{end_day, parts_of};
 
 use crate::east_asian_traditional_year::EastAsianTraditionalYear;
-use crate::mean_moons::{MONTH, TERM, day_of, last_moon_by, moon, solstice};
+use crate::mean_moons::{MONTH, day_and_time, last_moon_by, moon, second_term};
 use cal_days::{RataDie, gregorian};
 
-/// The leap month, counted from the month of the winter solstice before a year. One pair of moments is moved forward:
-/// the end of a month, and its solar term.
-#[tactic(auto, using(cal_days::proofs::Signed::signed))]
-fn leap_month(utc_offset: i64, year: i32) -> Option<u8>
-    requires offset { IsOffset utc_offset }
-    requires year { IsRuleYear year }
-    ensures { result ≡ mean.leap_month utc_offset year }
+/// A day.
+const DAY: u32 = 86_400_000;
+
+/// What a mean month has beyond 29 days.
+const BEYOND_29_DAYS: u32 = 45_842_876;
+
+/// What lies between two mean solar terms beyond 30 days.
+const BEYOND_30_DAYS: u32 = 37_746_000;
+
+/// What lies between two mean solar terms beyond a mean month.
+const BEYOND_A_MONTH: u32 = 78_303_124;
+
+/// How long after its solar term a month ends whose first moment and term are these.
+#[tactic(auto, using(cal_days::proofs::Signed::signed_casts))]
+fn lead(first: i64, term: i64) -> u32
+    requires near { (neg_ℤ (pos 600000000000000000) ≤ℤ first) × (first ≤ℤ pos 600000000000000000) }
+    requires after { term <ℤ (first +ℤ pos 2551442876) }
+    requires within { first <ℤ (term +ℤ pos 86400000) }
+    ensures exact { pos result ≡ first +ℤ pos 2551442876 -ℤ term }
+    ensures bound { result < 2637842876 }
 {
-    let mut term = solstice(utc_offset, year);
-    let mut next = moon(utc_offset, last_moon_by(utc_offset, day_of(term)) + 1);
-    let mut month: u8 = 0;
-    'months: while month < 15 {
-        if day_of(next) <= day_of(term) {
-            return Some(month);
-        }
-        next += MONTH;
-        term += TERM;
-        month += 1;
-    }
-    None
+    (first + MONTH - term) as u32
 }
 
-/// The first days of 14 months, from a month on that is counted from the month of the winter solstice.
-#[tactic(auto, using(cal_days::proofs::Signed::signed))]
-fn month_starts(utc_offset: i64, year: i32, first: u8) -> [i64; 14]
-    requires offset { IsOffset utc_offset }
-    requires year { IsRuleYear year }
-    requires first { first ≤ 3 }
-    ensures { (i : ℕ) → i < 14 → slice_index_or result i (pos 0) ≡ mean.month_start utc_offset year (first + i) }
+/// The first month that ends less than a day after its solar term, or before it. Earlier months end after the days of
+/// their terms, and those after the next one end on the days of their terms or before. In between, the days decide.
+fn first_near_term(lead: u32) -> u32
+    requires { lead < 2637842876 }
+    ensures near { lead < 86400000 + 78303124 * result }
+    ensures first { (j : ℕ) → j < result → 86400000 + 78303124 * j ≤ lead }
+    ensures few { result ≤ 33 }
 {
-    let begin = last_moon_by(utc_offset, day_of(solstice(utc_offset, year)));
-    let mut moment = moon(utc_offset, begin + i64::from(first));
-    let mut starts = [0i64; 14];
-    let mut place: usize = 0;
-    'places: while place < 14 {
-        starts[place] = day_of(moment);
-        moment += MONTH;
-        place += 1;
-    }
-    starts
-}
-
-/// The month that a year begins with, counted from the month of the winter solstice.
-fn first_month(leap: Option<u8>) -> u8
-    ensures exact { result ≡ mean.first_month leap }
-    ensures small { result ≤ 3 }
-{
-    match leap {
-        None => 2,
-        Some(month) => if month <= 2 { 3 } else { 2 },
+    if lead < DAY {
+        0
+    } else {
+        (lead - DAY) / BEYOND_A_MONTH + 1
     }
 }
 
-/// The place in the year of the leap month, or 0.
-fn place_in_year(leap: Option<u8>) -> u8
-    ensures { result ≡ leap_place leap }
+/// 1 where a month ends after the day of its solar term, and else 0.
+fn has_term(lead: u32, time: u32, month: u32) -> u32
+    requires lead { lead < 2637842876 }
+    requires time { time < 86400000 }
+    requires month { month ≤ 34 }
+    ensures { result ≡ if ends_by_term lead time month then 0 else 1 }
 {
-    match leap {
-        None => 0,
-        Some(month) => if month <= 2 { 0 } else { month - 1 },
+    if lead + (time + BEYOND_30_DAYS * month) % DAY < DAY + BEYOND_A_MONTH * month {
+        0
+    } else {
+        1
     }
 }
 
-/// How many months a year has with a leap month in a place, or without one.
-fn months(place: u8) -> u8
-    ensures exact { result ≡ months_of_year place }
-    ensures few { result ≤ 13 }
+/// The place in the year of a month that is counted from 0. 0 where the year hasn't so many months.
+fn place_in_year(month: u32) -> u8
+    ensures { result ≡ if nat_le month 12 then month + 1 else 0 }
 {
-    if place == 0 { 12 } else { 13 }
+    if month <= 12 { month as u8 + 1 } else { 0 }
 }
 
-/// 1 where a month has 30 days.
-#[tactic(auto, using(cal_days::proofs::Signed::signed))]
-fn long_bit(starts: &[i64; 14], index: usize) -> u16
-    requires index { index < 13 }
-    requires near { AreNear starts.now }
-    ensures exact { result ≡ start_bit starts.now index }
+/// The place in the year of the leap month, or 0. Term 2 lies so long after the start of its day, and the year's first
+/// month ends so long after it.
+fn leap_place(lead: u32, time: u32) -> u8
+    requires lead { lead < 2637842876 }
+    requires time { time < 86400000 }
+    ensures { result ≡ place_from lead time }
+{
+    let near = first_near_term(lead);
+    place_in_year(near + has_term(lead, time, near) + has_term(lead, time, near + 1))
+}
+
+/// How long after the start of its day the month before one begins that begins so long after the start of its own day,
+/// and 1 where that month has 30 days.
+fn month_before(time: u32) -> (u32, u16)
+    requires { time < 86400000 }
+    ensures time { result.0 < 86400000 }
+    ensures next { (result.0 + 45842876) % 86400000 ≡ time }
+    ensures bit { result.1 ≡ (result.0 + 45842876) / 86400000 }
+    ensures small { result.1 ≤ 1 }
+{
+    if time < BEYOND_29_DAYS {
+        (time + (DAY - BEYOND_29_DAYS), 1)
+    } else {
+        (time - BEYOND_29_DAYS, 0)
+    }
+}
+
+/// 1 where the thirteenth month of a year with a leap month has 30 days. It begins so long after the start of its day.
+fn thirteenth_bit(start: u32, place: u8) -> u16
+    requires { start < 86400000 }
+    ensures exact { result ≡ if nat_eq place 0 then 0 else (start + 45842876) / 86400000 }
     ensures small { result ≤ 1 }
 {
-    if starts[index + 1] - starts[index] == 30 {
+    if place != 0 && DAY - BEYOND_29_DAYS <= start {
         1
     } else {
         0
     }
 }
 
-/// A bit for each month of 30 days, the first month's lowest.
-fn long_months(starts: &[i64; 14], months: u8) -> u16
-    requires months { months ≤ 13 }
-    requires near { AreNear starts.now }
-    ensures { result ≡ start_bits starts.now 0 months }
+/// A bit for each month of 30 days, the first month's lowest, in a year with a leap month in a place, or without one.
+/// The year's first month begins so long after the start of its day.
+fn long_months(time: u32, place: u8) -> u16
+    requires { time < 86400000 }
+    ensures { result ≡ month_bits time 0 (months_of_year place) }
 {
-    let mut bits: u16 = 0;
-    let mut index = usize::from(months);
-    'months: while 0 < index {
-        index -= 1;
-        bits = bits * 2 + long_bit(starts, index);
+    let mut start = (time + BEYOND_29_DAYS * 12) % DAY;
+    let mut bits = thirteenth_bit(start, place);
+    let mut month: u8 = 12;
+    'months: while 0 < month {
+        month -= 1;
+        let (before, bit) = month_before(start);
+        start = before;
+        bits = bits * 2 + bit;
     }
     bits
 }
@@ -135,11 +155,13 @@ pub fn mean_year(utc_offset: i64, related_iso: i32) -> EastAsianTraditionalYear
     ensures solstice { HasSolsticeMoon utc_offset related_iso }
     ensures leaps { 37 ≤ months_of_three utc_offset related_iso }
 {
-    let leap = leap_month(utc_offset, related_iso);
-    let place = place_in_year(leap);
-    let starts = month_starts(utc_offset, related_iso, first_month(leap));
-    let lengths = long_months(&starts, months(place));
-    EastAsianTraditionalYear::from_parts(related_iso, starts[0], lengths, place)
+    let term = second_term(utc_offset, related_iso);
+    let (day, time) = day_and_time(term);
+    let first = moon(utc_offset, last_moon_by(utc_offset, day));
+    let (new_year, start) = day_and_time(first);
+    let place = leap_place(lead(first, term), time);
+    let lengths = long_months(start, place);
+    EastAsianTraditionalYear::from_parts(related_iso, new_year, lengths, place)
 }
 
 /// The mean year that contains a valid day, at an offset as in [`mean_year`].

@@ -1,6 +1,6 @@
 //! The months of a year by their first days.
 
-ghost use Rattle.std.specs.Prelude.{◌≡◌, ◌↔◌, ◌≤◌, IfSome, IsSome, IsTrue, pos, neg_ℤ, ◌-ℤ◌};
+ghost use Rattle.std.specs.Prelude.{◌≡◌, ◌↔◌, ◌<◌, ◌≤◌, ◌^◌, IfSome, IsSome, IsTrue, pos, neg_ℤ, ◌-ℤ◌};
 ghost use Rattle.cal_days.specs.Day.{IsBetween, IsRuleYear};
 ghost use Rattle.cal_east_asian.specs.EastAsianYear.{IsNewYear};
 ghost use Rattle.cal_east_asian.specs.MonthStarts.{HaveLengthsOf, HaveMonthLengths, leap_place_read, start_at};
@@ -61,6 +61,7 @@ pub(crate) fn long_months(starts: &[RataDie; 14], months: u8) -> Option<u16>
     requires { months ≤ 13 }
     ensures some { IsSome result ↔ HaveMonthLengths starts.now 0 months }
     ensures lengths { IfSome result (λ long. HaveLengthsOf starts.now months long) }
+    ensures few { IfSome result (λ long. long < 2 ^ months) }
 {
     let mut long_months = 0;
     let mut month = usize::from(months);

@@ -5,9 +5,10 @@ ghost use Rattle.cal_days.specs.Day.{IsBetween, IsRuleYear};
 ghost use Rattle.cal_model.specs.CalendarList.{month_number};
 ghost use Rattle.cal_east_asian.specs.TableMonths.{AreComputed, table_list};
 
+use crate::chosen_years::row_at;
 use crate::computed_years::computed_months_between;
 use crate::east_asian_months::months_in_year;
-use crate::east_asian_table::{EastAsianTable, row_at};
+use crate::east_asian_table::EastAsianTable;
 use cal_arith::Steps;
 use std::sync::ledger::Ledger;
 

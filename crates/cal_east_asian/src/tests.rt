@@ -4,6 +4,9 @@
 
 mod mean_rules;
 
+ghost use Rattle.std.specs.Prelude.{pos};
+ghost use Rattle.cal_days.specs.Day.{IsBetween};
+
 use self::mean_rules::MeanRules;
 use crate::china::ChineseTraditional;
 use crate::computed_years::{computed_months_between, computed_year, computed_year_containing_rd};
@@ -18,7 +21,8 @@ use cal_base::Calendar;
 use cal_days::RataDie;
 use cal_types::{
     DateDifferenceOptions, DateDurationUnit, DateFields, DateFromFieldsError,
-    DateFromFieldsOptions, LeapStatus, MissingFieldsStrategy, Month, Overflow, YearInput,
+    DateFromFieldsOptions, LeapStatus, MissingFieldsStrategy, Month, Overflow, TableFault,
+    TablePart, YearInput,
 };
 
 #[test]
@@ -321,4 +325,135 @@ fn a_leap_month_without_a_reference_year_is_constrained(rt: HostRuntime) {
     };
     let refused = china.from_fields(fields, options).err();
     assert_eq!(rt; refused, Some(DateFromFieldsError::MonthNotInYear));
+}
+
+/// The day so many days after another.
+fn day_after(first: i64, days: i64) -> RataDie
+    requires first { IsBetween (pos 0) (pos 4000000) first }
+    requires days { IsBetween (pos 0) (pos 400) days }
+{
+    RataDie::new(first + days)
+}
+
+/// A year without a leap month, whose months have 30 and 29 days in turn, but for the last one, which has so many.
+fn year_by_turns(related_iso: i32, first: i64, last: i64) -> Option<EastAsianTraditionalYear>
+    requires first { IsBetween (pos 0) (pos 4000000) first }
+    requires last { IsBetween (pos 29) (pos 30) last }
+{
+    let starts = [
+        day_after(first, 0),
+        day_after(first, 30),
+        day_after(first, 59),
+        day_after(first, 89),
+        day_after(first, 118),
+        day_after(first, 148),
+        day_after(first, 177),
+        day_after(first, 207),
+        day_after(first, 236),
+        day_after(first, 266),
+        day_after(first, 295),
+        day_after(first, 325),
+        day_after(first, 325 + last),
+        day_after(first, 355 + last),
+    ];
+    EastAsianTraditionalYear::try_new(related_iso, starts, None)
+}
+
+/// A year of twelve months of 30 days.
+fn year_of_thirties(related_iso: i32, first: i64) -> Option<EastAsianTraditionalYear>
+    requires { IsBetween (pos 0) (pos 4000000) first }
+{
+    let starts = [
+        day_after(first, 0),
+        day_after(first, 30),
+        day_after(first, 60),
+        day_after(first, 90),
+        day_after(first, 120),
+        day_after(first, 150),
+        day_after(first, 180),
+        day_after(first, 210),
+        day_after(first, 240),
+        day_after(first, 270),
+        day_after(first, 300),
+        day_after(first, 330),
+        day_after(first, 360),
+        day_after(first, 390),
+    ];
+    EastAsianTraditionalYear::try_new(related_iso, starts, None)
+}
+
+/// In the row's year of 1912 the first month has 30 days, and in the computed one 29.
+#[test]
+fn a_row_takes_the_place_of_a_computed_year(rt: HostRuntime) {
+    let rows = [year_by_turns(1912, 698026, 29).expect(&rt, "the year is there")];
+    let made = EastAsianTable::try_new(Side::China, &rows);
+    let china = ChineseTraditional::new(made.expect(&rt, "the table is accepted"));
+    let computed = ChineseTraditional::new(EastAsianTable::none(Side::China));
+    let last = RataDie::new(698055);
+    let date = china.from_rata_die(last);
+    assert_eq!(rt; china.month(&date).ordinal, 1);
+    assert_eq!(rt; china.day_of_month(&date).0, 30);
+    assert_eq!(rt; computed.month(&computed.from_rata_die(last)).ordinal, 2);
+    assert!(rt; china.check_date_compatibility(&china).is_ok());
+    assert!(rt; china.check_date_compatibility(&computed).is_err());
+    let korea = EastAsianTable::try_new(Side::Korea, &rows);
+    assert!(rt; korea.is_ok());
+}
+
+#[test]
+fn a_single_row_is_refused_for_its_first_fault(rt: HostRuntime) {
+    for (related_iso, first, last, part) in [
+        (1912, 698026, 30, TablePart::End),
+        (1912, 698027, 29, TablePart::Join),
+        (1912, 698027, 30, TablePart::Join),
+        (1911, 697642, 30, TablePart::Year),
+        (10000, 3652079, 29, TablePart::Year),
+    ] {
+        assert!(rt; 0 <= first && first <= 4000000);
+        assert!(rt; 29 <= last && last <= 30);
+        let row = year_by_turns(related_iso, first, last).expect(&rt, "the year is there");
+        let fault = EastAsianTable::try_new(Side::China, &[row]).err();
+        assert!(rt;
+            fault == Some(TableFault { row: 1, part }),
+            "at {related_iso}"
+        );
+    }
+}
+
+/// Four years without a leap month follow 1911, which has one. Where the third is the last row, it doesn't end where
+/// the computed 1915 starts, and this is found before its want of a leap month.
+#[test]
+fn rows_are_refused_for_the_first_fault(rt: HostRuntime) {
+    let y1912 = year_of_thirties(1912, 698026).expect(&rt, "the year is there");
+    let y1913 = year_of_thirties(1913, 698386).expect(&rt, "the year is there");
+    let y1914 = year_of_thirties(1914, 698746).expect(&rt, "the year is there");
+    let y1915 = year_of_thirties(1915, 699106).expect(&rt, "the year is there");
+    let four = [y1912, y1913, y1914, y1915];
+    let three = [y1912, y1913, y1914];
+    let gap = [y1912, y1914];
+    let twice = [y1912, y1912];
+    for (fault, row, part) in [
+        (
+            EastAsianTable::try_new(Side::China, &four).err(),
+            3,
+            TablePart::Leap,
+        ),
+        (
+            EastAsianTable::try_new(Side::China, &three).err(),
+            3,
+            TablePart::End,
+        ),
+        (
+            EastAsianTable::try_new(Side::China, &gap).err(),
+            2,
+            TablePart::Year,
+        ),
+        (
+            EastAsianTable::try_new(Side::China, &twice).err(),
+            2,
+            TablePart::Year,
+        ),
+    ] {
+        assert!(rt; fault == Some(TableFault { row, part }));
+    }
 }

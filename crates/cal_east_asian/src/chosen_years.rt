@@ -1,0 +1,52 @@
+//! The years that rows choose beside computed years.
+
+ghost use Rattle.std.specs.Prelude.{◌≡◌, slice_get};
+ghost use Rattle.cal_days.specs.Day.{IsRuleYear};
+ghost use Rattle.cal_east_asian.specs.ComputedLaws as computed;
+ghost use Rattle.cal_east_asian.specs.TableYears as table;
+
+use crate::computed_years::computed_year;
+use crate::east_asian_traditional_year::EastAsianTraditionalYear;
+use crate::sides::Side;
+
+/// The row at an index, counted from 0.
+pub(crate) fn row_at(
+    rows: &[EastAsianTraditionalYear],
+    index: usize,
+) -> Option<EastAsianTraditionalYear>
+    ensures { result ≡ slice_get rows.now index }
+{
+    rows.get(index).copied()
+}
+
+/// The row of a year. Rows follow one another, so its place follows from the first row's year.
+fn row_of(rows: &[EastAsianTraditionalYear], related_iso: i32) -> Option<EastAsianTraditionalYear>
+    requires { IsRuleYear related_iso }
+    ensures { result ≡ table.row_of rows.now related_iso }
+{
+    match row_at(rows, 0) {
+        None => None,
+        Some(first) => {
+            if related_iso < first.related_iso {
+                None
+            } else {
+                row_at(rows, (related_iso - first.related_iso) as usize)
+            }
+        }
+    }
+}
+
+/// The row of a year where there is one, and otherwise the computed year.
+pub(crate) fn chosen_year(
+    side: Side,
+    rows: &[EastAsianTraditionalYear],
+    related_iso: i32,
+) -> EastAsianTraditionalYear
+    requires { IsRuleYear related_iso }
+    ensures { result ≡ table.chosen_year (computed.computed_year side) rows.now related_iso }
+{
+    match row_of(rows, related_iso) {
+        Some(row) => row,
+        None => computed_year(side, related_iso),
+    }
+}
