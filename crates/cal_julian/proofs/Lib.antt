@@ -1,3 +1,4 @@
 mod IndianMonthLemmas
 mod PersianDayLemmas
+pub mod CorrectionLemmas
 mod SearchLemmas

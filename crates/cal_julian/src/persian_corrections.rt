@@ -1,12 +1,15 @@
 //! The years in which the rule of 33 years is corrected.
 
-ghost use Rattle.std.specs.Prelude.{◌≡◌, ◌↔◌, ◌<◌, IsTrue, [], pos, neg_ℤ, ◌+ℤ◌, ◌<ℤ◌};
+ghost use Rattle.std.specs.Prelude.{◌≡◌, ◌↔◌, ◌<◌, IsTrue, IsOk, MatchOption, MatchResult, [], pos, neg_ℤ, ◌+ℤ◌, ◌<ℤ◌};
 ghost use Rattle.cal_days.specs.Day.{IsBetween, IsRuleYear, IsValidDay};
 ghost use Rattle.cal_days.specs.Persian.{persian_start, persian_year_length};
+ghost use Rattle.cal_julian.specs.PersianAccepted.{AreCorrections, IsFirstBroken, IsFirstFault, MeetsAll, is_above, meets};
 ghost use Rattle.cal_julian.specs.PersianRule.{AreCorrectable, IsRising, is_corrected, is_persian_leap, persian_new_year};
+ghost use Rattle.cal_types.specs.declared.errors.TablePart.TheVariants as parts;
 
 use crate::persian_rule::year_and_day_from_fixed;
 use cal_days::{RataDie, persian};
+use cal_types::{TableFault, TablePart};
 
 /// Years of the Persian calendar in which the rule of 33 years is corrected: such a year is a common year, and the
 /// next one is a leap year in its place, which starts one day earlier.
@@ -25,6 +28,22 @@ impl<'t> PersianCorrections<'t> {
         ensures { result.years.now ≡ [] }
     {
         PersianCorrections { years: &[] }
+    }
+
+    /// The corrections of these years.
+    ///
+    /// A [`TableFault`] names the first row, counted from 1, whose year isn't as it is to be, and the first part that
+    /// breaks there: [`TablePart::Year`] where the year isn't from 1 to 9999, or isn't above the year before it;
+    /// [`TablePart::Rule`] where it isn't a leap year by the rule of 33 years.
+    pub fn try_new(years: &'t [i32]) -> Result<PersianCorrections<'t>, TableFault>
+        ensures first { MatchResult result (λ made. made.years.now ≡ years.now) (IsFirstFault years.now) }
+        ensures exact { IsOk result ↔ AreCorrections years.now }
+        ensures kept { IsOk result ↔ (IsRising years.now × AreCorrectable years.now) }
+    {
+        match check(years) {
+            Ok(()) => Ok(PersianCorrections { years }),
+            Err(fault) => Err(fault),
+        }
     }
 
     /// The corrected years.
@@ -101,4 +120,53 @@ impl<'t> PersianCorrections<'t> {
             (year, day)
         }
     }
+}
+
+/// The first part that a year breaks, after the year before it, if there is one.
+fn first_broken(before: Option<i32>, year: i32) -> Option<TablePart>
+    ensures { MatchOption result (MeetsAll before year) (IsFirstBroken before year) }
+{
+    if !is_next(before, year) {
+        return Some(TablePart::Year);
+    }
+    if !persian::is_leap_year(year) {
+        return Some(TablePart::Rule);
+    }
+    None
+}
+
+/// Whether a year is from 1 to 9999, and above the year before it, if there is one.
+fn is_next(before: Option<i32>, year: i32) -> bool
+    ensures exact { result ≡ meets before year parts.Year }
+    ensures range { IsTrue result → IsBetween (pos 1) (pos 9999) year }
+{
+    1 <= year && year <= 9999 && is_above(before, year)
+}
+
+/// Whether a year is above the year before it, if there is one.
+fn is_above(before: Option<i32>, year: i32) -> bool
+    ensures { result ≡ is_above before year }
+{
+    match before {
+        None => true,
+        Some(before) => before < year,
+    }
+}
+
+/// Whether years are accepted; if not, the first year and its first part that break.
+fn check(years: &[i32]) -> Result<(), TableFault>
+    ensures first { MatchResult result (λ _. AreCorrections years.now) (IsFirstFault years.now) }
+    ensures exact { IsOk result ↔ AreCorrections years.now }
+{
+    let mut before = None;
+    for (index, year) in years.iter().enumerate() {
+        if let Some(part) = first_broken(before, *year) {
+            return Err(TableFault {
+                row: index + 1,
+                part,
+            });
+        }
+        before = Some(*year);
+    }
+    Ok(())
 }
