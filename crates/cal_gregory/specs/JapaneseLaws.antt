@@ -1,16 +1,20 @@
 -- The ranges of what the eras of the Japanese calendar read as, and that a year in its era has its extended year.
 use Rattle.std.proofs.Common.{◌≡◌, ℕ, ℤ, pos, ◌-ℤ◌, ◌+ℤ◌, List, [], ◌∷◌, Option, None, Some, Bool, true, false, if◌then◌else◌, refl, subst, arith}
-use Rattle.std.specs.Prelude.{IfSome}
+use Rattle.std.specs.Prelude.{IfSome, ◌&&◌, nat_le, take}
 use Rattle.std.specs.Option.{option_or}
-use Rattle.cal_days.specs.Day.{IsConstructorYear, IsCoveredYear, IsFieldYear, IsRuleYear}
+use Rattle.cal_days.specs.Day.{IsBetween, is_between, IsConstructorYear, IsCoveredYear, IsFieldYear, IsRuleYear}
+use Rattle.cal_days.proofs.RangeLemmas.{is_between-true}
 use Rattle.cal_days.proofs.Signed.{signed}
 use Rattle.cal_model.specs.CalendarList.{Date}
 use Rattle.cal_model.specs.Eras.{common_era_reads}
 use Rattle.cal_model.specs.YearNames.{is_code}
+use Rattle.cal_model.proofs.DateTests.{and-left}
 use Rattle.cal_model.proofs.EraLemmas.{common_era_reads-in_range, common_era_reads-covered}
 use Rattle.cal_gregory.specs.CommonEraLaws.{common_era_year-named, either_extended}
 use Rattle.cal_gregory.specs.JapaneseEraList.{IsStartYear, ListedEra, last_era, has_started, year_of_era, japanese_reads, is_early_meiji, year_printed, japanese_era_year}
 use Rattle.cal_gregory.specs.JapaneseEras.{later_eras, listed_eras}
+use Rattle.cal_gregory.specs.LastEra.{is_last_code, is_last_index, is_last_start}
+use Rattle.cal_gregory.specs.declared.era_start_date.EraStartDate.{EraStartDate}
 use Rattle.cal_gregory.specs.declared.later_era.LaterEra.{LaterEra}
 use Rattle.cal_gregory.specs.declared.japanese_eras.JapaneseEras.{JapaneseEras}
 
@@ -19,9 +23,19 @@ abbrev AllNear : List ListedEra → Type 0
 AllNear [] = Unit {0}
 AllNear (e ∷ es) = IsStartYear e.0.year × AllNear es
 
+-- an era after Reiwa starts from 2026 to 2089
+last_start-years : (start : EraStartDate) → is_last_start start ≡ true → IsBetween (pos 2026) (pos 2089) start.year
+last_start-years start h =
+    let is_year = is_between (pos 2026) (pos 2089) start.year in
+    let is_month = nat_le 1 start.month && nat_le start.month 15 in
+    let is_day = nat_le 1 start.day && nat_le start.day 31 in
+    is_between-true (pos 2026) (pos 2089) start.year (and-left is_year is_month (and-left (is_year && is_month) is_day h))
+
 later_near : (later : Option LaterEra) → AllNear (later_eras later)
 later_near None = tt
-later_near (Some e) = ((omega (arith, signed, e.years), omega (arith, signed, e.years)), tt)
+later_near (Some e) =
+    let years = last_start-years e.start (and-left (is_last_start e.start) (is_last_code (take e.len e.code)) (and-left (is_last_start e.start && is_last_code (take e.len e.code)) (is_last_index e.index) e.accepted)) in
+    ((omega (arith, signed, years), omega (arith, signed, years)), tt)
 
 listed_near : (eras : JapaneseEras) → AllNear (listed_eras eras)
 listed_near eras = (

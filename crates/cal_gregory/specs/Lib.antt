@@ -7,6 +7,7 @@ pub mod RocEra
 pub mod RocEraLaws
 pub mod RocSystem
 pub mod JapaneseEraList
+pub mod LastEra
 pub mod JapaneseEras
 pub mod JapaneseErasLeft
 pub mod JapaneseLaws

@@ -25,9 +25,11 @@ pub(crate) type ListedEra = (EraStartDate, TinyAsciiStr<8>, u8);
 
 impl JapaneseEras {
     ghost use Rattle.std.specs.Prelude.{[]};
+    ghost use Rattle.std.specs.Option.{option_map};
     ghost use Rattle.cal_gregory.specs.JapaneseEraList.{eras_up_to_reiwa};
     ghost use Rattle.cal_gregory.specs.JapaneseEras.{listed_eras, no_later_era};
     ghost use Rattle.cal_gregory.specs.JapaneseErasLeft.{eras_left};
+    ghost use Rattle.cal_gregory.specs.LastEra.{eras_with_last};
 
     /// The eras up to Reiwa, and no later one.
     pub const fn up_to_reiwa() -> JapaneseEras
@@ -35,6 +37,27 @@ impl JapaneseEras {
         ensures eras { listed_eras result ≡ eras_up_to_reiwa [] }
     {
         JapaneseEras { later: None }
+    }
+
+    /// The eras up to Reiwa, and a last one with this start, code and index.
+    ///
+    /// A start before 2026 is that of no later era: the eras are then those up to Reiwa, whatever the code and the
+    /// index are. Otherwise `None` where the year is above 2089, the month isn't from 1 to 15, the day isn't from 1
+    /// to 31, the code is empty or has another byte than the letters `a` to `z`, or the index is neither 7 nor 8.
+    pub fn with_last_era(
+        start: EraStartDate,
+        code: TinyAsciiStr<8>,
+        index: u8,
+    ) -> Option<JapaneseEras>
+        ensures { option_map listed_eras result ≡ eras_with_last start code index }
+    {
+        if start.year < 2026 {
+            return Some(JapaneseEras::up_to_reiwa());
+        }
+        match LaterEra::try_new(start, code, index) {
+            Some(era) => Some(JapaneseEras { later: Some(era) }),
+            None => None,
+        }
     }
 
     /// The listed eras in order, from both ends: the start, the code and the index of each.
