@@ -3,7 +3,7 @@
 //! Heshvan, the second month, has 30 days in years of 355 or 385 days, and Kislev, the third, 29 in years of 353 or
 //! 383. A leap year has a leap month in the sixth place. Otherwise months of 30 and 29 days alternate.
 
-ghost use Rattle.std.specs.Prelude.{◌≡◌, ◌&&◌, ◌+◌, ◌*◌, ◌<◌, ◌≤◌, pos, neg_ℤ};
+ghost use Rattle.std.specs.Prelude.{◌≡◌, ◌&&◌, ◌||◌, ◌+◌, ◌-◌, ◌*◌, ◌/◌, ◌<◌, ◌≤◌, nat_le, if◌then◌else◌, pos, neg_ℤ};
 ghost use Rattle.cal_days.specs.Day.{IsBetween, IsRuleYear};
 ghost use Rattle.cal_days.specs.Hebrew.{months_before};
 ghost use Rattle.cal_types.specs.MonthParts.{month_parts};
@@ -58,62 +58,82 @@ pub(crate) fn days_in_month(length: u16, place: u8) -> u8
 }
 
 /// How many days of the year go before the month in a place, where the second month has 29 days and the third 30.
-fn days_before_regular_month(length: u16, place: u8) -> u16
+fn days_before_regular_month(length: u16, place: u8) -> u32
     requires { (1 ≤ place) × (place ≤ 13) }
     ensures value { result ≡ regular_days_before (is_leap_length length) place }
     ensures bound { (29 * place ≤ result + 29) × (result ≤ 400) }
 {
     let odd_days = if is_leap(length) && place > 6 { 2 } else { 1 };
-    (59 * (u16::from(place) - 1) + odd_days) / 2
+    (59 * (u32::from(place) - 1) + odd_days) / 2
 }
 
-/// Whether a year has a second month of 30 days, and the second month has passed.
-fn has_long_month_passed(length: u16, has_second_passed: bool) -> bool
-    ensures { result ≡ (is_complete length && has_second_passed) }
+/// How many days a year has over the shortest one, which has 353 days, or as a leap year 383.
+fn days_over_shortest(length: u16) -> u32
+    requires { IsYearLength length }
+    ensures value { result + (if is_leap_length length then 383 else 353) ≡ length }
+    ensures bound { result ≤ 2 }
 {
-    is_second_long(length) && has_second_passed
+    if is_leap(length) {
+        u32::from(length) - 383
+    } else {
+        u32::from(length) - 353
+    }
 }
 
-/// Whether a year has a third month of 29 days, and the third month has passed.
-fn has_short_month_passed(length: u16, has_third_passed: bool) -> bool
-    ensures { result ≡ (is_deficient length && has_third_passed) }
+/// By how many days a year is ahead of one whose second month has 29 days and third 30, and one more, so that it
+/// isn't negative: after the third month, after the second, or before.
+fn days_over_regular(length: u16, has_second_passed: bool, has_third_passed: bool) -> u32
+    requires { IsYearLength length }
+    ensures value { result ≡ (if has_third_passed && is_deficient length then 0 else (
+        if (has_second_passed || has_third_passed) && is_complete length then 2 else 1)) }
+    ensures bound { result ≤ 2 }
 {
-    is_third_short(length) && has_third_passed
+    let over = days_over_shortest(length);
+    if has_third_passed {
+        over
+    } else if has_second_passed {
+        over / 2 + 1
+    } else {
+        1
+    }
 }
 
 /// How many days of the year go before the month in a place.
-pub(crate) fn days_before_month(length: u16, place: u8) -> u16
-    requires { (1 ≤ place) × (place ≤ 13) }
+pub(crate) fn days_before_month(length: u16, place: u8) -> u32
+    requires length { IsYearLength length }
+    requires place { (1 ≤ place) × (place ≤ 13) }
     ensures value { result ≡ days_before_place length place }
     ensures bound { result ≤ 401 }
 {
-    days_before_regular_month(length, place) + u16::from(has_long_month_passed(length, place > 2))
-        - u16::from(has_short_month_passed(length, place > 3))
+    days_before_regular_month(length, place) + days_over_regular(length, place > 2, place > 3) - 1
 }
 
 /// The day of the year, from 0, that a day would be if the second month had 29 days and the third 30.
-fn day_of_regular_year(length: u16, day: u16) -> u16
-    requires { day < 385 }
+fn day_of_regular_year(length: u16, day: u16) -> u32
+    requires length { IsYearLength length }
+    requires day { day < 385 }
     ensures value { result ≡ regular_day length day }
     ensures bound { result ≤ 385 }
 {
-    day + u16::from(has_short_month_passed(length, day >= 88))
-        - u16::from(has_long_month_passed(length, day >= 59))
+    u32::from(day) + 1 - days_over_regular(length, day >= 59, day >= 88)
 }
 
-/// The place of the month that contains a day of the year, which is counted from 0: two months have 59 days.
-fn place_of_month_with(length: u16, day: u16) -> u8
-    requires { day < 385 }
-    ensures value { result ≡ place_of_day length day }
-    ensures bound { (1 ≤ result) × (result ≤ 14) }
+/// Twice the day of the year, from 0, that a day would be if the second month had 29 days and the third 30, less one
+/// from the leap month on. Two months have 59 days, so a month takes 59 of it.
+fn twice_regular_day(length: u16, day: u16) -> u32
+    requires length { IsYearLength length }
+    requires day { day < 385 }
+    ensures place { result / 59 + 1 ≡ place_of_day length day }
+    ensures value { result ≡ (if is_leap_length length && nat_le 148 (regular_day length day)
+        then 2 * regular_day length day - 1 else 2 * regular_day length day) }
+    ensures bound { result ≤ 770 }
 {
     let regular = day_of_regular_year(length, day);
-    let twice = if is_leap(length) && regular >= 148 {
+    if is_leap(length) && regular >= 148 {
         2 * regular - 1
     } else {
         2 * regular
-    };
-    (twice / 59) as u8 + 1
+    }
 }
 
 /// The place of the month, and the day of the month, of a day of a year, which is counted from 0.
@@ -124,8 +144,12 @@ pub(crate) fn month_and_day(length: u16, day: u16) -> (u8, u8)
     ensures before { days_before_place length result.0 + result.1 ≡ day + 1 }
     ensures day { (1 ≤ result.1) × (result.1 ≤ place_length length result.0) }
 {
-    let place = place_of_month_with(length, day);
-    (place, (day - days_before_month(length, place)) as u8 + 1)
+    // Where the second month has 29 days there is no such day.
+    if day == 59 && is_second_long(length) {
+        return (2, 30);
+    }
+    let twice = twice_regular_day(length, day);
+    ((twice / 59) as u8 + 1, (twice % 59 / 2) as u8 + 1)
 }
 
 /// Whether a month is one of the plain months 1 to 12, or the leap month 5.

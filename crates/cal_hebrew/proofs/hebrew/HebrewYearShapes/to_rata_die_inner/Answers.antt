@@ -5,11 +5,14 @@ use Rattle.cal_days.proofs.Signed.{signed}
 use Rattle.cal_days.proofs.HebrewLemmas.{hebrew_start-bounds}
 use Rattle.cal_hebrew.specs.HebrewMonths.{days_before-hebrew, place-small, start_of_year-hebrew}
 use Rattle.cal_hebrew.specs.HebrewPlaces.{days_before_place}
-use Rattle.cal_hebrew.proofs.HebrewGiven.{given-length}
+use Rattle.cal_hebrew.proofs.HebrewGiven.{given-length, one_of_six}
 use Rattle.cal_hebrew.proofs.hebrew.HebrewYearShapes.to_rata_die_inner.Goals as goal
 
-pub days_before_month-before-requires : goal.days_before_month-before-requires
-days_before_month-before-requires c = place-small c.args.year.extended_year c.args.month c.requires.date.place
+pub days_before_month-before-requires-clause-length : goal.days_before_month-before-requires-clause-length
+days_before_month-before-requires-clause-length c = one_of_six c.args.year.extended_year c.args.year.length (given-length c.args.year c.requires.year)
+
+pub days_before_month-before-requires-clause-place : goal.days_before_month-before-requires-clause-place
+days_before_month-before-requires-clause-place c = place-small c.args.year.extended_year c.args.month c.requires.date.place
 
 -- what the calls say of the year's first day
 first_day : (year first number : ℤ) → IsRuleYear year → number ≡ first → first ≡ hebrew_start (to_z w32 (of_z w32 year)) → number ≡ hebrew_start year
