@@ -1,1 +1,2 @@
 mod AnyAnswers
+pub mod KindLemmas

@@ -2,5 +2,11 @@
 #![tactic(auto)]
 
 mod any_calendar;
+mod any_calendar_kind;
+mod any_calendar_new;
+mod kind_held;
+mod tables;
 
 pub use any_calendar::{AnyCalendar, AnyDateInner};
+pub use any_calendar_kind::AnyCalendarKind;
+pub use tables::Tables;

@@ -69,3 +69,4 @@ pub use Rattle.cal_east_asian.specs.TableYears
 pub use Rattle.cal_any.specs.AnySystem
 pub use Rattle.cal_any.specs.AnyOrder
 pub use Rattle.cal_any.specs.AnyLaws
+pub use Rattle.cal_any.specs.Kinds

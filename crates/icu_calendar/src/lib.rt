@@ -11,7 +11,7 @@ mod spans;
 #[cfg(test)]
 mod tests;
 
-pub use cal_any::{AnyCalendar, AnyDateInner};
+pub use cal_any::{AnyCalendar, AnyCalendarKind, AnyDateInner, Tables};
 pub use cal_arith::Steps;
 pub use cal_base::{AsCalendar, Calendar, Iso, IsoDateInner, Ref};
 pub use cal_coptic::{Coptic, CopticDateInner, Ethiopian, EthiopianDateInner, EthiopianEraStyle};

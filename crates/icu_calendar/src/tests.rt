@@ -6,6 +6,7 @@ mod comparing;
 mod conversions;
 mod differences;
 mod getters;
+mod kinds;
 mod spans;
 mod sums;
 

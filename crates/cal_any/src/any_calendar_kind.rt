@@ -1,0 +1,101 @@
+//! The kinds of calendars.
+
+ghost use Rattle.std.specs.Prelude.{◌≡◌};
+ghost use Rattle.cal_model.specs.YearNames.{is_code};
+ghost use Rattle.cal_any.specs.Kinds.{kind_named};
+
+/// A kind of calendar.
+#[derive(Clone, Copy, PartialEq, Eq, PartialOrd, Ord, Hash, Debug)]
+pub enum AnyCalendarKind {
+    /// The Buddhist calendar.
+    Buddhist,
+    /// The Chinese calendar.
+    Chinese,
+    /// The Coptic calendar.
+    Coptic,
+    /// The Korean calendar.
+    Dangi,
+    /// The Ethiopian calendar, in the style Amete Mihret.
+    Ethiopian,
+    /// The Ethiopian calendar, in the style Amete Alem.
+    EthiopianAmeteAlem,
+    /// The Gregorian calendar.
+    Gregorian,
+    /// The Hebrew calendar.
+    Hebrew,
+    /// The Indian calendar.
+    Indian,
+    /// The tabular Hijri calendar with the leap years of type II, from Friday on.
+    HijriTabularTypeIIFriday,
+    /// The Hijri calendar as it is simulated for Mecca.
+    HijriSimulatedMecca,
+    /// The tabular Hijri calendar with the leap years of type II, from Thursday on.
+    HijriTabularTypeIIThursday,
+    /// The Hijri calendar of Umm al-Qura.
+    HijriUmmAlQura,
+    /// The ISO calendar.
+    Iso,
+    /// The Japanese calendar.
+    Japanese,
+    /// The Japanese calendar, by the name that CLDR once gave its older eras.
+    JapaneseExtended,
+    /// The Julian calendar.
+    Julian,
+    /// The Persian calendar.
+    Persian,
+    /// The ROC calendar.
+    Roc,
+}
+
+/// Whether a text is a name: of its length, and with its bytes.
+fn is_name(bytes: &[u8], name: &[u8]) -> bool
+    ensures { result ≡ is_code bytes.now name.now }
+{
+    bytes == name
+}
+
+/// The kind of the first of the names that a text is, if it is one of them.
+macro_rules! first_named {
+    ($bytes:ident) => {
+        None
+    };
+    ($bytes:ident, $name:literal => $kind:ident $($others:tt)*) => {
+        if is_name($bytes, $name) {
+            Some(AnyCalendarKind::$kind)
+        } else {
+            first_named!($bytes $($others)*)
+        }
+    };
+}
+
+impl AnyCalendarKind {
+    /// The kind of a program name, which is that of CLDR (UTS 35) where CLDR has one.
+    ///
+    /// The names are `iso`, `gregorian`, `julian`, `buddhist`, `chinese`, `coptic`, `dangi`, `ethiopic`, `ethioaa`,
+    /// `hebrew`, `indian`, `islamic-civil`, `islamic-simulated`, `islamic-tbla`, `islamic-umalqura`, `japanese`,
+    /// `persian` and `roc`. None for any other text: `JapaneseExtended` has no name.
+    pub fn from_program_name(bytes: &[u8]) -> Option<AnyCalendarKind>
+        ensures { result ≡ kind_named bytes.now }
+    {
+        first_named!(bytes,
+            b"iso" => Iso,
+            b"gregorian" => Gregorian,
+            b"julian" => Julian,
+            b"buddhist" => Buddhist,
+            b"chinese" => Chinese,
+            b"coptic" => Coptic,
+            b"dangi" => Dangi,
+            b"ethiopic" => Ethiopian,
+            b"ethioaa" => EthiopianAmeteAlem,
+            b"hebrew" => Hebrew,
+            b"indian" => Indian,
+            b"islamic-civil" => HijriTabularTypeIIFriday,
+            b"islamic-simulated" => HijriSimulatedMecca,
+            b"islamic-tbla" => HijriTabularTypeIIThursday,
+            b"islamic-umalqura" => HijriUmmAlQura,
+            b"japanese" => Japanese,
+            b"persian" => Persian,
+            b"roc" => Roc
+        )
+    }
+}

@@ -1,0 +1,71 @@
+//! The calendar of a kind, over tables.
+
+ghost use Rattle.std.specs.Prelude.{◌≡◌};
+ghost use Rattle.cal_coptic.specs.EthiopianSystem.{ethiopian_system};
+ghost use Rattle.cal_hijri.specs.TabularRules.{tabular_system};
+ghost use Rattle.cal_hijri.specs.declared.tabular_algorithm.TabularAlgorithmLeapYears.TheVariants.{TypeII};
+ghost use Rattle.cal_any.specs.AnySystem.{any_system};
+ghost use Rattle.cal_any.specs.Kinds.{kind_system, table_contents};
+
+use crate::any_calendar::AnyCalendar;
+use crate::any_calendar_kind::AnyCalendarKind;
+use crate::tables::Tables;
+use cal_base::Iso;
+use cal_coptic::{Coptic, Ethiopian, EthiopianEraStyle};
+use cal_east_asian::{ChineseTraditional, KoreanTraditional};
+use cal_gregory::{Buddhist, Gregorian, Japanese, Roc};
+use cal_hebrew::Hebrew;
+use cal_hijri::{Hijri, HijriTable, TabularAlgorithmEpoch, TabularAlgorithmLeapYears};
+use cal_julian::{Indian, Julian, Persian};
+
+/// The Ethiopian calendar in a style.
+fn ethiopian<'t>(style: EthiopianEraStyle) -> AnyCalendar<'t>
+    ensures { any_system result ≡ ethiopian_system style }
+{
+    AnyCalendar::Ethiopian(Ethiopian::new_with_era_style(style))
+}
+
+/// The tabular Hijri calendar with the leap years of type II, from a day on.
+fn tabular<'t>(epoch: TabularAlgorithmEpoch) -> AnyCalendar<'t>
+    ensures { any_system result ≡ tabular_system (record { leap_years = TypeII; epoch = epoch }) }
+{
+    AnyCalendar::HijriTabular(Hijri::new_tabular(TabularAlgorithmLeapYears::TypeII, epoch))
+}
+
+impl<'t> AnyCalendar<'t> {
+    /// The calendar of a kind, over tables.
+    ///
+    /// The rows of China serve `Chinese`, those of Korea `Dangi`, those of Umm al-Qura `HijriUmmAlQura` alone, the
+    /// corrected years `Persian`, and the eras `Japanese` and `JapaneseExtended`, of which both give the variant
+    /// `Japanese`.
+    pub fn new(kind: AnyCalendarKind, tables: Tables<'t>) -> AnyCalendar<'t>
+        ensures { any_system result ≡ kind_system (table_contents tables.entry) kind }
+    {
+        match kind {
+            AnyCalendarKind::Buddhist => AnyCalendar::Buddhist(Buddhist),
+            AnyCalendarKind::Chinese => AnyCalendar::Chinese(ChineseTraditional::new(tables.china)),
+            AnyCalendarKind::Coptic => AnyCalendar::Coptic(Coptic),
+            AnyCalendarKind::Dangi => AnyCalendar::Dangi(KoreanTraditional::new(tables.korea)),
+            AnyCalendarKind::Ethiopian => ethiopian(EthiopianEraStyle::AmeteMihret),
+            AnyCalendarKind::EthiopianAmeteAlem => ethiopian(EthiopianEraStyle::AmeteAlem),
+            AnyCalendarKind::Gregorian => AnyCalendar::Gregorian(Gregorian),
+            AnyCalendarKind::Hebrew => AnyCalendar::Hebrew(Hebrew),
+            AnyCalendarKind::Indian => AnyCalendar::Indian(Indian),
+            AnyCalendarKind::HijriTabularTypeIIFriday => tabular(TabularAlgorithmEpoch::Friday),
+            AnyCalendarKind::HijriSimulatedMecca => {
+                AnyCalendar::HijriSimulated(Hijri::new_simulated_mecca(HijriTable::none()))
+            }
+            AnyCalendarKind::HijriTabularTypeIIThursday => tabular(TabularAlgorithmEpoch::Thursday),
+            AnyCalendarKind::HijriUmmAlQura => {
+                AnyCalendar::HijriUmmAlQura(Hijri::new_umm_al_qura(tables.umm_al_qura))
+            }
+            AnyCalendarKind::Iso => AnyCalendar::Iso(Iso),
+            AnyCalendarKind::Japanese | AnyCalendarKind::JapaneseExtended => {
+                AnyCalendar::Japanese(Japanese::with_eras(tables.eras))
+            }
+            AnyCalendarKind::Julian => AnyCalendar::Julian(Julian),
+            AnyCalendarKind::Persian => AnyCalendar::Persian(Persian::new(tables.persian)),
+            AnyCalendarKind::Roc => AnyCalendar::Roc(Roc),
+        }
+    }
+}
