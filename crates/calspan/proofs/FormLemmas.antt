@@ -5,7 +5,8 @@ use Rattle.calspan.specs.Command.{is_text}
 use Rattle.calspan.specs.Reading.{Read, next_word, and_then}
 use Rattle.calspan.specs.Bags.{no_fields, bag_before_to, bag_of_all}
 use Rattle.calspan.specs.BagForms.{SaysBag}
-use Rattle.calspan.specs.Requests.{Request, Header, calendar_named, unit_named, overflow_named, missing_fields_named, fixed_word, header_read, request_read, request_of}
+use Rattle.cal_any.specs.Kinds.{kind_named}
+use Rattle.calspan.specs.Requests.{Request, Header, unit_named, overflow_named, missing_fields_named, fixed_word, header_read, request_read, request_of}
 use Rattle.calspan.specs.Forms.{RequestWords, all_words, Says, IsRequest, RequestsHaveOneForm}
 use Rattle.calspan.proofs.BagLemmas.{same_text, is_same_text, some_pair, bag_is, bag_reads, before_is, before_reads}
 
@@ -75,8 +76,8 @@ pub record IsHeaderRead (words : List (List ℕ)) (h : Header) (rest : List (Lis
   pub overflow : List ℕ
   pub missing_fields : List ℕ
   pub form : words ≡ codes "span" ∷ calendar ∷ shown ∷ unit ∷ overflow ∷ missing_fields ∷ codes "from" ∷ rest
-  pub says_calendar : calendar_named calendar ≡ Some h.calendar
-  pub says_shown : calendar_named shown ≡ Some h.shown
+  pub says_calendar : kind_named calendar ≡ Some h.calendar
+  pub says_shown : kind_named shown ≡ Some h.shown
   pub says_unit : unit_named unit ≡ Some h.unit
   pub says_overflow : overflow_named overflow ≡ Some h.overflow
   pub says_missing : missing_fields_named missing_fields ≡ Some h.missing_fields
@@ -86,8 +87,8 @@ pub header_is : (words : List (List ℕ)) (h : Header) (rest : List (List ℕ)) 
 unfolding header_read
 header_is words h rest e =
     let a = next_is (fixed_word (codes "span")) words _ (h, rest) e in
-    let b = next_is calendar_named a.rest _ (h, rest) a.then in
-    let c = next_is calendar_named b.rest _ (h, rest) b.then in
+    let b = next_is kind_named a.rest _ (h, rest) a.then in
+    let c = next_is kind_named b.rest _ (h, rest) b.then in
     let d = next_is unit_named c.rest _ (h, rest) c.then in
     let f = next_is overflow_named d.rest _ (h, rest) d.then in
     let g = next_is missing_fields_named f.rest _ (h, rest) f.then in
@@ -142,8 +143,8 @@ pub header_reads : (t : RequestWords) (r : Request) (rest : List (List ℕ)) →
     → header_read (codes "span" ∷ t.calendar ∷ t.shown ∷ t.unit ∷ t.overflow ∷ t.missing_fields ∷ codes "from" ∷ rest) ≡ Some (record { calendar = r.calendar; shown = r.shown; unit = r.unit; overflow = r.overflow; missing_fields = r.missing_fields }, rest)
 unfolding header_read
 header_reads t r rest s =
-    next_reads calendar_named t.calendar (t.shown ∷ t.unit ∷ t.overflow ∷ t.missing_fields ∷ codes "from" ∷ rest) _ r.calendar s.calendar
-    ∙ (next_reads calendar_named t.shown (t.unit ∷ t.overflow ∷ t.missing_fields ∷ codes "from" ∷ rest) _ r.shown s.shown
+    next_reads kind_named t.calendar (t.shown ∷ t.unit ∷ t.overflow ∷ t.missing_fields ∷ codes "from" ∷ rest) _ r.calendar s.calendar
+    ∙ (next_reads kind_named t.shown (t.unit ∷ t.overflow ∷ t.missing_fields ∷ codes "from" ∷ rest) _ r.shown s.shown
     ∙ (next_reads unit_named t.unit (t.overflow ∷ t.missing_fields ∷ codes "from" ∷ rest) _ r.unit s.unit
     ∙ (next_reads overflow_named t.overflow (t.missing_fields ∷ codes "from" ∷ rest) _ r.overflow s.overflow
     ∙ (next_reads missing_fields_named t.missing_fields (codes "from" ∷ rest) _ r.missing_fields s.missing_fields))))

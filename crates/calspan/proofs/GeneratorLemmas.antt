@@ -1,16 +1,16 @@
 -- Requests that a number asks for, and the totals over them.
-use Rattle.std.proofs.Common.{◌≡◌, ℕ, zero, suc, Bool, Option, Result, Ok, Err, List, refl, sym, ap, subst, ◌∙◌, ℤ, ◌+ℤ◌}
+use Rattle.std.proofs.Common.{◌≡◌, ℕ, zero, suc, Result, List, refl, sym, ap, subst, ◌∙◌, ℤ}
 use Rattle.cal_model.specs.CalendarSystem.{CalendarSystem}
 use Rattle.cal_model.specs.Difference.{largest_unit_of}
 use Rattle.icu_calendar.specs.Spans.{SpanDates, IsSpan}
 use Rattle.icu_calendar.specs.declared.span_parts.SpanError.{SpanError}
 use Rattle.icu_calendar.proofs.SpanLemmas.{span-exists, span-unique}
-use Rattle.calspan.specs.Calendars.{named_system}
+use Rattle.cal_any.specs.Kinds.{kind_system, no_contents}
 use Rattle.calspan.specs.Generator.{generated_request, with_answer, no_totals, totals_text, IsCounted, AreTotals, IsGenerated}
 use Rattle.calspan.specs.Replies.{options_of}
 use Rattle.calspan.specs.Requests.{Request}
 use Rattle.calspan.specs.declared.totals.Totals.{Totals}
-use Rattle.calspan.proofs.CalendarLemmas.{named_lawful}
+use Rattle.cal_any.proofs.KindLemmas.{kind_lawful}
 
 abbrev totals : ℕ → ℕ → ℤ → ℕ → ℕ → ℕ → ℕ → Totals
 totals answered refused day_numbers years months weeks days = record { answered = answered; refused = refused; day_numbers = day_numbers; years = years; months = months; weeks = weeks; days = days }
@@ -27,22 +27,22 @@ module _ (r : Request) (before after : Totals) where
   named : (a b c shown : CalendarSystem) (answer : Result SpanDates SpanError) → a ≡ c → b ≡ shown → Counts a b answer → Counts c shown answer
   named a b c shown answer e f h = subst (λ (s : CalendarSystem). Counts s shown answer) e (subst (λ (s : CalendarSystem). Counts a s answer) f h)
 
-  pub is_counted : (a b : CalendarSystem) (answer : Result SpanDates SpanError) → a ≡ named_system r.calendar → b ≡ named_system r.shown → IsSpan a b.list r.from r.to (options_of r) (largest_unit_of r.unit) answer → after ≡ with_answer before a answer → IsCounted r before after
+  pub is_counted : (a b : CalendarSystem) (answer : Result SpanDates SpanError) → a ≡ kind_system no_contents r.calendar → b ≡ kind_system no_contents r.shown → IsSpan a b.list r.from r.to (options_of r) (largest_unit_of r.unit) answer → after ≡ with_answer before a answer → IsCounted r before after
   is_counted a b answer e f span counts =
-      let same = named a b (named_system r.calendar) (named_system r.shown) answer e f (span, counts) in
+      let same = named a b (kind_system no_contents r.calendar) (kind_system no_contents r.shown) answer e f (span, counts) in
       record { answer = answer; span = same.0; counts = same.1 }
 
 -- one more request has one answer
 counted_exists : (r : Request) (before : Totals) → (after : Totals) × IsCounted r before after
 counted_exists r before =
-    let c = named_system r.calendar in
-    let found = span-exists c (named_system r.shown).list (named_lawful r.calendar) (named_lawful r.shown) r.from r.to (options_of r) (largest_unit_of r.unit) in
+    let c = kind_system no_contents r.calendar in
+    let found = span-exists c (kind_system no_contents r.shown).list (kind_lawful no_contents r.calendar) (kind_lawful no_contents r.shown) r.from r.to (options_of r) (largest_unit_of r.unit) in
     (with_answer before c found.0, record { answer = found.0; span = found.1; counts = refl })
 
 counted_unique : (r : Request) (before a b : Totals) → IsCounted r before a → IsCounted r before b → a ≡ b
 counted_unique r before a b x y =
-    let c = named_system r.calendar in
-    let same = span-unique c (named_system r.shown).list r.from r.to (options_of r) (largest_unit_of r.unit) x.answer y.answer x.span y.span in
+    let c = kind_system no_contents r.calendar in
+    let same = span-unique c (kind_system no_contents r.shown).list r.from r.to (options_of r) (largest_unit_of r.unit) x.answer y.answer x.span y.span in
     x.counts ∙ (ap (with_answer before c) same ∙ sym y.counts)
 
 -- so have the first requests

@@ -8,5 +8,15 @@ mod LineLemmas
 mod KnownLemmas
 pub mod FormLemmas
 mod RunLemmas
-mod CalendarLemmas
+mod EndLemmas
+mod HeadlineLemmas
+mod RowTakingLemmas
+mod GatherLemmas
+mod ServeLemmas
+mod FaultLemmas
+mod TableOrderLemmas
+pub mod TableLemmas
 mod GeneratorLemmas
+pub mod RowYearLemmas
+mod RowLemmas
+mod RowFormLemmas

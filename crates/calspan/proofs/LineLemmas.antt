@@ -6,15 +6,16 @@ use Rattle.std.proofs.lemmas.Bool.{ne_eqb}
 use borrow.Author.Tests.{ltb-true, ltb-false}
 use Rattle.calspan.specs.Words.{words_of}
 use Rattle.calspan.specs.Requests.{Request, request_read}
-use Rattle.calspan.specs.Lines.{Line, Nothing, Long, Unbuilt, is_silent, is_row, SaysRequest, SaysNone, SaysAs, IsLine, asked, said_by, line_of}
+use Rattle.calspan.specs.Rows.{row_read}
+use Rattle.calspan.specs.Lines.{Line, Nothing, GivesRow, Requests, Long, is_silent, is_row, SaysRequest, SaysNone, SaysAs, IsLine, asked, said_by, line_of}
 use Rattle.calspan.proofs.FormLemmas.{one_form}
 
 pub silent_is : (line : List ℕ) → is_silent line ≡ true → line_of line ≡ Nothing
-silent_is line e = ap (λ t. cond t Nothing (cond (nat_lt 512 (length line)) Long (said_by (strip_carriage_return line)))) e
+silent_is line e = ap (λ t. cond t Nothing (cond (nat_lt 512 (length line)) (Requests Long) (said_by (strip_carriage_return line)))) e
 
 pub loud_is : (line : List ℕ) → is_silent line ≡ false
-    → line_of line ≡ cond (nat_lt 512 (length line)) Long (said_by (strip_carriage_return line))
-loud_is line e = ap (λ t. cond t Nothing (cond (nat_lt 512 (length line)) Long (said_by (strip_carriage_return line)))) e
+    → line_of line ≡ cond (nat_lt 512 (length line)) (Requests Long) (said_by (strip_carriage_return line))
+loud_is line e = ap (λ t. cond t Nothing (cond (nat_lt 512 (length line)) (Requests Long) (said_by (strip_carriage_return line)))) e
 
 -- a line of two bytes is more than a carriage return
 strip_some : (line : List ℕ) → 2 ≤ length line → (length (strip_carriage_return line) == 0) ≡ false
@@ -64,7 +65,7 @@ pub line_says : (line : List ℕ) → IsLine line (line_of line)
 line_says line = by (is_silent line) (nat_lt 512 (length line)) (is_row (strip_carriage_return line)) (strip_carriage_return line)
   where
     by : (silent long row : Bool) (text : List ℕ)
-        → SaysAs silent long row text (cond silent Nothing (cond long Long (cond row Unbuilt (asked (request_read (words_of text))))))
+        → SaysAs silent long row text (cond silent Nothing (cond long (Requests Long) (cond row (GivesRow (row_read (words_of text))) (asked (request_read (words_of text))))))
     by true long row text = refl
     by false true row text = refl
     by false false true text = refl
@@ -74,7 +75,7 @@ pub line_is : (line : List ℕ) (said : Line) → IsLine line said → said ≡ 
 line_is line said h = by (is_silent line) (nat_lt 512 (length line)) (is_row (strip_carriage_return line)) (strip_carriage_return line) h
   where
     by : (silent long row : Bool) (text : List ℕ) → SaysAs silent long row text said
-        → said ≡ cond silent Nothing (cond long Long (cond row Unbuilt (asked (request_read (words_of text)))))
+        → said ≡ cond silent Nothing (cond long (Requests Long) (cond row (GivesRow (row_read (words_of text))) (asked (request_read (words_of text)))))
     by true long row text h = h
     by false true row text h = h
     by false false true text h = h

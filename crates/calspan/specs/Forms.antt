@@ -1,7 +1,8 @@
 -- The form of a request line, as one statement of all its words.
 use Rattle.std.specs.Prelude.{◌≡◌, ℕ, List, ◌∷◌, ◌++◌, Some, codes}
+use Rattle.cal_any.specs.Kinds.{kind_named}
 use Rattle.calspan.specs.BagForms.{SaysBag}
-use Rattle.calspan.specs.Requests.{Request, calendar_named, unit_named, overflow_named, missing_fields_named, request_read}
+use Rattle.calspan.specs.Requests.{Request, unit_named, overflow_named, missing_fields_named, request_read}
 
 -- the words that differ from request to request
 pub record RequestWords : Type 0 where
@@ -19,8 +20,8 @@ all_words w = codes "span" ∷ w.calendar ∷ w.shown ∷ w.unit ∷ w.overflow 
 
 -- what a request's words say
 pub record Says (w : RequestWords) (r : Request) : Type 0 where
-  pub calendar : calendar_named w.calendar ≡ Some r.calendar
-  pub shown : calendar_named w.shown ≡ Some r.shown
+  pub calendar : kind_named w.calendar ≡ Some r.calendar
+  pub shown : kind_named w.shown ≡ Some r.shown
   pub unit : unit_named w.unit ≡ Some r.unit
   pub overflow : overflow_named w.overflow ≡ Some r.overflow
   pub missing_fields : missing_fields_named w.missing_fields ≡ Some r.missing_fields

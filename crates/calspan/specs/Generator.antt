@@ -11,21 +11,21 @@ use Rattle.cal_model.specs.CalendarSystem.{CalendarSystem}
 use Rattle.cal_model.specs.Difference.{largest_unit_of}
 use Rattle.icu_calendar.specs.Spans.{SpanDates, IsSpan}
 use Rattle.icu_calendar.specs.declared.span_parts.SpanError.{SpanError}
-use Rattle.calspan.specs.Calendars.{named_system}
+use Rattle.cal_any.specs.Kinds.{kind_system, no_contents}
 use Rattle.calspan.specs.Replies.{options_of}
 use Rattle.calspan.specs.Requests.{Request}
-use Rattle.calspan.specs.declared.named_calendar.NamedCalendar.{NamedCalendar}
-use Rattle.calspan.specs.declared.named_calendar.NamedCalendar.TheVariants as calendar
+use Rattle.cal_any.specs.declared.any_calendar_kind.AnyCalendarKind.{AnyCalendarKind}
+use Rattle.cal_any.specs.declared.any_calendar_kind.AnyCalendarKind.TheVariants as calendar
 use Rattle.calspan.specs.declared.totals.Totals.{Totals}
 
--- the calendars in the order of their program names, but for the Hijri ones, which stand by those of CLDR
-abbrev pub calendars : List NamedCalendar
+-- the calendars in the order of their program names, but for `ethiopic`, which stands before `ethioaa`
+abbrev pub calendars : List AnyCalendarKind
 calendars =
     calendar.Buddhist ∷ calendar.Chinese ∷ calendar.Coptic ∷ calendar.Dangi ∷ calendar.Ethiopian ∷ calendar.EthiopianAmeteAlem
-    ∷ calendar.Gregorian ∷ calendar.Hebrew ∷ calendar.Indian ∷ calendar.HijriTabularFriday ∷ calendar.HijriSimulated ∷ calendar.HijriTabularThursday
+    ∷ calendar.Gregorian ∷ calendar.Hebrew ∷ calendar.Indian ∷ calendar.HijriTabularTypeIIFriday ∷ calendar.HijriSimulatedMecca ∷ calendar.HijriTabularTypeIIThursday
     ∷ calendar.HijriUmmAlQura ∷ calendar.Iso ∷ calendar.Japanese ∷ calendar.Julian ∷ calendar.Persian ∷ calendar.Roc ∷ []
 
-abbrev pub calendar_of : ℕ → NamedCalendar
+abbrev pub calendar_of : ℕ → AnyCalendarKind
 calendar_of n = slice_index_or calendars n calendar.Roc
 
 -- the largest units in turn, and none
@@ -84,11 +84,11 @@ with_answer t c (Err e) = record {
   days = t.days;
 }
 
--- the totals with one more request
+-- the totals with one more request, in calendars without rows of tables
 pub record IsCounted (r : Request) (before after : Totals) : Type 0 where
   pub answer : Result SpanDates SpanError
-  pub span : IsSpan (named_system r.calendar) (named_system r.shown).list r.from r.to (options_of r) (largest_unit_of r.unit) answer
-  pub counts : after ≡ with_answer before (named_system r.calendar) answer
+  pub span : IsSpan (kind_system no_contents r.calendar) (kind_system no_contents r.shown).list r.from r.to (options_of r) (largest_unit_of r.unit) answer
+  pub counts : after ≡ with_answer before (kind_system no_contents r.calendar) answer
 
 -- the totals over the first n requests
 abbrev pub AreTotals : ℕ → Totals → Type 0

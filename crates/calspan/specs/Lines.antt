@@ -6,14 +6,19 @@ use Rattle.calspan.specs.Command.{is_text}
 use Rattle.calspan.specs.Words.{words_of}
 use Rattle.calspan.specs.Requests.{Request, request_read}
 use Rattle.calspan.specs.Forms.{IsRequest}
+use Rattle.calspan.specs.Rows.{Row, row_read}
 
--- a line that gives nothing, a request line that is too long, a request, a row line, which can't be answered yet, and a line that is no request
+-- a request line: one that is too long, a request, or no request
+pub data RequestLine : Type 0 where
+  Long : RequestLine
+  Asks : Request → RequestLine
+  Malformed : RequestLine
+
+-- a line that gives nothing, a row line with its row, if it says one, or a request line
 pub data Line : Type 0 where
   Nothing : Line
-  Long : Line
-  Asks : Request → Line
-  Unbuilt : Line
-  Malformed : Line
+  GivesRow : Option Row → Line
+  Requests : RequestLine → Line
 
 -- whether a line is a row line: `row`, alone or before a space
 abbrev pub is_row : List ℕ → Bool
@@ -27,18 +32,18 @@ is_silent line = length (strip_carriage_return line) == 0 || slice_index line 0 
 pub record SaysRequest (text : List ℕ) (said : Line) : Type 0 where
   pub request : Request
   pub form : IsRequest (words_of text) request
-  pub asks_it : said ≡ Asks request
+  pub asks_it : said ≡ Requests (Asks request)
 
 -- the words are no request
 pub record SaysNone (text : List ℕ) (said : Line) : Type 0 where
   pub none : (r : Request) → IsRequest (words_of text) r → ⊥
-  pub malformed : said ≡ Malformed
+  pub malformed : said ≡ Requests Malformed
 
 -- what a line says that is silent or not, too long or not, and a row line or not
 abbrev pub SaysAs : Bool → Bool → Bool → List ℕ → Line → Type 0
 SaysAs true long row text said = said ≡ Nothing
-SaysAs false true row text said = said ≡ Long
-SaysAs false false true text said = said ≡ Unbuilt
+SaysAs false true row text said = said ≡ Requests Long
+SaysAs false false true text said = said ≡ GivesRow (row_read (words_of text))
 SaysAs false false false text said = SaysRequest text said ⊎ SaysNone text said
 
 -- what a line says, by its bytes without the LF
@@ -47,11 +52,11 @@ IsLine line said = let text = strip_carriage_return line in SaysAs (is_silent li
 
 -- the same, as it is read word after word
 abbrev pub asked : Option Request → Line
-asked None = Malformed
-asked (Some r) = Asks r
+asked None = Requests Malformed
+asked (Some r) = Requests (Asks r)
 
 abbrev pub said_by : List ℕ → Line
-said_by text = if is_row text then Unbuilt else asked (request_read (words_of text))
+said_by text = if is_row text then GivesRow (row_read (words_of text)) else asked (request_read (words_of text))
 
 abbrev pub line_of : List ℕ → Line
-line_of line = if is_silent line then Nothing else (if nat_lt 512 (length line) then Long else said_by (strip_carriage_return line))
+line_of line = if is_silent line then Nothing else (if nat_lt 512 (length line) then Requests Long else said_by (strip_carriage_return line))

@@ -10,39 +10,17 @@ use Rattle.cal_types.specs.declared.duration.DateDurationUnit.TheVariants.{Years
 use Rattle.calspan.specs.Command.{is_text}
 use Rattle.calspan.specs.Reading.{Read, next_word, and_then}
 use Rattle.calspan.specs.Bags.{no_fields, bag_before_to, bag_of_all}
-use Rattle.calspan.specs.declared.named_calendar.NamedCalendar.{NamedCalendar}
-use Rattle.calspan.specs.declared.named_calendar.NamedCalendar.TheVariants as calendar
+use Rattle.cal_any.specs.Kinds.{kind_named}
+use Rattle.cal_any.specs.declared.any_calendar_kind.AnyCalendarKind.{AnyCalendarKind}
 
 pub record Request : Type 0 where
-  pub calendar : NamedCalendar
-  pub shown : NamedCalendar
+  pub calendar : AnyCalendarKind
+  pub shown : AnyCalendarKind
   pub unit : Option DateDurationUnit
   pub overflow : Option Overflow
   pub missing_fields : Option MissingFieldsStrategy
   pub from : Bag
   pub to : Bag
-
--- the calendar of a program name
-abbrev pub calendar_named : List ℕ → Option NamedCalendar
-calendar_named word =
-    if is_text word (codes "iso") then Some calendar.Iso
-    else (if is_text word (codes "gregorian") then Some calendar.Gregorian
-    else (if is_text word (codes "julian") then Some calendar.Julian
-    else (if is_text word (codes "buddhist") then Some calendar.Buddhist
-    else (if is_text word (codes "chinese") then Some calendar.Chinese
-    else (if is_text word (codes "coptic") then Some calendar.Coptic
-    else (if is_text word (codes "dangi") then Some calendar.Dangi
-    else (if is_text word (codes "ethiopic") then Some calendar.Ethiopian
-    else (if is_text word (codes "ethioaa") then Some calendar.EthiopianAmeteAlem
-    else (if is_text word (codes "hebrew") then Some calendar.Hebrew
-    else (if is_text word (codes "indian") then Some calendar.Indian
-    else (if is_text word (codes "islamic-civil") then Some calendar.HijriTabularFriday
-    else (if is_text word (codes "islamic-simulated") then Some calendar.HijriSimulated
-    else (if is_text word (codes "islamic-tbla") then Some calendar.HijriTabularThursday
-    else (if is_text word (codes "islamic-umalqura") then Some calendar.HijriUmmAlQura
-    else (if is_text word (codes "japanese") then Some calendar.Japanese
-    else (if is_text word (codes "persian") then Some calendar.Persian
-    else (if is_text word (codes "roc") then Some calendar.Roc else None)))))))))))))))))
 
 -- the largest unit of a word; `none` where it is left out
 abbrev pub unit_named : List ℕ → Option (Option DateDurationUnit)
@@ -73,8 +51,8 @@ fixed_word name word = if is_text word name then Some tt else None
 
 -- what stands before the bags
 pub record Header : Type 0 where
-  pub calendar : NamedCalendar
-  pub shown : NamedCalendar
+  pub calendar : AnyCalendarKind
+  pub shown : AnyCalendarKind
   pub unit : Option DateDurationUnit
   pub overflow : Option Overflow
   pub missing_fields : Option MissingFieldsStrategy
@@ -83,8 +61,8 @@ pub record Header : Type 0 where
 unfoldable pub header_read : List (List ℕ) → Read Header
 header_read words =
     and_then (next_word (fixed_word (codes "span")) words) (λ _ words.
-    and_then (next_word calendar_named words) (λ calendar words.
-    and_then (next_word calendar_named words) (λ shown words.
+    and_then (next_word kind_named words) (λ calendar words.
+    and_then (next_word kind_named words) (λ shown words.
     and_then (next_word unit_named words) (λ unit words.
     and_then (next_word overflow_named words) (λ overflow words.
     and_then (next_word missing_fields_named words) (λ missing_fields words.

@@ -1,10 +1,13 @@
 -- How a run ends, and what it took and wrote.
-use Rattle.std.specs.Prelude.{◌≡◌, ◌≢◌, ℕ, ◌<◌, ◌≤◌, Bool, true, false, List, length, take, Option}
+use Rattle.std.specs.Prelude.{◌≡◌, ◌≢◌, ℕ, ◌<◌, ◌≤◌, Bool, true, false, List, [], ◌∷◌, ◌⊎◌, length, take, Option}
 use Rattle.std.specs.Io.KnownBytes.{Appends, Consumes, IsAtEnd}
 use Rattle.byte_io.specs.Bytes.{IsPrefix}
 use Rattle.byte_io.specs.Faults.{Rose}
 use Rattle.calspan.specs.Answers.{IsAnswers}
 use Rattle.calspan.specs.Generator.{IsGenerated}
+use Rattle.calspan.specs.Lines.{IsLine, Nothing, GivesRow}
+use Rattle.calspan.specs.Rows.{Row}
+use Rattle.line_reader.specs.Lines.{lines_in}
 use Rattle.calspan.specs.Written.{WrotePrefix}
 use Rattle.calspan.specs.declared.status.Status.{Status}
 use Rattle.calspan.specs.declared.status.Status.TheVariants.{Done, Refused, Words, ReadFault, WriteFault, NoMemory, TableRefused, TooLong}
@@ -71,6 +74,28 @@ pub record TookTooMuch (old new : Outside) : Type 0 where
   pub answers : IsAnswers (take limit bytes) false text status
   pub goes_on : status ≢ TableRefused
 
+-- a line that refuses a row or a table is the last of the answers
+pub record RefusedTable (old new : Outside) : Type 0 where
+  pub bytes : List ℕ
+  pub text : List ℕ
+  pub whole : Bool
+  pub exchanged : Exchanged old new bytes text
+  pub answers : IsAnswers (take limit bytes) whole text TableRefused
+  pub at_end : whole ≡ true → IsAtEnd new.left × (length bytes ≤ limit)
+
+-- the first line that gives anything is a row line
+abbrev pub RowComesFirst : List (List ℕ) → Type 0
+RowComesFirst [] = ⊥
+RowComesFirst (line ∷ more) = ((row : Option Row) × IsLine line (GivesRow row)) ⊎ (IsLine line Nothing × RowComesFirst more)
+
+-- there was no memory for a row, and nothing was written
+pub record WantedMemory (old new : Outside) : Type 0 where
+  pub bytes : List ℕ
+  pub whole : Bool
+  pub exchanged : Exchanged old new bytes []
+  pub row : RowComesFirst (lines_in (take limit bytes) whole)
+  pub at_end : whole ≡ true → IsAtEnd new.left × (length bytes ≤ limit)
+
 -- what is so where a run over the lines ends with a status
 abbrev pub Serves : Status → Outside → Outside → Type 0
 Serves Done old new = AnsweredAll old new Done
@@ -78,8 +103,8 @@ Serves Refused old new = AnsweredAll old new Refused
 Serves Words old new = ⊥
 Serves ReadFault old new = StoppedReading old new
 Serves WriteFault old new = StoppedWriting old new
-Serves NoMemory old new = ⊥
-Serves TableRefused old new = ⊥
+Serves NoMemory old new = WantedMemory old new
+Serves TableRefused old new = RefusedTable old new
 Serves TooLong old new = TookTooMuch old new
 
 -- the line of so many requests is written, or a prefix of it where the sink counted a fault

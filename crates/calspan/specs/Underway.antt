@@ -5,12 +5,12 @@ use Rattle.line_reader.specs.Buffer.{Holds}
 use Rattle.line_reader.specs.Reader.{IsAt, lines_given}
 use Rattle.line_reader.specs.declared.buffer.LineBuffer.{LineBuffer}
 use Rattle.line_reader.specs.declared.reader.Reader.{Reader}
-use Rattle.calspan.specs.declared.answer.Progress.{Progress}
+use Rattle.calspan.specs.Answers.{Stage}
 use Rattle.calspan.specs.Written.{Stands}
 use Rattle.calspan.specs.Run.{Outside}
 
 -- these bytes were taken, these lines are answered, and this rest of a line is held
-pub record IsUnderway (old new : Outside) (r : Reader) (line : LineBuffer) (pending : List ℕ) (s : Progress) : Type 0 where
+pub record IsUnderway (old new : Outside) (r : Reader) (line : LineBuffer) (pending : List ℕ) (s : Stage) : Type 0 where
   pub bytes : List ℕ
   pub lines : List (List ℕ)
   pub rest : List ℕ

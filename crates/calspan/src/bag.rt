@@ -4,12 +4,12 @@ ghost use Rattle.std.specs.Option.{option_map};
 ghost use Rattle.cal_types.specs.Bag.{bag_of};
 ghost use Rattle.cal_types.specs.Month.{month_read};
 ghost use Rattle.cal_types.specs.MonthParts.{month_parts};
-ghost use Rattle.calspan.specs.Words.{int_of, byte_of};
 ghost use Rattle.calspan.specs.Bags.{with_field, with_word, with_rarer_word, no_fields, bag_before_to, bag_of_all};
 ghost use Rattle.calspan.specs.Reading.{IsReading, next_word};
 ghost use Rattle.calspan.specs.WordsLeft.{words_left};
 
-use crate::words::{Words, byte, int};
+use crate::reading::{next_byte, next_int};
+use crate::words::Words;
 use cal_types::{DateFields, Month};
 
 // A field of a bag, and its value.
@@ -47,21 +47,6 @@ fn set_field<'a>(fields: &mut DateFields<'a>, field: Field<'a>) -> Option<()>
     }
     Some(())
 }
-
-// The number that the next word spells, with a sign or without one.
-fn next_int(words: &mut Words) -> Option<i32>
-    ensures { IsReading (next_word int_of (words_left words.old)) result (words_left words.new) }
-{
-    int(words.next()?)
-}
-
-// The number up to 255 that the next word spells.
-fn next_byte(words: &mut Words) -> Option<u8>
-    ensures { IsReading (next_word byte_of (words_left words.old)) result (words_left words.new) }
-{
-    byte(words.next()?)
-}
-
 // The month whose code the next word is.
 fn next_month(words: &mut Words) -> Option<Month>
     ensures { let reading = next_word month_read (words_left words.old) in

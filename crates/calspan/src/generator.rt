@@ -4,37 +4,37 @@ ghost use Rattle.cal_types.specs.Bag.{bag_of};
 ghost use Rattle.calspan.specs.Generator.{calendar_of, generated_bag, generated_request, near_year, unit_of};
 ghost use Rattle.calspan.specs.RequestSaid.{request_said};
 
-use crate::named_calendar::NamedCalendar;
 use crate::request::{Header, Request};
 use cal_types::{
     DateDifferenceOptions, DateDurationUnit, DateFields, DateFromFieldsOptions,
     MissingFieldsStrategy, Overflow,
 };
+use icu_calendar::AnyCalendarKind;
 
 // The calendars in turn.
-fn calendar_of(number: u32) -> NamedCalendar
+fn calendar_of(number: u32) -> AnyCalendarKind
     requires { number < 18 }
     ensures { result ≡ calendar_of number }
 {
     match number {
-        0 => NamedCalendar::Buddhist,
-        1 => NamedCalendar::Chinese,
-        2 => NamedCalendar::Coptic,
-        3 => NamedCalendar::Dangi,
-        4 => NamedCalendar::Ethiopian,
-        5 => NamedCalendar::EthiopianAmeteAlem,
-        6 => NamedCalendar::Gregorian,
-        7 => NamedCalendar::Hebrew,
-        8 => NamedCalendar::Indian,
-        9 => NamedCalendar::HijriTabularFriday,
-        10 => NamedCalendar::HijriSimulated,
-        11 => NamedCalendar::HijriTabularThursday,
-        12 => NamedCalendar::HijriUmmAlQura,
-        13 => NamedCalendar::Iso,
-        14 => NamedCalendar::Japanese,
-        15 => NamedCalendar::Julian,
-        16 => NamedCalendar::Persian,
-        _ => NamedCalendar::Roc,
+        0 => AnyCalendarKind::Buddhist,
+        1 => AnyCalendarKind::Chinese,
+        2 => AnyCalendarKind::Coptic,
+        3 => AnyCalendarKind::Dangi,
+        4 => AnyCalendarKind::Ethiopian,
+        5 => AnyCalendarKind::EthiopianAmeteAlem,
+        6 => AnyCalendarKind::Gregorian,
+        7 => AnyCalendarKind::Hebrew,
+        8 => AnyCalendarKind::Indian,
+        9 => AnyCalendarKind::HijriTabularTypeIIFriday,
+        10 => AnyCalendarKind::HijriSimulatedMecca,
+        11 => AnyCalendarKind::HijriTabularTypeIIThursday,
+        12 => AnyCalendarKind::HijriUmmAlQura,
+        13 => AnyCalendarKind::Iso,
+        14 => AnyCalendarKind::Japanese,
+        15 => AnyCalendarKind::Julian,
+        16 => AnyCalendarKind::Persian,
+        _ => AnyCalendarKind::Roc,
     }
 }
 

@@ -5,19 +5,27 @@ ghost use Rattle.line_reader.specs.Buffer.{Holds};
 ghost use Rattle.calspan.specs.Lines.{is_row as text_is_row, is_silent as line_is_silent, said_by, line_of};
 
 use crate::request::{Request, read_request};
+use crate::row::{Row, read_row};
 use line_reader::LineBuffer;
+
+/// What a request line says.
+#[derive(Clone, Copy, Debug)]
+pub enum RequestLine<'a> {
+    /// It has more than 512 bytes.
+    Long,
+    /// It is a request.
+    Asks(Request<'a>),
+    /// It is no request.
+    Malformed,
+}
 
 /// What a line says that isn't silent.
 #[derive(Clone, Copy, Debug)]
 pub enum Line<'a> {
-    /// It is a request line of more than 512 bytes.
-    Long,
-    /// It is a request.
-    Asks(Request<'a>),
-    /// It is a row line, which can't be answered yet.
-    Unbuilt,
-    /// It is no request.
-    Malformed,
+    /// It is a row line, with its row, if it says one.
+    GivesRow(Option<Row<'a>>),
+    /// It is a request line.
+    Requests(RequestLine<'a>),
 }
 
 ghost use Rattle.calspan.specs.LineSaid.{line_said};
@@ -44,11 +52,11 @@ fn read_short<'a>(text: &'a [u8]) -> Line<'a>
     ensures { line_said result ≡ said_by text.now }
 {
     if is_row(text) {
-        return Line::Unbuilt;
+        return Line::GivesRow(read_row(text));
     }
     match read_request(text) {
-        Some(request) => Line::Asks(request),
-        None => Line::Malformed,
+        Some(request) => Line::Requests(RequestLine::Asks(request)),
+        None => Line::Requests(RequestLine::Malformed),
     }
 }
 
@@ -74,7 +82,7 @@ pub fn read_line<'a>(line: &'a LineBuffer) -> Line<'a>
         → line_said result ≡ line_of whole }
 {
     if line.over {
-        Line::Long
+        Line::Requests(RequestLine::Long)
     } else {
         read_short(without_return(&line.prefix))
     }

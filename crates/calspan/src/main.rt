@@ -4,17 +4,25 @@
 mod answer;
 mod bag;
 mod command;
+mod era_row;
+mod gather;
 mod generator;
 mod laws;
 mod line;
-mod named_calendar;
 mod pending;
+mod reading;
 mod reply;
 mod request;
 #[cfg(test)]
 mod request_tests;
+mod row;
+#[cfg(test)]
+mod row_tests;
+mod row_years;
 mod run;
 mod status;
+mod table;
+mod table_rows;
 #[cfg(test)]
 mod tests;
 mod text;

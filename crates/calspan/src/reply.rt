@@ -1,5 +1,5 @@
 //! The reply to a request: the texts of dates, durations and causes.
-ghost use Rattle.std.specs.Prelude.{◌≡◌, ◌+◌, ◌≤◌, ◌<◌, ◌++◌, ◌∷◌, [], ◌↔◌, IsTrue, length, List, ℕ, if◌then◌else◌};
+ghost use Rattle.std.specs.Prelude.{◌≡◌, ◌+◌, ◌≤◌, ◌<◌, ◌++◌, ◌∷◌, [], ◌↔◌, IsTrue, List, ℕ, if◌then◌else◌};
 ghost use Rattle.std.specs.Fmt.{signed_decimal};
 ghost use Rattle.arrayvec.specs.ArrayVec.{array_vec_len};
 ghost use Rattle.cal_types.specs.declared.duration.DateDuration.{DateDuration};
@@ -8,13 +8,13 @@ ghost use Rattle.icu_calendar.specs.SpanAnswers.{span_dates, HasCalendars};
 ghost use Rattle.cal_any.specs.declared.any_calendar.AnyCalendar.{AnyCalendar};
 ghost use Rattle.cal_model.specs.CalendarList.{day_number};
 ghost use Rattle.calspan.specs.Replies.{year_text, numbered_text, day_text, part_text, parts_text, duration_text, cause_text, side_text, error_text, span_text, ShowsDays, IsReply};
-ghost use Rattle.calspan.specs.Calendars.{named_system};
+ghost use Rattle.cal_any.specs.Kinds.{kind_system, table_contents};
 ghost use Rattle.calspan.specs.RequestSaid.{request_said};
 
 use crate::request::Request;
 use crate::text::{Pending, push_all, push_few, push_number, push_signed, push_two_digits};
 use cal_types::{DateDuration, DateFromFieldsError, YearInfo};
-use icu_calendar::{AnyCalendar, BagSide, Date, Span, SpanError, span};
+use icu_calendar::{AnyCalendar, BagSide, Date, Span, SpanError, Tables, span};
 
 // A year of an era, or of a cycle.
 fn push_year(text: &mut Pending, year: &YearInfo)
@@ -194,12 +194,12 @@ fn push_span(text: &mut Pending, span: &Span<'_>)
     text.push(b'\n');
 }
 
-/// Appends the reply to a request, and answers whether it is a refusal.
-pub fn reply(text: &mut Pending, request: &Request) -> bool
+/// Appends the reply to a request, over the tables of the input, and answers whether it is a refusal.
+pub fn reply(text: &mut Pending, request: &Request, tables: &Tables<'_>) -> bool
     requires { array_vec_len text.old + 512 ≤ 8192 }
-    ensures { let r = request_said request.now in
+    ensures { let r = request_said request.now in let t = table_contents tables.now in
         (answer : List ℕ) × (text.new.items ≡ text.old.items ++ answer)
-        × IsReply (named_system r.calendar) (named_system r.shown) r answer result }
+        × IsReply (kind_system t r.calendar) (kind_system t r.shown) r answer result }
 {
     let header = request.header;
     match span(
@@ -207,8 +207,8 @@ pub fn reply(text: &mut Pending, request: &Request) -> bool
         request.to,
         header.options,
         header.difference,
-        header.calendar.calendar(),
-        header.shown.calendar(),
+        AnyCalendar::new(header.calendar, *tables),
+        AnyCalendar::new(header.shown, *tables),
     ) {
         Ok(span) => {
             push_span(text, &span);

@@ -1,28 +1,28 @@
 //! What a request line asks.
-ghost use Rattle.std.specs.Prelude.{◌≡◌, true};
-ghost use Rattle.std.specs.List.{list_all};
+ghost use Rattle.std.specs.Prelude.{◌≡◌};
 ghost use Rattle.std.specs.Option.{option_map};
+ghost use Rattle.cal_any.specs.Kinds.{kind_named};
 ghost use Rattle.calspan.specs.Words.{words_of};
 ghost use Rattle.calspan.specs.WordsLeft.{words_left};
-ghost use Rattle.calspan.specs.Taking.{is_no_space};
 ghost use Rattle.calspan.specs.Reading.{IsReading, next_word};
-ghost use Rattle.calspan.specs.Requests.{calendar_named, unit_named, overflow_named, missing_fields_named, fixed_word, header_read, request_read};
+ghost use Rattle.calspan.specs.Requests.{unit_named, overflow_named, missing_fields_named, header_read, request_read};
 
 use crate::bag::{read_bag, read_bag_to};
-use crate::named_calendar::NamedCalendar;
+use crate::reading::next_is;
 use crate::words::Words;
 use cal_types::{
     DateDifferenceOptions, DateDurationUnit, DateFields, DateFromFieldsOptions,
     MissingFieldsStrategy, Overflow,
 };
+use icu_calendar::AnyCalendarKind;
 
 /// What stands before a request's bags.
 #[derive(Clone, Copy, Debug)]
 pub struct Header {
     /// The calendar of both bags.
-    pub calendar: NamedCalendar,
+    pub calendar: AnyCalendarKind,
     /// The calendar in which their days are shown.
-    pub shown: NamedCalendar,
+    pub shown: AnyCalendarKind,
     /// The largest unit of the difference.
     pub difference: DateDifferenceOptions,
     /// How the bags name their dates.
@@ -42,73 +42,10 @@ pub struct Request<'a> {
 
 ghost use Rattle.calspan.specs.RequestSaid.{header_said, request_said};
 
-// A word that says nothing of its own.
-fn next_is(words: &mut Words, name: &[u8]) -> Option<()>
-    requires { list_all is_no_space name.now ≡ true }
-    ensures { IsReading (next_word (fixed_word name.now) (words_left words.old)) result (words_left words.new) }
+fn next_calendar(words: &mut Words) -> Option<AnyCalendarKind>
+    ensures { IsReading (next_word kind_named (words_left words.old)) result (words_left words.new) }
 {
-    if words.take(name) { Some(()) } else { None }
-}
-
-fn next_calendar(words: &mut Words) -> Option<NamedCalendar>
-    ensures { IsReading (next_word calendar_named (words_left words.old)) result (words_left words.new) }
-{
-    if words.take(b"iso") {
-        return Some(NamedCalendar::Iso);
-    }
-    if words.take(b"gregorian") {
-        return Some(NamedCalendar::Gregorian);
-    }
-    if words.take(b"julian") {
-        return Some(NamedCalendar::Julian);
-    }
-    if words.take(b"buddhist") {
-        return Some(NamedCalendar::Buddhist);
-    }
-    if words.take(b"chinese") {
-        return Some(NamedCalendar::Chinese);
-    }
-    if words.take(b"coptic") {
-        return Some(NamedCalendar::Coptic);
-    }
-    if words.take(b"dangi") {
-        return Some(NamedCalendar::Dangi);
-    }
-    if words.take(b"ethiopic") {
-        return Some(NamedCalendar::Ethiopian);
-    }
-    if words.take(b"ethioaa") {
-        return Some(NamedCalendar::EthiopianAmeteAlem);
-    }
-    if words.take(b"hebrew") {
-        return Some(NamedCalendar::Hebrew);
-    }
-    if words.take(b"indian") {
-        return Some(NamedCalendar::Indian);
-    }
-    if words.take(b"islamic-civil") {
-        return Some(NamedCalendar::HijriTabularFriday);
-    }
-    if words.take(b"islamic-simulated") {
-        return Some(NamedCalendar::HijriSimulated);
-    }
-    if words.take(b"islamic-tbla") {
-        return Some(NamedCalendar::HijriTabularThursday);
-    }
-    if words.take(b"islamic-umalqura") {
-        return Some(NamedCalendar::HijriUmmAlQura);
-    }
-    if words.take(b"japanese") {
-        return Some(NamedCalendar::Japanese);
-    }
-    if words.take(b"persian") {
-        return Some(NamedCalendar::Persian);
-    }
-    if words.take(b"roc") {
-        Some(NamedCalendar::Roc)
-    } else {
-        None
-    }
+    AnyCalendarKind::from_program_name(words.next()?)
 }
 
 fn next_unit(words: &mut Words) -> Option<Option<DateDurationUnit>>

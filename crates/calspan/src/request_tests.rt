@@ -259,9 +259,6 @@ fn fields_in_any_order(rt: HostRuntime) -> Result<(), Fail> {
     Ok(())
 }
 
-// Row lines.
-const ROWS: [&[u8]; 4] = [b"row", b"row ", b"row hijri 1445 738720 sll", b"row\r"];
-
 // Lines off the grammar.
 const MALFORMED: [&[u8]; 34] = [
     b"span iso",
@@ -302,9 +299,6 @@ const MALFORMED: [&[u8]; 34] = [
 
 #[test]
 fn lines_on_and_off_the_grammar(rt: HostRuntime) -> Result<(), Fail> {
-    for line in ROWS {
-        assert_answer(&rt, rt.alloc(), line, b"err line 1 unbuilt\n")?;
-    }
     for line in MALFORMED {
         assert_answer(&rt, rt.alloc(), line, b"err line 1 syntax\n")?;
     }

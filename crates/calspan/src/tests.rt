@@ -54,8 +54,8 @@ const TEXTS: [Case; 9] = [
     },
     Case {
         input: b"row\r\n",
-        status: Status::Refused,
-        text: b"err line 1 unbuilt\n",
+        status: Status::TableRefused,
+        text: b"table line 1 syntax\n",
     },
     Case {
         input: b"# births\r\n\r\nspan iso\r\n\nspan",

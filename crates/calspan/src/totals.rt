@@ -1,9 +1,9 @@
 //! Sums over the answers to requests.
-ghost use Rattle.std.specs.Prelude.{◌≡◌, ◌+◌, ◌<◌, ◌≤◌, ◌++◌, ◌+ℤ◌, Ok, pos, neg_ℤ};
-ghost use Rattle.std.specs.Fmt.{decimal, signed_decimal};
+ghost use Rattle.std.specs.Prelude.{◌≡◌, ◌+◌, ◌<◌, ◌≤◌, ◌++◌, Ok};
 ghost use Rattle.arrayvec.specs.ArrayVec.{array_vec_len};
 ghost use Rattle.cal_days.specs.Day.{IsValidDay};
 ghost use Rattle.cal_any.specs.AnySystem.{any_system, any_date};
+ghost use Rattle.cal_any.specs.Kinds.{kind_system, no_contents};
 ghost use Rattle.cal_any.specs.declared.any_calendar.AnyCalendar.{AnyCalendar};
 ghost use Rattle.cal_model.specs.CalendarList.{day_number};
 ghost use Rattle.icu_calendar.specs.SpanAnswers.{span_dates, HasCalendars};
@@ -14,7 +14,7 @@ ghost use Rattle.calspan.specs.TotalBounds.{AreBounded, counted};
 use crate::generator::generated_request;
 use crate::request::Request;
 use crate::text::{Pending, push_all, push_number, push_signed};
-use icu_calendar::{AnyCalendar, Date, Span, span};
+use icu_calendar::{AnyCalendar, AnyCalendarKind, Date, Span, Tables, span};
 
 /// How many requests have an answer and how many are refused; the sum of the day numbers of all dates; and the sums
 /// of the parts of all durations, without their signs.
@@ -105,6 +105,13 @@ fn with_refusal(totals: Totals) -> Totals
     }
 }
 
+// The calendar of a kind, without rows of a table.
+fn calendar(kind: AnyCalendarKind) -> AnyCalendar<'static>
+    ensures { any_system result ≡ kind_system no_contents kind }
+{
+    AnyCalendar::new(kind, Tables::none())
+}
+
 // The totals with one more request.
 fn with_request(totals: Totals, request: &Request) -> Totals
     requires few { counted totals < 100000 }
@@ -119,8 +126,8 @@ fn with_request(totals: Totals, request: &Request) -> Totals
         request.to,
         header.options,
         header.difference,
-        header.calendar.calendar(),
-        header.shown.calendar(),
+        calendar(header.calendar),
+        calendar(header.shown),
     ) {
         Ok(span) => with_span(totals, &span),
         Err(_) => with_refusal(totals),

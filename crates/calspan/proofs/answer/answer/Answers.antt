@@ -1,16 +1,16 @@
 use Rattle.std.proofs.Common.{◌≡◌, true, [], refl, sym, ◌∙◌, subst}
 use Rattle.std.proofs.lemmas.List.{append-nil}
 use Rattle.calspan.specs.Lines.{Line, is_silent}
-use Rattle.calspan.specs.Answers.{IsAnswerTo}
+use Rattle.calspan.specs.Answers.{Answering, IsAnswerTo}
 use Rattle.calspan.proofs.LineLemmas.{silent_is}
 use Rattle.calspan.proofs.answer.answer.Goals as goal
 
 pub returns-then-is_silent : goal.returns-then-is_silent
-returns-then-is_silent c whole holds =
-    let s = c.args.progress.now in
+returns-then-is_silent c rows whole tables holds =
+    let s = Answering rows c.args.progress.refused in
     let silent : is_silent whole ≡ true = sym (c.is_silent.ensures whole holds) ∙ c.if-is_silent.true in
     ([], sym (append-nil c.args.pending.now.items), subst (λ (l : Line). IsAnswerTo l c.args.number s [] s) (sym (silent_is whole silent)) (refl, refl))
 
 pub returns : goal.returns
-returns c whole holds =
-    c.answer_request.ensures whole holds (sym (c.is_silent.ensures whole holds) ∙ c.if-is_silent.false)
+returns c rows whole tables holds =
+    c.answer_line.ensures rows whole tables holds (sym (c.is_silent.ensures whole holds) ∙ c.if-is_silent.false)

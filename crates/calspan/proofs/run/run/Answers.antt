@@ -1,4 +1,4 @@
-use Rattle.calspan.proofs.RunLemmas.{headline}
+use Rattle.calspan.proofs.HeadlineLemmas.{headline}
 use Rattle.calspan.proofs.run.run.Goals as goal
 
 pub returns-in-Some-Span-clause-headline : goal.returns-in-Some-Span-clause-headline

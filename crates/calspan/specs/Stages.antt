@@ -1,0 +1,96 @@
+-- Where the program stands behind the lines that it has read.
+use Rattle.std.specs.Prelude.{◌≡◌, ℕ, ◌+◌, ◌≤◌, Bool, true, false, List, [], ◌∷◌, ◌++◌, length, take, Option, Result, Ok, Err, if◌then◌else◌}
+use Rattle.std.specs.Io.KnownBytes.{Consumes, IsAtEnd}
+use Rattle.line_reader.specs.Buffer.{Holds}
+use Rattle.byte_io.specs.declared.Failed.{Failed}
+use Rattle.line_reader.specs.Lines.{lines_in, open_line}
+use Rattle.line_reader.specs.Reader.{IsAt, lines_given}
+use Rattle.line_reader.specs.declared.buffer.LineBuffer.{LineBuffer}
+use Rattle.line_reader.specs.declared.reader.Reader.{Reader}
+use Rattle.calspan.specs.Answers.{AreAnswers, Stage, Gathering, Answering, Ended, IsAnswerTo, IsAnswers, begin, status_of}
+use Rattle.calspan.specs.Lines.{RequestLine, Requests, line_of}
+use Rattle.calspan.specs.Run.{limit}
+use Rattle.calspan.specs.TableRows.{TableRows}
+use Rattle.calspan.specs.Written.{Stands, StandsShort}
+use Rattle.calspan.specs.declared.answer.Progress.{Progress}
+use Rattle.calspan.specs.declared.answer.Answered.{Answered}
+use Rattle.calspan.specs.declared.answer.Answered.TheVariants.{GoesOn, Stopped}
+use Rattle.calspan.specs.declared.status.Status.{Status}
+use Rattle.calspan.specs.declared.status.Status.TheVariants.{TableRefused}
+
+-- behind a request line, over the rows that came before the first
+abbrev pub stage_of : TableRows → Answered → Stage
+stage_of rows (GoesOn p) = Answering rows p.refused
+stage_of rows Stopped = Ended
+
+-- how the run ends there
+abbrev pub answered_status : Answered → Status
+answered_status (GoesOn p) = status_of p.refused
+answered_status Stopped = TableRefused
+
+-- behind a request that was answered, by a refusal or not
+abbrev pub replied : Progress → Bool → Progress
+replied p refused = if refused then record { refused = true } else p
+
+-- what answers a line behind one stage, answers it behind another
+abbrev pub Follows : Stage → Stage → List ℕ → Type 0
+Follows s from line = (n : ℕ) (text : List ℕ) (next : Stage) → IsAnswerTo (line_of line) n from text next → IsAnswerTo (line_of line) n s text next
+
+-- behind a line that was answered, or where a write failed
+abbrev pub Responded : Result Answered Failed → TableRows → Option (List ℕ) → Option (List ℕ) → List ℕ → List (List ℕ) → Type 0
+Responded (Ok answered) rows before now pending lines = Stands before now pending lines (stage_of rows answered)
+Responded (Err e) rows before now pending lines = StandsShort before now lines
+
+-- the rows of tables came, and no request line did: these bytes were taken, and these lines came
+pub record IsGathering (left now : Option (List ℕ)) (r : Reader) (line : LineBuffer) (rows : TableRows) : Type 0 where
+  pub bytes : List ℕ
+  pub lines : List (List ℕ)
+  pub rest : List ℕ
+  pub took : Consumes left now bytes
+  pub at : IsAt r bytes lines rest
+  pub holds : Holds line rest
+  pub counted : lines_given r ≡ length lines
+  pub answers : AreAnswers lines 1 begin [] (Gathering rows)
+
+-- the first request line came: the buffer holds it
+pub record MetRequest (left now : Option (List ℕ)) (r : Reader) (line : LineBuffer) (rows : TableRows) : Type 0 where
+  pub bytes : List ℕ
+  pub lines : List (List ℕ)
+  pub whole : List ℕ
+  pub request : RequestLine
+  pub says : line_of whole ≡ Requests request
+  pub took : Consumes left now bytes
+  pub at : IsAt r bytes (lines ++ whole ∷ []) []
+  pub holds : Holds line whole
+  pub counted : lines_given r ≡ length lines + 1
+  pub answers : AreAnswers lines 1 begin [] (Gathering rows)
+
+-- the source came to its end, and the buffer holds what follows the last LF: nothing, or a request line
+pub record MetLast (left now : Option (List ℕ)) (r : Reader) (line : LineBuffer) (rows : TableRows) : Type 0 where
+  pub bytes : List ℕ
+  pub lines : List (List ℕ)
+  pub took : Consumes left now bytes
+  pub at_end : IsAtEnd now
+  pub within : length bytes ≤ limit
+  pub all : lines_in bytes false ≡ lines
+  pub request : RequestLine
+  pub says : line_of (open_line bytes) ≡ Requests request
+  pub holds : Holds line (open_line bytes)
+  pub counted : lines_given r ≡ length lines
+  pub answers : AreAnswers lines 1 begin [] (Gathering rows)
+
+-- the source came to its end without a request line
+pub record MetEnd (left now : Option (List ℕ)) (rows : TableRows) : Type 0 where
+  pub bytes : List ℕ
+  pub took : Consumes left now bytes
+  pub at_end : IsAtEnd now
+  pub within : length bytes ≤ limit
+  pub answers : AreAnswers (lines_in bytes true) 1 begin [] (Gathering rows)
+
+-- the answers to what came end with a text that refuses a row or a table
+pub record Refuses (left now : Option (List ℕ)) (text : List ℕ) : Type 0 where
+  pub bytes : List ℕ
+  pub whole : Bool
+  pub took : Consumes left now bytes
+  pub at_end : whole ≡ true → IsAtEnd now × (length bytes ≤ limit)
+  pub answers : IsAnswers (take limit bytes) whole text TableRefused
