@@ -2,7 +2,8 @@
 """Compares the built program with the cases beside this file, and runs it on small broken inputs.
 
 The cases' answers were made by an independent implementation, written in another language from the same definitions. Which
-answer a broken line gets, `long`, `unbuilt`, `syntax` or that of a request, is told here by a grammar of its own.
+answer a broken line gets, `long`, `syntax`, that of a request or the line that refuses a row, is told here by a grammar of its
+own.
 """
 
 import random
@@ -12,14 +13,20 @@ import sys
 from pathlib import Path
 
 HERE = Path(__file__).resolve().parent
+TABLES = HERE / "tables"
 PROGRAM = [str(HERE.parent / "calspan"), "span"]
+STATUSES = {name: int(status) for name, status in (line.split() for line in (TABLES / "statuses").read_text().splitlines())}
+TABLE_REFUSED = 6
 NAMES = ["first_path", "arithmetic", "bags", "grammar", "solar", "hebrew", "hijri", "east_asian"]
 DATE = r"-?\d+/[a-z]+\.-?\d+/M\d\dL?/\d\d@-?\d+"
 DURATION = r"-?P(0D|(\d+Y)?(\d+M)?(\d+W)?(\d+D)?)"
 CAUSE = r"(NotEnoughFields|TooManyFields|Overflow|InvalidEra|InconsistentYear|MonthCodeInvalidSyntax|MonthNotInCalendar" \
         r"|MonthNotInYear|InconsistentMonth|InvalidOrdinalMonth \d+|InvalidDay \d+)"
 ANSWER = re.compile(rf"ok {DATE} {DATE} {DATE} {DATE} {DURATION}|err (from|to) {CAUSE}".encode())
+LINE_FAULT = re.compile(rb"err line \d+ (long|syntax)")
+TABLE_LINE = re.compile(rb"table (line \d+ (syntax|range|late)|(china|korea|hijri|persian) \d+ (year|join|end|leap|rule))")
 BROKEN_INPUTS = 3000
+BROKEN_ROWS = 1500
 LONGEST_LINE = 512
 
 CALENDARS = [
@@ -97,6 +104,17 @@ def compare(name: str) -> int:
     return len(got)
 
 
+def compare_table(name: str) -> int:
+    """An input with row lines: its text and its status."""
+    run = subprocess.run(PROGRAM, input=(TABLES / f"{name}.in").read_bytes(), capture_output=True, timeout=20, check=False)
+    wanted = (TABLES / f"{name}.out").read_bytes()
+    if run.stdout != wanted or run.stderr:
+        raise SystemExit(f"tables/{name}:\n  wanted {wanted!r}\n  got    {run.stdout!r}")
+    if run.returncode != STATUSES[name]:
+        raise SystemExit(f"tables/{name}: status {run.returncode} in place of {STATUSES[name]}")
+    return wanted.count(b"\n")
+
+
 def request_like(chance: random.Random, request: bytes) -> bytes:
     """The request, with some of its words exchanged for others, and some left out of its bags, put in or moved."""
     words = request.split(b" ")
@@ -150,8 +168,6 @@ def fault_of_line(line: bytes) -> str | None:
     if len(line) > LONGEST_LINE:
         return "long"
     line = line.removesuffix(b"\r")
-    if line == b"row" or line.startswith(b"row "):
-        return "unbuilt"
     match = REQUEST.fullmatch(line)
     if not match:
         return "syntax"
@@ -162,10 +178,22 @@ def fault_of_line(line: bytes) -> str | None:
     return None
 
 
+def is_row(line: bytes) -> bool:
+    line = line.removesuffix(b"\r")
+    return len(line) <= LONGEST_LINE and (line == b"row" or line.startswith(b"row "))
+
+
 def check_broken(chance: random.Random, requests: list[bytes]) -> None:
+    """Each line gets its answer. A row line ends the run: behind a request it is late, and what comes of a request is no row."""
     data = broken_input(chance, requests)
     status, got = answers(data)
     asking = asking_lines(data)
+    row_at = next((at for at, (_, line) in enumerate(asking) if is_row(line)), None)
+    if row_at is not None:
+        fault = b"late" if row_at else b"syntax"
+        if status != TABLE_REFUSED or got[-1:] != [b"table line %d %s" % (asking[row_at][0], fault)]:
+            raise SystemExit(f"{got[-1:]!r} and status {status} for the row line of {data!r}")
+        asking, got = asking[:row_at], got[:-1]
     if len(got) != len(asking):
         raise SystemExit(f"{len(got)} answers to {data!r}")
     refused = False
@@ -175,17 +203,38 @@ def check_broken(chance: random.Random, requests: list[bytes]) -> None:
         if not (answer == wanted if fault else ANSWER.fullmatch(answer)):
             raise SystemExit(f"{answer!r} is no answer to {line!r}, in {data!r}")
         refused = refused or answer.startswith(b"err")
-    if status != int(refused):
+    if row_at is None and status != int(refused):
         raise SystemExit(f"status {status} for {data!r}")
 
 
+def check_broken_rows(chance: random.Random, inputs: list[bytes]) -> None:
+    """Row lines and requests, some of their bytes changed: at most one line is written for each, and a table line is the last."""
+    lines = chance.choice(inputs).split(b"\n")
+    data = bytearray(b"\n".join(lines[: chance.randrange(1, 12)]))
+    for _ in range(chance.choice([1, 1, 2, 3])):
+        data[chance.randrange(len(data))] = chance.choice(b" -0123456789ls\n\r") if chance.random() < 0.9 else chance.randrange(256)
+    status, got = answers(bytes(data))
+    tables = [answer for answer in got if answer.startswith(b"table ")]
+    if len(got) > len(asking_lines(bytes(data))) + 1 or tables not in ([], got[-1:]):
+        raise SystemExit(f"{got!r} for {bytes(data)!r}")
+    for answer in got[: len(got) - len(tables)]:
+        if not (ANSWER.fullmatch(answer) or LINE_FAULT.fullmatch(answer)):
+            raise SystemExit(f"{answer!r} is no answer, in {bytes(data)!r}")
+    refused = any(answer.startswith(b"err") for answer in got)
+    if status != (TABLE_REFUSED if tables else int(refused)) or not all(map(TABLE_LINE.fullmatch, tables)):
+        raise SystemExit(f"status {status} and {tables!r} for {bytes(data)!r}")
+
+
 def main() -> int:
-    count = sum(compare(name) for name in NAMES)
+    count = sum(compare(name) for name in NAMES) + sum(compare_table(name) for name in STATUSES)
     chance = random.Random(20260101)
     requests = [line for name in NAMES for line in (HERE / f"{name}.in").read_bytes().split(b"\n")[:-1]]
     for _ in range(BROKEN_INPUTS):
         check_broken(chance, requests)
-    print(f"cases: {count} answers agree, and {BROKEN_INPUTS} broken inputs are answered")
+    inputs = [(TABLES / f"{name}.in").read_bytes() for name in STATUSES]
+    for _ in range(BROKEN_ROWS):
+        check_broken_rows(chance, inputs)
+    print(f"cases: {count} answers agree, and {BROKEN_INPUTS + BROKEN_ROWS} broken inputs are answered")
     return 0
 
 
