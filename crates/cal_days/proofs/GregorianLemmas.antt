@@ -62,7 +62,7 @@ year_of_valid_day rd y valid first last =
     (omega (arith, signed, gregorian_start-bounds (y +ℤ pos 1)), omega (arith, signed, gregorian_start-bounds y))
 
 -- a year's March 1 by its formula
-first_of_march-formula : (y : ℤ) → first_of_march y ≡ pos 365 *ℤ y +ℤ leap_days_through y -ℤ pos 305
+pub first_of_march-formula : (y : ℤ) → first_of_march y ≡ pos 365 *ℤ y +ℤ leap_days_through y -ℤ pos 305
 unfolding gregorian_start
 first_of_march-formula y =
     let same : y +ℤ pos 1 -ℤ pos 1 ≡ y = omega (arith, signed) in

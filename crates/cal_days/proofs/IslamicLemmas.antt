@@ -1,10 +1,10 @@
 -- The Islamic rules: years join by the closed formulas, and the formulas are nearly linear.
-use Rattle.std.proofs.Common.{◌≡◌, ℕ, zero, suc, ◌+◌, ◌*◌, ◌≤◌, ◌⊎◌, inl, inr, true, false, arith, refl, cond, if◌then◌else◌, nat_lt, ℤ, pos, negsuc, neg_ℤ, ◌+ℤ◌, ◌-ℤ◌, ◌*ℤ◌, ◌<ℤ◌, ◌≤ℤ◌}
+use Rattle.std.proofs.Common.{◌≡◌, ℕ, zero, suc, ◌+◌, ◌⊎◌, inl, inr, arith, refl, cond, ℤ, pos, negsuc, neg_ℤ, ◌+ℤ◌, ◌-ℤ◌, ◌*ℤ◌, ◌<ℤ◌, ◌≤ℤ◌}
 use Rattle.std.specs.Prelude.{int_div}
 use Rattle.std.proofs.lemmas.Bool.Decides.{nat_tests}
 use Rattle.std.proofs.lemmas.Int.{by_lt_z}
 use Rattle.cal_days.specs.Day.{IsBetween, IsValidDay}
-use Rattle.cal_days.specs.Division.{floor_div, floor_mod}
+use Rattle.cal_days.specs.Division.{floor_div}
 use Rattle.cal_days.specs.Islamic.{IsIslamicEpoch, islamic_leap, islamic_year_length, islamic_start, islamic_mean_start}
 use Rattle.cal_days.proofs.Signed.{signed}
 use Rattle.cal_days.proofs.DivisionLemmas.{floor_parts}

@@ -1,6 +1,7 @@
 -- The Julian rule: years join by the closed formula, and the formula is nearly linear.
-use Rattle.std.proofs.Common.{◌≡◌, ℕ, ◌+◌, ◌*◌, ◌<◌, ◌≤◌, ap, arith, ℤ, pos, neg_ℤ, ◌+ℤ◌, ◌-ℤ◌, ◌<ℤ◌, ◌≤ℤ◌}
+use Rattle.std.proofs.Common.{◌≡◌, ℕ, ◌+◌, ◌*◌, ◌<◌, ◌≤◌, ap, arith, ℤ, pos, neg_ℤ, ◌+ℤ◌, ◌-ℤ◌, ◌*ℤ◌, ◌<ℤ◌, ◌≤ℤ◌}
 use Rattle.cal_days.specs.Day.{IsBetween, IsValidDay}
+use Rattle.cal_days.specs.Division.{floor_div}
 use Rattle.cal_days.specs.Julian.{julian_year_length, julian_start, julian_first_of_march}
 use Rattle.cal_days.specs.March.{julian_march_days}
 use Rattle.cal_days.proofs.Signed.{signed}
@@ -35,6 +36,13 @@ unfolding julian_start
 julian_march_days-counted y n k e =
     let same : y +ℤ pos 1 -ℤ pos 1 ≡ y = omega (arith, signed) in
     rw same (omega (arith, signed, floor_parts y 4))
+
+-- and by its formula
+pub julian_first_of_march-formula : (y : ℤ) → julian_first_of_march y ≡ pos 365 *ℤ y +ℤ floor_div y 4 -ℤ pos 307
+unfolding julian_start
+julian_first_of_march-formula y =
+    let same : y +ℤ pos 1 -ℤ pos 1 ≡ y = omega (arith, signed) in
+    rw same (omega (arith, signed))
 
 -- January and February go before it
 julian_first_of_march-within : (y : ℤ) → (julian_start y ≤ℤ julian_first_of_march y) × (julian_first_of_march y +ℤ pos 306 ≡ julian_start (y +ℤ pos 1))

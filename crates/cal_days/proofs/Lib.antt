@@ -9,3 +9,4 @@ pub mod MoonLemmas
 pub mod HebrewLemmas
 pub mod IslamicLemmas
 pub mod PersianLemmas
+pub mod EasterLemmas

@@ -1,6 +1,6 @@
 -- The years of the tabular Islamic calendar, and the mean years of any Islamic calendar.
 -- Source: Reingold and Dershowitz, Calendrical Calculations, chapter 7.
-use Rattle.std.specs.Prelude.{ℕ, Bool, nat_lt, if◌then◌else◌, ℤ, pos, ◌+ℤ◌, ◌-ℤ◌, ◌*ℤ◌, int_div}
+use Rattle.std.specs.Prelude.{◌≡◌, ◌⊎◌, ℕ, Bool, nat_lt, if◌then◌else◌, ℤ, pos, ◌+ℤ◌, ◌-ℤ◌, ◌*ℤ◌, int_div}
 use Rattle.cal_days.specs.Day.{IsBetween}
 use Rattle.cal_days.specs.Division.{floor_div, floor_mod}
 
@@ -23,3 +23,7 @@ islamic_start epoch y = epoch +ℤ pos 354 *ℤ (y -ℤ pos 1) +ℤ floor_div (p
 -- the day number on which a mean year starts: 30 of them have 10631 days, and what is less than a day is left out
 unfoldable pub islamic_mean_start : ℤ → ℤ
 islamic_mean_start y = pos 227015 +ℤ int_div ((y -ℤ pos 1) *ℤ pos 10631) (pos 30)
+
+-- a day, and the one a mean year later: 354 or 355 days
+abbrev pub IsMeanYearApart : ℤ → ℤ → Type 0
+IsMeanYearApart start next = (next ≡ start +ℤ pos 354) ⊎ (next ≡ start +ℤ pos 355)

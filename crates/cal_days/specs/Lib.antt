@@ -9,3 +9,4 @@ pub mod Hebrew
 pub mod Islamic
 pub mod Molad
 pub mod Persian
+pub mod Easter

@@ -6,9 +6,11 @@
 
 ghost use Rattle.std.specs.Prelude.{◌≡◌, ◌+◌, ◌<◌, ◌≤◌, ◌↔◌, IsTrue, pos, neg_ℤ, ◌+ℤ◌, ◌≤ℤ◌, ◌<ℤ◌};
 ghost use Rattle.cal_days.specs.Day.{IsBetween, IsShiftedYear, IsValidDay};
-ghost use Rattle.cal_days.specs.Gregorian.{first_of_march, gregorian_leap, gregorian_start, gregorian_year_length};
+ghost use Rattle.cal_days.specs.Easter.{IsGregorianEaster, century_of, gregorian_april_19, gregorian_epact, gregorian_shifted_epact, is_moon_earlier};
+ghost use Rattle.cal_days.specs.Gregorian.{first_of_march, gregorian_leap, gregorian_start, gregorian_year_length, leap_days_through};
 ghost use Rattle.cal_days.specs.March.{march_days};
 
+use crate::easter::{FROM_MARCH_1_TO_APRIL_19, sunday_after, year_in_metonic_cycle};
 use crate::rata_die::RataDie;
 
 /// The days of 400 years, after which the leap years repeat.
@@ -110,4 +112,70 @@ pub fn year_from_fixed(rd: RataDie) -> i32
 {
     let (year, day) = march_year_and_day_from_fixed(rd);
     if day >= 306 { year + 1 } else { year }
+}
+
+/// The century of a year; that of the years 1 to 99 is 1.
+fn century(year: i32) -> i64
+    ensures value { result ≡ century_of year }
+    ensures range { IsBetween (neg_ℤ (pos 21474836)) (pos 21474837) result }
+{
+    i64::from(year.div_euclid(100)) + 1
+}
+
+/// The days from the full moon to April 19, before the moons that would be too late are set right. The moon falls
+/// behind with the leap days that centuries drop, and gains 8 days in 25 centuries.
+fn shifted_epact(metonic: u32, century: i64) -> u32
+    requires year { metonic < 19 }
+    requires century { IsBetween (neg_ℤ (pos 21474836)) (pos 21474837) century }
+    ensures value { result ≡ gregorian_shifted_epact metonic century }
+    ensures bound { result < 30 }
+{
+    let dropped = (3 * century).div_euclid(4);
+    let gained = (8 * century + 5).div_euclid(25);
+    (i64::from(14 + 11 * metonic) - dropped + gained).rem_euclid(30) as u32
+}
+
+/// Whether the full moon comes a day earlier than its epact says, so that it is on April 18 at the latest, and on no
+/// day twice in 19 years.
+fn is_full_moon_earlier(epact: u32, metonic: u32) -> bool
+    ensures { result ≡ is_moon_earlier epact metonic }
+{
+    epact == 0 || (epact == 1 && metonic > 10)
+}
+
+/// The days from the ecclesiastical full moon to April 19.
+fn adjusted_epact(year: i32) -> u32
+    ensures value { result ≡ gregorian_epact year }
+    ensures bound { result < 31 }
+{
+    let metonic = year_in_metonic_cycle(year);
+    let epact = shifted_epact(metonic, century(year));
+    epact + u32::from(is_full_moon_earlier(epact, metonic))
+}
+
+/// The leap days of the years from 1 to `year`; below year 1, those of the years after it are taken away.
+fn leap_days_through(year: i32) -> i32
+    ensures value { result ≡ leap_days_through year }
+    ensures range { IsBetween (neg_ℤ (pos 600000000)) (pos 600000000) result }
+{
+    year.div_euclid(4) - year.div_euclid(100) + year.div_euclid(400)
+}
+
+/// The day number of April 19 of a year.
+fn april_19(year: i32) -> i64
+    ensures value { result ≡ gregorian_april_19 year }
+    ensures range { IsBetween (neg_ℤ (pos 800000000000)) (pos 800000000000) result }
+{
+    let days = 365 * i64::from(year) + i64::from(leap_days_through(year));
+    days + MARCH_OF_YEAR_0 + FROM_MARCH_1_TO_APRIL_19
+}
+
+/// The day of Easter in a year of the Gregorian calendar: the first Sunday after the ecclesiastical full moon. The
+/// rule is carried on to all years, before the reform of 1582 and below year 1 too.
+///
+/// The source is Reingold and Dershowitz, Calendrical Calculations, chapter 9.
+pub fn easter(year: i32) -> RataDie
+    ensures { IsGregorianEaster year result }
+{
+    sunday_after(april_19(year) - i64::from(adjusted_epact(year)))
 }

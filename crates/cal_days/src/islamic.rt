@@ -3,10 +3,10 @@
 //! The tabular calendar has 11 leap years in 30. Where the new moon is observed or computed, years start within
 //! some days of the mean years, of which 30 have 10631 days.
 
-ghost use Rattle.std.specs.Prelude.{◌≡◌, ◌⊎◌, ◌↔◌, IsTrue, pos, neg_ℤ, ◌+ℤ◌, ◌≤ℤ◌, ◌<ℤ◌};
+ghost use Rattle.std.specs.Prelude.{◌≡◌, ◌↔◌, IsTrue, pos, neg_ℤ, ◌+ℤ◌, ◌≤ℤ◌, ◌<ℤ◌};
 ghost use Rattle.cal_days.specs.Day.{IsBetween, IsRuleYear, IsValidDay};
 ghost use Rattle.cal_days.specs.Division.{floor_div};
-ghost use Rattle.cal_days.specs.Islamic.{IsIslamicEpoch, islamic_leap, islamic_mean_start, islamic_start, islamic_year_length};
+ghost use Rattle.cal_days.specs.Islamic.{IsIslamicEpoch, IsMeanYearApart, islamic_leap, islamic_mean_start, islamic_start, islamic_year_length};
 
 use crate::rata_die::RataDie;
 
@@ -51,7 +51,7 @@ pub fn is_leap_year(year: i32) -> bool
 pub fn mean_start(year: i32) -> RataDie
     requires { IsRuleYear year }
     ensures formula { result ≡ islamic_mean_start year }
-    ensures joins { (islamic_mean_start (year +ℤ pos 1) ≡ islamic_mean_start year +ℤ pos 354) ⊎ (islamic_mean_start (year +ℤ pos 1) ≡ islamic_mean_start year +ℤ pos 355) }
+    ensures joins { IsMeanYearApart (islamic_mean_start year) (islamic_mean_start (year +ℤ pos 1)) }
 {
     let scaled = (i64::from(year) - 1) * DAYS_IN_CYCLE;
     RataDie::new(FRIDAY_EPOCH + scaled / YEARS_IN_CYCLE)

@@ -4,9 +4,11 @@
 
 ghost use Rattle.std.specs.Prelude.{◌≡◌, ◌+◌, ◌<◌, ◌≤◌, ◌↔◌, IsTrue, pos, neg_ℤ, ◌+ℤ◌, ◌≤ℤ◌, ◌<ℤ◌};
 ghost use Rattle.cal_days.specs.Day.{IsBetween, IsRuleYear, IsValidDay};
+ghost use Rattle.cal_days.specs.Easter.{IsJulianEaster, julian_april_19, julian_epact};
 ghost use Rattle.cal_days.specs.Julian.{julian_first_of_march, julian_leap, julian_start, julian_year_length};
 ghost use Rattle.cal_days.specs.March.{julian_march_days};
 
+use crate::easter::{FROM_MARCH_1_TO_APRIL_19, sunday_after, year_in_metonic_cycle};
 use crate::rata_die::RataDie;
 
 /// The first day of year 1: 0000-12-30 in the proleptic Gregorian calendar.
@@ -112,4 +114,31 @@ pub fn year_from_fixed(rd: RataDie) -> i32
 {
     let (year, day) = march_year_and_day_from_fixed(rd);
     if day >= 306 { year + 1 } else { year }
+}
+
+/// The days from the ecclesiastical full moon to April 19.
+fn epact(year: i32) -> u32
+    ensures value { result ≡ julian_epact year }
+    ensures bound { result < 30 }
+{
+    (14 + 11 * year_in_metonic_cycle(year)) % 30
+}
+
+/// The day number of April 19 of a year.
+fn april_19(year: i32) -> i64
+    ensures value { result ≡ julian_april_19 year }
+    ensures range { IsBetween (neg_ℤ (pos 800000000000)) (pos 800000000000) result }
+{
+    let days = 365 * i64::from(year) + i64::from(year.div_euclid(4));
+    days + MARCH_OF_YEAR_0 + FROM_MARCH_1_TO_APRIL_19
+}
+
+/// The day of Easter in a year of the Julian calendar: the first Sunday after the ecclesiastical full moon. The rule
+/// is carried on to all years, below year 1 too.
+///
+/// The source is Reingold and Dershowitz, Calendrical Calculations, chapter 9.
+pub fn easter(year: i32) -> RataDie
+    ensures { IsJulianEaster year result }
+{
+    sunday_after(april_19(year) - i64::from(epact(year)))
 }

@@ -7,6 +7,7 @@
 #![tactic(auto)]
 
 pub mod coptic;
+mod easter;
 pub mod gregorian;
 pub mod hebrew;
 pub mod islamic;

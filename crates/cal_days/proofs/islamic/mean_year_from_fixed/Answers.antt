@@ -3,7 +3,6 @@ use Rattle.cal_days.specs.Day.{IsBetween, IsValidDay}
 use Rattle.cal_days.specs.Division.{floor_div}
 use Rattle.cal_days.specs.Islamic.{islamic_mean_start}
 use Rattle.cal_days.proofs.Signed.{signed}
-use Rattle.cal_days.proofs.DivisionLemmas.{floor_parts}
 use Rattle.cal_days.proofs.IslamicLemmas.{mean_year-after, mean_year-before, mean_year_of_valid_day}
 use Rattle.cal_days.proofs.islamic.mean_year_from_fixed.Goals as goal
 

@@ -1,0 +1,12 @@
+use Rattle.std.proofs.Common.{◌≡◌, ℤ, pos, ◌-ℤ◌, to_z, of_z, w32, w64, subst, arith}
+use Rattle.cal_days.specs.Easter.{IsSundayAfter, gregorian_april_19, gregorian_epact}
+use Rattle.cal_days.proofs.Signed.{signed}
+use Rattle.cal_days.proofs.gregorian.easter.Goals as goal
+
+pub returns : goal.returns
+returns c =
+    let same : to_z w32 (of_z w32 c.args.year) ≡ c.args.year = omega (arith, signed) in
+    let april : c.april_19.result ≡ gregorian_april_19 c.args.year = rw same at c.april_19.ensures.value in
+    let epact : c.adjusted_epact.result ≡ gregorian_epact c.args.year = rw same at c.adjusted_epact.ensures.value in
+    let moon : to_z w64 (of_z w64 (to_z w64 (of_z w64 c.april_19.result) -ℤ to_z w64 (of_z w64 c.from.result))) ≡ gregorian_april_19 c.args.year -ℤ pos (gregorian_epact c.args.year) = omega (arith, signed, c.april_19.ensures, c.adjusted_epact.ensures, c.from.ensures, april, epact) in
+    subst (λ (n : ℤ). IsSundayAfter n c.sunday_after.result) moon c.sunday_after.ensures
