@@ -1,2 +1,4 @@
+pub mod DurationLemmas
 pub mod MonthLemmas
 pub mod TextLemmas
+pub mod WeekdayLemmas

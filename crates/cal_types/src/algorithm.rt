@@ -1,5 +1,8 @@
 //! The calendars by the names of CLDR's `ca` key (UTS 35).
 
+ghost use Rattle.std.specs.Prelude.{◌≡◌, Some, IfSome};
+ghost use Rattle.cal_types.specs.Algorithm.{algorithm_name, algorithm_named};
+
 /// A calendar algorithm of CLDR (UTS 35, the key `ca`).
 #[derive(Clone, Copy, Debug, PartialEq, Eq)]
 pub enum CalendarAlgorithm {
@@ -44,4 +47,102 @@ pub enum HijriCalendarAlgorithm {
     Tbla,
     /// `islamic-umalqura`
     Umalqura,
+}
+
+impl CalendarAlgorithm {
+    /// The algorithm's name, such as `gregory` or `islamic-civil`.
+    pub fn as_str(&self) -> &'static str
+        ensures value { result.now ≡ algorithm_name self.now }
+        ensures read { algorithm_named result.now ≡ Some self.now }
+    {
+        match self {
+            CalendarAlgorithm::Buddhist => "buddhist",
+            CalendarAlgorithm::Chinese => "chinese",
+            CalendarAlgorithm::Coptic => "coptic",
+            CalendarAlgorithm::Dangi => "dangi",
+            CalendarAlgorithm::Ethioaa => "ethioaa",
+            CalendarAlgorithm::Ethiopic => "ethiopic",
+            CalendarAlgorithm::Gregory => "gregory",
+            CalendarAlgorithm::Hebrew => "hebrew",
+            CalendarAlgorithm::Hijri(None) => "islamic",
+            CalendarAlgorithm::Hijri(Some(HijriCalendarAlgorithm::Civil)) => "islamic-civil",
+            CalendarAlgorithm::Hijri(Some(HijriCalendarAlgorithm::Rgsa)) => "islamic-rgsa",
+            CalendarAlgorithm::Hijri(Some(HijriCalendarAlgorithm::Tbla)) => "islamic-tbla",
+            CalendarAlgorithm::Hijri(Some(HijriCalendarAlgorithm::Umalqura)) => "islamic-umalqura",
+            CalendarAlgorithm::Indian => "indian",
+            CalendarAlgorithm::Iso8601 => "iso8601",
+            CalendarAlgorithm::Japanese => "japanese",
+            CalendarAlgorithm::Persian => "persian",
+            CalendarAlgorithm::Roc => "roc",
+        }
+    }
+
+    /// The algorithm with this name. None exactly where no algorithm has it.
+    pub fn from_name(bytes: &[u8]) -> Option<CalendarAlgorithm>
+        ensures value { result ≡ algorithm_named bytes.now }
+        ensures name { IfSome result (λ a. algorithm_name a ≡ bytes.now) }
+    {
+        ALGORITHMS
+            .iter()
+            .copied()
+            .find(|algorithm| bytes == algorithm.as_str().as_bytes())
+    }
+}
+
+/// All algorithms.
+const ALGORITHMS: [CalendarAlgorithm; 18] = [
+    CalendarAlgorithm::Buddhist,
+    CalendarAlgorithm::Chinese,
+    CalendarAlgorithm::Coptic,
+    CalendarAlgorithm::Dangi,
+    CalendarAlgorithm::Ethioaa,
+    CalendarAlgorithm::Ethiopic,
+    CalendarAlgorithm::Gregory,
+    CalendarAlgorithm::Hebrew,
+    CalendarAlgorithm::Hijri(None),
+    CalendarAlgorithm::Hijri(Some(HijriCalendarAlgorithm::Civil)),
+    CalendarAlgorithm::Hijri(Some(HijriCalendarAlgorithm::Rgsa)),
+    CalendarAlgorithm::Hijri(Some(HijriCalendarAlgorithm::Tbla)),
+    CalendarAlgorithm::Hijri(Some(HijriCalendarAlgorithm::Umalqura)),
+    CalendarAlgorithm::Indian,
+    CalendarAlgorithm::Iso8601,
+    CalendarAlgorithm::Japanese,
+    CalendarAlgorithm::Persian,
+    CalendarAlgorithm::Roc,
+];
+
+#[cfg(test)]
+mod tests {
+    use super::*;
+
+    #[test]
+    fn names_are_those_of_cldr(rt: HostRuntime) {
+        for (algorithm, name) in [
+            (CalendarAlgorithm::Gregory, "gregory"),
+            (CalendarAlgorithm::Ethioaa, "ethioaa"),
+            (CalendarAlgorithm::Iso8601, "iso8601"),
+            (CalendarAlgorithm::Hijri(None), "islamic"),
+            (
+                CalendarAlgorithm::Hijri(Some(HijriCalendarAlgorithm::Rgsa)),
+                "islamic-rgsa",
+            ),
+        ] {
+            assert_eq!(rt; algorithm.as_str(), name);
+            assert_eq!(rt;
+                CalendarAlgorithm::from_name(name.as_bytes()),
+                Some(algorithm)
+            );
+        }
+        for name in [
+            "",
+            "klingon",
+            "Gregory",
+            "gregorian",
+            "islamic-",
+            "islamicc",
+            "iso",
+        ] {
+            assert_eq!(rt; CalendarAlgorithm::from_name(name.as_bytes()), None);
+        }
+    }
 }

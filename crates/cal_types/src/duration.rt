@@ -2,6 +2,10 @@
 
 ghost use Rattle.std.specs.Prelude.{◌≡◌};
 ghost use Rattle.cal_types.specs.Duration.{duration_of};
+ghost use Rattle.cal_types.specs.DurationText.{duration_read};
+
+use crate::duration_text;
+use crate::errors::DateDurationParseError;
 
 /// The unit of a part of a [`DateDuration`].
 #[derive(Clone, Copy, Debug, PartialEq, Eq)]
@@ -75,21 +79,42 @@ impl DateDuration {
             ..DateDuration::default()
         }
     }
+
+    /// The duration that a text names, as [`DateDuration::try_from_utf8`].
+    pub fn try_from_str(s: &str) -> Result<Self, DateDurationParseError>
+        ensures { result ≡ duration_read s.now }
+    {
+        DateDuration::try_from_utf8(s.as_bytes())
+    }
+
+    /// The duration that a text names: an optional `-`, `P`, and one part or more. A part is a number and the letter
+    /// `Y`, `M`, `W` or `D` of its unit; each unit may come once, in any order. `-P0D` is a negative zero.
+    ///
+    /// The first thing that is wrong, from left to right, is answered:
+    ///
+    /// - [`DateDurationParseError::PlusNotAllowed`]: the text begins with `+`.
+    /// - [`DateDurationParseError::InvalidStructure`]: `P` and something behind it don't follow, or a number is
+    ///   followed by no unit's letter.
+    /// - [`DateDurationParseError::TimeNotSupported`]: a `T` stands where a part begins.
+    /// - [`DateDurationParseError::MissingValue`]: a part begins with no digit.
+    /// - [`DateDurationParseError::NumberOverflow`]: a number is above the greatest `u64`, which is seen before its
+    ///   unit, or above the greatest `u32`, which is seen after it.
+    /// - [`DateDurationParseError::DuplicateUnit`]: a unit came before.
+    ///
+    /// This is the date part of the durations of ISO 8601-2.
+    pub fn try_from_utf8(code_units: &[u8]) -> Result<Self, DateDurationParseError>
+        ensures { result ≡ duration_read code_units.now }
+    {
+        let Some((first, rest)) = code_units.split_first() else {
+            return Err(DateDurationParseError::InvalidStructure);
+        };
+        match *first {
+            b'+' => Err(DateDurationParseError::PlusNotAllowed),
+            b'-' => duration_text::read(true, rest),
+            _ => duration_text::read(false, code_units),
+        }
+    }
 }
 
 #[cfg(test)]
-mod tests {
-    use super::*;
-
-    #[test]
-    fn the_default_is_zero(rt: HostRuntime) {
-        let zero = DateDuration {
-            is_negative: false,
-            years: 0,
-            months: 0,
-            weeks: 0,
-            days: 0,
-        };
-        assert_eq!(rt; DateDuration::default(), zero);
-    }
-}
+mod tests;

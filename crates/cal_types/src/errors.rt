@@ -2,6 +2,7 @@
 
 ghost use Rattle.std.specs.Prelude.{◌≡◌};
 
+use crate::algorithm::CalendarAlgorithm;
 use thiserror::Error;
 
 /// An argument is out of its range; `min` and `max` are the least and the greatest that are allowed.
@@ -147,6 +148,44 @@ pub enum LunisolarDateError {
 #[error("Attempted to interact two `Date`s with different calendars")]
 pub struct MismatchedCalendarError;
 
+/// A date can't be read from a text of RFC 9557, or from what was read of one.
+#[derive(Clone, Copy, Debug, PartialEq, Error)]
+pub enum ParseError {
+    /// The text isn't of the form, or its month or its day doesn't exist.
+    #[error("Syntax error in the RFC 9557 string")]
+    Syntax,
+    /// There is no date.
+    #[error("Missing fields")]
+    MissingFields,
+    /// No algorithm has the calendar's name.
+    #[error("Unknown calendar")]
+    UnknownCalendar,
+    /// The text is of another calendar than the one that it is read into: the expected calendar, and the one that
+    /// was found.
+    #[error("Expected calendar {} but found calendar {}", .0.as_str(), .1.as_str())]
+    MismatchedCalendar(CalendarAlgorithm, CalendarAlgorithm),
+    /// A year, a month or a day is out of its range.
+    #[error("Value out of range: {0}")]
+    Range(RangeError),
+}
+
+/// A text isn't a duration.
+#[derive(Clone, Copy, Debug, PartialEq, Eq)]
+pub enum DateDurationParseError {
+    /// The text isn't an optional minus, `P`, and numbers that are each followed by `Y`, `M`, `W` or `D`.
+    InvalidStructure,
+    /// A part of a time begins, with `T`.
+    TimeNotSupported,
+    /// A unit has no number.
+    MissingValue,
+    /// A unit stands twice.
+    DuplicateUnit,
+    /// A number is above the greatest `u32`.
+    NumberOverflow,
+    /// The text begins with a plus.
+    PlusNotAllowed,
+}
+
 /// The calendar doesn't have the era.
 #[derive(Clone, Copy, Debug, PartialEq)]
 pub struct UnknownEraError;
@@ -237,6 +276,17 @@ impl From<RangeError> for DateError {
             min,
             max,
         }
+    }
+}
+
+/// [`ParseError::Range`].
+impl From<RangeError> for ParseError {
+    ghost use Rattle.cal_types.specs.declared.errors.ParseError.TheVariants.{Range};
+
+    ghost from_gives = { λ r e. e ≡ Range r };
+
+    fn from(e: RangeError) -> ParseError {
+        ParseError::Range(e)
     }
 }
 

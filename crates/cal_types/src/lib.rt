@@ -5,8 +5,10 @@
 #![tactic(auto)]
 
 pub mod algorithm;
+pub mod calendar_preference;
 pub mod day;
 pub mod duration;
+mod duration_text;
 pub mod errors;
 pub mod fields;
 pub mod month;
@@ -14,16 +16,19 @@ pub mod month_code;
 pub mod month_info;
 pub mod options;
 pub mod tiny;
+pub mod week_information;
 pub mod weekday;
+pub mod weekday_set;
 pub mod year;
 
 pub use algorithm::{CalendarAlgorithm, HijriCalendarAlgorithm};
-pub use day::{DayOfMonth, DayOfYear};
+pub use calendar_preference::CalendarPreference;
+pub use day::{DayOfMonth, DayOfWeekInMonth, DayOfYear, IsoWeekOfYear};
 pub use duration::{DateDuration, DateDurationUnit};
 pub use errors::{
-    DateAddError, DateError, DateFromFieldsError, DateNewError, EcmaReferenceYearError,
-    LunisolarDateError, MismatchedCalendarError, MonthCodeParseError, MonthError, RangeError,
-    TableFault, TablePart, TinyStrError, UnknownEraError,
+    DateAddError, DateDurationParseError, DateError, DateFromFieldsError, DateNewError,
+    EcmaReferenceYearError, LunisolarDateError, MismatchedCalendarError, MonthCodeParseError,
+    MonthError, ParseError, RangeError, TableFault, TablePart, TinyStrError, UnknownEraError,
 };
 pub use fields::DateFields;
 pub use month::Month;
@@ -33,5 +38,7 @@ pub use options::{
     DateAddOptions, DateDifferenceOptions, DateFromFieldsOptions, MissingFieldsStrategy, Overflow,
 };
 pub use tiny::TinyAsciiStr;
+pub use week_information::{WeekInformation, WeekdaySetIterator};
 pub use weekday::Weekday;
+pub use weekday_set::WeekdaySet;
 pub use year::{CyclicYear, EraYear, IntoYearInfo, YearAmbiguity, YearInfo, YearInput};

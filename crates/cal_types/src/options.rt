@@ -5,24 +5,46 @@ use crate::duration::DateDurationUnit;
 /// What becomes of a month or a day that the year or the month doesn't have.
 ///
 /// This is Temporal's option `overflow`.
-#[derive(Clone, Copy, Debug, PartialEq, Default)]
+#[derive(Clone, Copy, Debug, PartialEq)]
 pub enum Overflow {
     /// It becomes the nearest that there is.
     Constrain,
     /// It is an error.
-    #[default]
     Reject,
 }
 
+/// [`Overflow::Reject`].
+impl Default for Overflow {
+    ghost use Rattle.std.specs.Prelude.{◌≡◌};
+    ghost use Rattle.cal_types.specs.declared.options.Overflow.TheVariants.{Reject};
+
+    ghost is_default = { λ overflow. overflow ≡ Reject };
+
+    fn default() -> Overflow {
+        Overflow::Reject
+    }
+}
+
 /// What becomes of fields that name no whole date.
-#[derive(Clone, Copy, Debug, PartialEq, Default)]
+#[derive(Clone, Copy, Debug, PartialEq)]
 pub enum MissingFieldsStrategy {
     /// They are an error.
-    #[default]
     Reject,
     /// A missing year becomes a reference year, or a missing day the first of the month, as Temporal's
     /// `PlainMonthDay` and `PlainYearMonth` have it.
     Ecma,
+}
+
+/// [`MissingFieldsStrategy::Reject`].
+impl Default for MissingFieldsStrategy {
+    ghost use Rattle.std.specs.Prelude.{◌≡◌};
+    ghost use Rattle.cal_types.specs.declared.options.MissingFieldsStrategy.TheVariants.{Reject};
+
+    ghost is_default = { λ strategy. strategy ≡ Reject };
+
+    fn default() -> MissingFieldsStrategy {
+        MissingFieldsStrategy::Reject
+    }
 }
 
 /// How a date is made of fields. `None` stands for the option's default.

@@ -38,7 +38,8 @@ impl<const N: usize> Model for TinyAsciiStr<N> {
 
     ghost use Rattle.std.proofs.Common.{length-take-le, sym};
 
-    ghost inverse_ok = { λ s held i. record { bytes = sym held.zeros i; len = length-take-le s.len s.bytes held.fits i } };
+    ghost inverse_ok = { λ s held i.
+        record { bytes = sym held.zeros i; len = length-take-le s.len s.bytes held.fits i } };
 }
 
 impl<const N: usize> TinyAsciiStr<N> {

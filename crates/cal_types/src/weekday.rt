@@ -1,8 +1,8 @@
 //! Days of the week.
 
-ghost use Rattle.std.specs.Prelude.{◌≡◌, pos};
+ghost use Rattle.std.specs.Prelude.{◌≡◌, ◌<◌, pos};
 ghost use Rattle.std.specs.Int.{int_rem_euclid};
-ghost use Rattle.cal_types.specs.Weekday.{days_since_sunday};
+ghost use Rattle.cal_types.specs.Weekday.{days_since_sunday, next_weekday};
 
 use cal_days::RataDie;
 
@@ -38,6 +38,37 @@ impl Weekday {
             4 => Weekday::Thursday,
             5 => Weekday::Friday,
             _ => Weekday::Saturday,
+        }
+    }
+
+    /// How many days the weekday lies after Sunday, from 0 to 6.
+    pub(crate) const fn days_since_sunday(self) -> usize
+        ensures value { result ≡ days_since_sunday self }
+        ensures bound { result < 7 }
+    {
+        match self {
+            Weekday::Sunday => 0,
+            Weekday::Monday => 1,
+            Weekday::Tuesday => 2,
+            Weekday::Wednesday => 3,
+            Weekday::Thursday => 4,
+            Weekday::Friday => 5,
+            Weekday::Saturday => 6,
+        }
+    }
+
+    /// The day after.
+    pub(crate) const fn next(self) -> Weekday
+        ensures { result ≡ next_weekday self }
+    {
+        match self {
+            Weekday::Monday => Weekday::Tuesday,
+            Weekday::Tuesday => Weekday::Wednesday,
+            Weekday::Wednesday => Weekday::Thursday,
+            Weekday::Thursday => Weekday::Friday,
+            Weekday::Friday => Weekday::Saturday,
+            Weekday::Saturday => Weekday::Sunday,
+            Weekday::Sunday => Weekday::Monday,
         }
     }
 }

@@ -135,6 +135,36 @@ fn range_errors_print_their_texts(rt: HostRuntime) -> Result<(), Fail> {
 }
 
 #[test]
+fn parse_errors_print_their_texts(rt: HostRuntime) -> Result<(), Fail> {
+    let range = RangeError {
+        field: "month",
+        value: 13,
+        min: 1,
+        max: 12,
+    };
+    for (error, want) in [
+        (ParseError::Syntax, "Syntax error in the RFC 9557 string"),
+        (ParseError::MissingFields, "Missing fields"),
+        (ParseError::UnknownCalendar, "Unknown calendar"),
+        (
+            ParseError::MismatchedCalendar(
+                CalendarAlgorithm::Gregory,
+                CalendarAlgorithm::Hijri(None),
+            ),
+            "Expected calendar gregory but found calendar islamic",
+        ),
+        (
+            ParseError::from(range),
+            "Value out of range: The month = 13 argument is out of range 1..=12",
+        ),
+    ] {
+        let text = format!(in rt.alloc(); "{error}")?;
+        assert_eq!(rt; text.as_str(), want);
+    }
+    Ok(())
+}
+
+#[test]
 fn table_faults_print_their_texts(rt: HostRuntime) -> Result<(), Fail> {
     for (part, want) in [
         (TablePart::Year, "year"),

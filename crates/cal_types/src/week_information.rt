@@ -1,0 +1,99 @@
+//! Which day a week begins with, and which days are its weekend, as CLDR's week data (UTS 35) say it of a region.
+
+ghost use Rattle.std.specs.Prelude.{◌≡◌, ◌≤◌};
+ghost use Rattle.std.specs.Iterator.{YieldsFirst, item_count};
+ghost use Rattle.cal_types.specs.WeekdaySet.{days_of_week, weekdays_left};
+
+use crate::weekday::Weekday;
+use crate::weekday_set::WeekdaySet;
+
+/// The first day of a week, and the days of the weekend.
+#[derive(Clone, Copy, Debug)]
+pub struct WeekInformation {
+    /// The day that a week begins with.
+    pub first_weekday: Weekday,
+    /// The days of the weekend.
+    pub weekend: WeekdaySet,
+}
+
+impl WeekInformation {
+    /// Weeks that begin with this day and have this weekend.
+    pub fn new(first_weekday: Weekday, weekend: WeekdaySet) -> Self
+        ensures first { result.first_weekday ≡ first_weekday }
+        ensures weekend { result.weekend ≡ weekend }
+    {
+        WeekInformation {
+            first_weekday,
+            weekend,
+        }
+    }
+
+    /// The days of the weekend, each once, from the first day of the week on.
+    pub fn weekend(self) -> WeekdaySetIterator
+        ensures { weekdays_left result ≡ days_of_week self.weekend self.first_weekday }
+    {
+        WeekdaySetIterator {
+            set: self.weekend,
+            next: self.first_weekday,
+            left: 7,
+        }
+    }
+}
+
+/// Days of a set, each once, in the order of a week.
+#[derive(Clone, Copy, Debug, PartialEq)]
+pub struct WeekdaySetIterator {
+    set: WeekdaySet,
+    /// The day that is looked at next.
+    next: Weekday,
+    /// How many days are still to be looked at.
+    left: u8,
+}
+
+impl Iterator for WeekdaySetIterator {
+    type Item = Weekday;
+
+    ghost next_gives = { YieldsFirst weekdays_left };
+
+    ghost remaining = { item_count weekdays_left };
+
+    fn next(&mut self) -> Option<Weekday> {
+        while self.left > 0 {
+            let day = self.next;
+            self.next = day.next();
+            self.left -= 1;
+            if self.set.contains(day) {
+                return Some(day);
+            }
+        }
+        None
+    }
+}
+
+#[cfg(test)]
+mod tests {
+    use super::*;
+
+    #[test]
+    fn a_weekend_begins_with_the_first_of_its_days_in_the_week(rt: HostRuntime) {
+        let weekend = WeekdaySet::new(&[Weekday::Saturday, Weekday::Sunday]);
+        for (first, days) in [
+            (Weekday::Sunday, [Weekday::Sunday, Weekday::Saturday]),
+            (Weekday::Monday, [Weekday::Saturday, Weekday::Sunday]),
+            (Weekday::Saturday, [Weekday::Saturday, Weekday::Sunday]),
+        ] {
+            let mut left = WeekInformation::new(first, weekend).weekend();
+            assert_eq!(rt; left.next(), Some(days[0]));
+            assert_eq!(rt; left.next(), Some(days[1]));
+            assert_eq!(rt; left.next(), None);
+            assert_eq!(rt; left.next(), None);
+        }
+    }
+
+    #[test]
+    fn a_week_without_a_weekend_has_no_days_of_it(rt: HostRuntime) {
+        let none = WeekdaySet::new(&[]);
+        let mut left = WeekInformation::new(Weekday::Monday, none).weekend();
+        assert_eq!(rt; left.next(), None);
+    }
+}

@@ -1,0 +1,52 @@
+//! Sets of days of the week.
+
+ghost use Rattle.std.specs.Prelude.{◌≡◌};
+ghost use Rattle.cal_types.specs.WeekdaySet.{in_set, is_one_of};
+ghost use Rattle.cal_types.specs.declared.weekday.Weekday.{Weekday};
+
+use crate::weekday::Weekday;
+
+/// A set of days of the week.
+#[derive(Clone, Copy, Debug, PartialEq)]
+pub struct WeekdaySet {
+    /// Whether the day is in the set, from Sunday on.
+    held: [bool; 7],
+}
+
+impl WeekdaySet {
+    /// The set of these days.
+    pub const fn new(days: &[Weekday]) -> Self
+        ensures { (day : Weekday) → in_set result day ≡ is_one_of days.now day }
+    {
+        let mut held = [false; 7];
+        let mut i = 0;
+        while i < days.len() {
+            held[days[i].days_since_sunday()] = true;
+            i += 1;
+        }
+        WeekdaySet { held }
+    }
+
+    /// Whether the set has the day.
+    pub const fn contains(&self, day: Weekday) -> bool
+        ensures { result ≡ in_set self.now day }
+    {
+        self.held[day.days_since_sunday()]
+    }
+}
+
+#[cfg(test)]
+mod tests {
+    use super::*;
+
+    #[test]
+    fn a_set_has_its_days_in_any_order(rt: HostRuntime) {
+        let weekend = WeekdaySet::new(&[Weekday::Saturday, Weekday::Sunday]);
+        let turned = WeekdaySet::new(&[Weekday::Sunday, Weekday::Saturday, Weekday::Sunday]);
+        assert_eq!(rt; weekend, turned);
+        assert!(rt; weekend != WeekdaySet::new(&[Weekday::Saturday]));
+        assert!(rt; weekend.contains(Weekday::Saturday) && weekend.contains(Weekday::Sunday));
+        assert!(rt; !weekend.contains(Weekday::Monday) && !weekend.contains(Weekday::Friday));
+        assert!(rt; !WeekdaySet::new(&[]).contains(Weekday::Sunday));
+    }
+}
