@@ -1,4 +1,4 @@
--- Places of months that were found, and numbers that were tested.
+-- Places of months that were found, eras that were read, and numbers that were tested.
 use Rattle.std.proofs.Common.{◌≡◌, ℕ, ℤ, ◌≤◌, Bool, true, false, Option, Some, None, Result, Ok, Err, refl, ap, ◌∙◌, arith}
 use Rattle.std.specs.Prelude.{◌&&◌, nat_le}
 use Rattle.std.proofs.lemmas.Bool.Decides.{nat_tests}
@@ -8,6 +8,7 @@ use Rattle.cal_types.specs.declared.errors.MonthError.{MonthError}
 use Rattle.cal_types.specs.declared.errors.MonthError.TheVariants.{NotInCalendar, NotInYear}
 use Rattle.cal_model.specs.CalendarList.{CalendarList, HasPlace, spot}
 use Rattle.cal_model.proofs.ListLemmas.{spot-place}
+use Rattle.cal_arith.specs.FieldNames.{era_read}
 use Rattle.cal_arith.specs.Places.{ordinal_month}
 
 -- a number that passes the test lies from 1 to the last one
@@ -31,3 +32,8 @@ ordinal_month-ok c y m o i e = known (c.is_of_kind m) (spot c y m o) refl refl w
 -- so the year has it
 pub ordinal_month-place : (c : CalendarList) (y : ℤ) (m : MonthParts) (o : Overflow) (i : ℕ) → ordinal_month c y m o ≡ Ok i → HasPlace c y i
 ordinal_month-place c y m o i e = spot-place c y m o i (ordinal_month-ok c y m o i e).1
+
+-- an era that is read has the year
+pub era_read-ok : (r : Option ℤ) (y : ℤ) → Ok y ≡ era_read r → r ≡ Some y
+era_read-ok None y e = cc
+era_read-ok (Some z) y e = cc

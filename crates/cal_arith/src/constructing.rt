@@ -6,6 +6,7 @@ ghost use Rattle.cal_types.specs.MonthParts.{month_parts};
 ghost use Rattle.cal_types.specs.declared.errors.DateNewError.TheVariants.{InvalidYear, InvalidEra};
 ghost use Rattle.cal_model.specs.Constructing.{made_date, made_day, made_in_year, year_given, year_read};
 ghost use Rattle.cal_arith.specs.Dates.{answer_by, answer_of, date_of, Belongs};
+ghost use Rattle.cal_arith.specs.FieldNames.{era_read};
 ghost use Rattle.cal_arith.specs.Given.{HasMonth, IsGiven};
 
 use crate::arithmetic_date::ArithmeticDate;
@@ -13,22 +14,38 @@ use crate::dates::Ymd;
 use crate::getters::is_up_to;
 use crate::years::{DateFieldsResolver, YearShapes, Years};
 use cal_days::ranges::MAX_CONSTRUCTOR_YEAR;
-use cal_types::{DateNewError, Month, MonthError, Overflow, YearInput};
+use cal_types::{DateNewError, Month, MonthError, Overflow, UnknownEraError, YearInput};
 
 /// Whether constructors take a year.
-fn is_small_year(year: i32) -> bool
+pub(crate) fn is_small_year(year: i32) -> bool
     ensures { result ≡ is_constructor_year year }
 {
     -MAX_CONSTRUCTOR_YEAR <= year && year <= MAX_CONSTRUCTOR_YEAR
 }
 
 /// The extended year of an era and a year in it, from -9999 to 9999.
+pub(crate) fn year_in_era<C: DateFieldsResolver>(
+    era: &str,
+    year: i32,
+    cal: &C,
+) -> Result<i32, UnknownEraError>
+    requires { IsConstructorYear year }
+    ensures year { result ≡ era_read ((C.names cal.now).reads era.now year) }
+    ensures range { IfOk result (λ y. IsCoveredYear y) }
+{
+    match cal.extended_year_from_era_year_unchecked(era.as_bytes(), year) {
+        Ok(year) => Ok(year),
+        Err(e) => Err(e),
+    }
+}
+
+/// The same, with the fault of a date that is made of a year, a month and a day.
 fn year_of_era<C: DateFieldsResolver>(era: &str, year: i32, cal: &C) -> Result<i32, DateNewError>
     requires { IsConstructorYear year }
     ensures year { result ≡ ok_or ((C.names cal.now).reads era.now year) InvalidEra }
     ensures range { IfOk result (λ y. IsCoveredYear y) }
 {
-    match cal.extended_year_from_era_year_unchecked(era.as_bytes(), year) {
+    match year_in_era(era, year, cal) {
         Ok(year) => Ok(year),
         Err(e) => Err(DateNewError::from(e)),
     }
@@ -52,7 +69,7 @@ fn extended_year_of<C: DateFieldsResolver>(
 
 /// The date of a year, a month and a day, or the first fault.
 #[tactic(auto, unfolding(cal_model::specs::Constructing::made_date))]
-fn date_of_input<C: DateFieldsResolver>(
+pub(crate) fn date_of_input<C: DateFieldsResolver>(
     year: YearInput<'_>,
     month: Month,
     day: u8,

@@ -18,6 +18,7 @@ mod month_names;
 mod months;
 mod months_between;
 mod past;
+mod placing;
 pub mod steps;
 #[cfg(test)]
 mod tests;

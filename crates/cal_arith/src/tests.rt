@@ -4,4 +4,5 @@ mod alternating_months;
 mod counted_look_ups;
 mod dates;
 mod made_dates;
+mod placed_dates;
 mod shown_dates;

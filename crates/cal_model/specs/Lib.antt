@@ -10,6 +10,7 @@ pub mod YearList
 pub mod ListedYears
 pub mod Adding
 pub mod Constructing
+pub mod Placing
 pub mod DateOrder
 pub mod PlainMonths
 pub mod RenumberedBounds

@@ -1,12 +1,7 @@
-use Rattle.std.proofs.Common.{◌≡◌, ℤ, Option, Some, None, Ok, to_z, of_z, w32, arith}
+use Rattle.std.proofs.Common.{◌≡◌, to_z, of_z, w32, arith}
 use Rattle.cal_days.proofs.Signed.{signed}
-use Rattle.cal_arith.specs.FieldNames.{era_read}
-use Rattle.cal_arith.proofs.constructing.year_of_era.Goals as goal
-
--- an era that is read has the year
-era_read-ok : (r : Option ℤ) (y : ℤ) → Ok y ≡ era_read r → r ≡ Some y
-era_read-ok None y e = cc
-era_read-ok (Some z) y e = cc
+use Rattle.cal_arith.proofs.FieldLemmas.{era_read-ok}
+use Rattle.cal_arith.proofs.constructing.year_in_era.Goals as goal
 
 pub returns-in-Ok-clause-range : goal.returns-in-Ok-clause-range
 returns-in-Ok-clause-range g c =

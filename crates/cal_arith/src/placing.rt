@@ -1,0 +1,256 @@
+//! Dates of a year, an ordinal month and a day, and of a year, a month and a day without an era, as the constructors of
+//! `Date` for one calendar make them in icu_calendar.
+
+ghost use Rattle.std.specs.Prelude.{◌≡◌, Some, None, IfOk, IfSome, pos, if◌then◌else◌};
+ghost use Rattle.std.specs.Result.{result_map_both};
+ghost use Rattle.cal_days.specs.Day.{IsConstructorYear, IsCoveredYear, is_constructor_year};
+ghost use Rattle.cal_types.specs.MonthParts.{month_parts};
+ghost use Rattle.cal_types.specs.RangeParts.{range_parts, date_fault};
+ghost use Rattle.cal_types.specs.declared.year.YearInput.TheVariants.{Extended};
+ghost use Rattle.cal_model.specs.Constructing.{made_date};
+ghost use Rattle.cal_model.specs.Placing.{lunisolar_answer, lunisolar_fault, out_of_range, placed_date, placed_day, placed_in_era, placed_in_year, placed_of_era, year_out_of_range};
+ghost use Rattle.cal_arith.specs.Dates.{answer_by, date_of, Belongs};
+ghost use Rattle.cal_arith.specs.Given.{HasMonth, IsGiven};
+
+use crate::arithmetic_date::ArithmeticDate;
+use crate::constructing::{date_of_input, is_small_year, year_in_era};
+use crate::dates::Ymd;
+use crate::getters::is_up_to;
+use crate::years::{DateFieldsResolver, YearShapes};
+use cal_days::ranges::MAX_CONSTRUCTOR_YEAR;
+use cal_types::{DateError, DateNewError, LunisolarDateError, Month, RangeError, YearInput};
+
+/// A number isn't from 1 to the greatest that is allowed.
+fn not_up_to(field: &'static str, value: u8, max: u8) -> RangeError
+    ensures { range_parts result ≡ out_of_range field.now (pos value) (pos 1) (pos max) }
+{
+    RangeError {
+        field,
+        value: i32::from(value),
+        min: 1,
+        max: i32::from(max),
+    }
+}
+
+/// A year isn't from -9999 to 9999.
+fn not_small(year: i32) -> RangeError
+    ensures { range_parts result ≡ year_out_of_range year }
+{
+    RangeError {
+        field: "year",
+        value: year,
+        min: -MAX_CONSTRUCTOR_YEAR,
+        max: MAX_CONSTRUCTOR_YEAR,
+    }
+}
+
+/// A year, where constructors take it.
+fn small_year(year: i32) -> Option<i32>
+    ensures year { result ≡ (if is_constructor_year year then Some year else None) }
+    ensures small { IfSome result (λ y. IsConstructorYear y) }
+    ensures covered { IfSome result (λ y. IsCoveredYear y) }
+{
+    if is_small_year(year) {
+        Some(year)
+    } else {
+        None
+    }
+}
+
+/// The date of a day of a month in its place, or that the month doesn't have the day.
+fn placed_day<C: YearShapes>(
+    year: C::YearInfo,
+    month: u8,
+    day: u8,
+    cal: &C,
+) -> Result<Ymd<C::YearInfo>, RangeError>
+    requires range { IsCoveredYear ((C.years cal.now).extended year) }
+    requires month { HasMonth (C.years cal.now) year month }
+    ensures placed { let y = C.years cal.now in
+        result_map_both (date_of y) range_parts result ≡ placed_day y.list (y.extended year) month day }
+    ensures belongs { IfOk result (λ d. Belongs (C.years cal.now) d) }
+{
+    let last = cal.days_in_provided_month(year, month);
+    if is_up_to(day, last) {
+        Ok(Ymd { year, month, day })
+    } else {
+        Err(not_up_to("day", day, last))
+    }
+}
+
+/// The date of an ordinal month and a day of a given year, or the first of the two that is out of its range.
+fn placed_in_year<C: YearShapes>(
+    year: C::YearInfo,
+    month: u8,
+    day: u8,
+    cal: &C,
+) -> Result<Ymd<C::YearInfo>, RangeError>
+    requires year { IsGiven (C.years cal.now) year }
+    requires range { IsCoveredYear ((C.years cal.now).extended year) }
+    ensures placed { let y = C.years cal.now in
+        result_map_both (date_of y) range_parts result ≡ placed_in_year y.list (y.extended year) month day }
+    ensures belongs { IfOk result (λ d. Belongs (C.years cal.now) d) }
+{
+    let last = cal.months_in_provided_year(year);
+    if is_up_to(month, last) {
+        placed_day(year, month, day, cal)
+    } else {
+        Err(not_up_to("month", month, last))
+    }
+}
+
+/// The date of an ordinal month and a day of an extended year whose days are valid, or the first of the two that is out
+/// of its range.
+fn placed_in_extended_year<C: DateFieldsResolver>(
+    year: i32,
+    month: u8,
+    day: u8,
+    cal: &C,
+) -> Result<Ymd<C::YearInfo>, RangeError>
+    requires { IsCoveredYear year }
+    ensures placed { let y = C.years cal.now in
+        result_map_both (date_of y) range_parts result ≡ placed_in_year y.list year month day }
+    ensures belongs { IfOk result (λ d. Belongs (C.years cal.now) d) }
+{
+    placed_in_year(cal.year_info_from_extended(year), month, day, cal)
+}
+
+/// The date of a year, an ordinal month and a day, or the first of them that is out of its range.
+#[tactic(auto, unfolding(cal_model::specs::Placing::placed_date))]
+fn placed<C: DateFieldsResolver>(
+    year: i32,
+    month: u8,
+    day: u8,
+    cal: &C,
+) -> Result<Ymd<C::YearInfo>, RangeError>
+    ensures placed { let y = C.years cal.now in
+        result_map_both (date_of y) range_parts result ≡ placed_date y.list year month day }
+    ensures belongs { IfOk result (λ d. Belongs (C.years cal.now) d) }
+{
+    match small_year(year) {
+        Some(number) => placed_in_extended_year(number, month, day, cal),
+        None => Err(not_small(year)),
+    }
+}
+
+/// The date of an ordinal month and a day of a year in an era, which constructors take; or the first fault.
+fn placed_in_era<C: DateFieldsResolver>(
+    era: &str,
+    year: i32,
+    month: u8,
+    day: u8,
+    cal: &C,
+) -> Result<Ymd<C::YearInfo>, DateError>
+    requires { IsConstructorYear year }
+    ensures placed { let y = C.years cal.now in let read = (C.names cal.now).reads era.now year in
+        result_map_both (date_of y) date_fault result ≡ placed_in_era y.list read month day }
+    ensures belongs { IfOk result (λ d. Belongs (C.years cal.now) d) }
+{
+    match year_in_era(era, year, cal) {
+        Ok(number) => match placed_in_extended_year(number, month, day, cal) {
+            Ok(date) => Ok(date),
+            Err(cause) => Err(DateError::from(cause)),
+        },
+        Err(cause) => Err(DateError::from(cause)),
+    }
+}
+
+/// The date of an era, a year in it, an ordinal month and a day, or the first fault.
+#[tactic(auto, unfolding(cal_model::specs::Placing::placed_of_era))]
+fn placed_of_era<C: DateFieldsResolver>(
+    era: &str,
+    year: i32,
+    month: u8,
+    day: u8,
+    cal: &C,
+) -> Result<Ymd<C::YearInfo>, DateError>
+    ensures placed { let y = C.years cal.now in
+        result_map_both (date_of y) date_fault result
+        ≡ placed_of_era y.list (C.names cal.now) era.now year month day }
+    ensures belongs { IfOk result (λ d. Belongs (C.years cal.now) d) }
+{
+    match small_year(year) {
+        Some(number) => placed_in_era(era, number, month, day, cal),
+        None => Err(DateError::from(not_small(year))),
+    }
+}
+
+/// The fault of a lunisolar date, which names no era.
+fn lunisolar_cause(cause: DateNewError) -> LunisolarDateError
+    ensures { result ≡ lunisolar_fault cause }
+{
+    match cause {
+        DateNewError::InvalidYear | DateNewError::InvalidEra => LunisolarDateError::InvalidYear,
+        DateNewError::MonthNotInCalendar => LunisolarDateError::MonthNotInCalendar,
+        DateNewError::MonthNotInYear => LunisolarDateError::MonthNotInYear,
+        DateNewError::InvalidDay { max } => LunisolarDateError::InvalidDay { max },
+    }
+}
+
+impl<C: DateFieldsResolver> ArithmeticDate<C> {
+    /// The date of an extended year, a month and a day, as the constructors of lunisolar calendars in icu_calendar
+    /// make it: none of them is changed.
+    ///
+    /// In this order: [`LunisolarDateError::InvalidYear`] comes for a year that isn't from -9999 to 9999;
+    /// [`LunisolarDateError::MonthNotInCalendar`] for a month that no year has, and
+    /// [`LunisolarDateError::MonthNotInYear`] where this year lacks it; and [`LunisolarDateError::InvalidDay`] for a
+    /// day that isn't from 1 to the month's length.
+    pub fn try_from_ymd_lunisolar(
+        year: i32,
+        month: Month,
+        day: u8,
+        calendar: &C,
+    ) -> Result<Self, LunisolarDateError>
+        ensures made { let y = C.years calendar.now in
+            answer_by (λ a. date_of y (C.YearInfo.parts a.packed)) result ≡ lunisolar_answer
+            (made_date y.list (C.names calendar.now) (Extended year) (month_parts month) day) }
+        ensures belongs { IfOk result (λ a. Belongs (C.years calendar.now) (C.YearInfo.parts a.packed)) }
+    {
+        match date_of_input(YearInput::Extended(year), month, day, calendar) {
+            Ok(date) => Ok(ArithmeticDate::from_parts(date, calendar)),
+            Err(cause) => Err(lunisolar_cause(cause)),
+        }
+    }
+
+    /// The date of an extended year, the place of a month in it and a day, as the constructors of one calendar in
+    /// icu_calendar make it: none of them is changed.
+    ///
+    /// The [`RangeError`] names the first that is out of its range: `year` from -9999 to 9999, `month` from 1 to the
+    /// year's count of months, or `day` from 1 to the month's length.
+    pub fn from_year_month_day(year: i32, month: u8, day: u8, cal: &C) -> Result<Self, RangeError>
+        ensures placed { let y = C.years cal.now in
+            result_map_both (λ a. date_of y (C.YearInfo.parts a.packed)) range_parts result
+            ≡ placed_date y.list year month day }
+        ensures belongs { IfOk result (λ a. Belongs (C.years cal.now) (C.YearInfo.parts a.packed)) }
+    {
+        match placed(year, month, day, cal) {
+            Ok(date) => Ok(ArithmeticDate::from_parts(date, cal)),
+            Err(cause) => Err(cause),
+        }
+    }
+
+    /// The date of an era's code, a year in the era, the place of a month and a day, as the constructor of the Japanese
+    /// calendar in icu_calendar makes it: none of them is changed.
+    ///
+    /// In this order: [`DateError::Range`] comes for a year in the era, `year`, that isn't from -9999 to 9999;
+    /// [`DateError::UnknownEra`] for a code that isn't one of the calendar's; and [`DateError::Range`] for a place,
+    /// `month`, that isn't from 1 to the year's count of months, and for a `day` that isn't from 1 to the month's
+    /// length.
+    pub fn from_era_year_month_day(
+        era: &str,
+        year: i32,
+        month: u8,
+        day: u8,
+        cal: &C,
+    ) -> Result<Self, DateError>
+        ensures placed { let y = C.years cal.now in
+            result_map_both (λ a. date_of y (C.YearInfo.parts a.packed)) date_fault result
+            ≡ placed_of_era y.list (C.names cal.now) era.now year month day }
+        ensures belongs { IfOk result (λ a. Belongs (C.years cal.now) (C.YearInfo.parts a.packed)) }
+    {
+        match placed_of_era(era, year, month, day, cal) {
+            Ok(date) => Ok(ArithmeticDate::from_parts(date, cal)),
+            Err(cause) => Err(cause),
+        }
+    }
+}
