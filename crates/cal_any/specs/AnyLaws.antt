@@ -5,47 +5,56 @@ use Rattle.std.specs.Ordering.{int_cmp, int_eq}
 use Rattle.std.specs.Cmp.{IsEquivalence, on_equiv, int_eq_equiv}
 use Rattle.std.specs.Cmp.Lexicographic.{lists_equiv}
 use Rattle.std.specs.declared.cmp.Ordering.{Ordering}
+use Rattle.cal_days.specs.Day.{IsCoveredYear, IsFieldYear, IsValidDay}
 use Rattle.cal_types.specs.Year.{extended_year_of}
-use Rattle.cal_model.specs.CalendarList.{CalendarList, Date, IsLawful, IsValidDate, day_number}
+use Rattle.cal_model.specs.CalendarList.{CalendarList, Date, IsDate, IsLawful, IsValidDate, day_number}
 use Rattle.cal_model.proofs.DateTests.{and-left, and-right, true-and, is_valid_date-true, true-is_valid_date}
 use Rattle.cal_model.specs.DateOrder.{date_eq, date_cmp}
 use Rattle.cal_model.proofs.OrderLemmas.{dates-equal, dates-ordered}
 use Rattle.cal_model.specs.Renumbered.{counted_date}
+use Rattle.cal_model.proofs.RenumberedBoundLemmas.{ranged-renumbered, covered-renumbered}
 use Rattle.cal_model.proofs.CountedDateLemmas.{counted-valid, valid-counted, day_number-counted}
 use Rattle.cal_base.specs.GregorianList.{gregorian_list}
-use Rattle.cal_base.specs.OffsetListLaws.{offset_list-lawful}
+use Rattle.cal_base.specs.OffsetListLaws.{offset_list-lawful, offset_list-ranged, offset_list-covered, true-offset}
 use Rattle.cal_coptic.specs.CopticList.{coptic_list}
-use Rattle.cal_coptic.specs.CopticLaws.{coptic_list-lawful}
+use Rattle.cal_coptic.specs.CopticLaws as coptic_bounds
+use Rattle.cal_coptic.specs.CopticLaws.{coptic_list-lawful, coptic_list-bounded}
 use Rattle.cal_coptic.specs.EthiopianList.{coptic_offset, ethiopian_list}
-use Rattle.cal_coptic.specs.EthiopianLaws.{ethiopian_list-lawful, ethiopian_year-named}
+use Rattle.cal_coptic.specs.EthiopianLaws.{ethiopian_list-lawful, ethiopian_year-named, coptic_offset-small}
 use Rattle.cal_gregory.specs.BuddhistEra.{buddhist_offset}
 use Rattle.cal_gregory.specs.CommonEraLaws.{common_era-named}
 use Rattle.cal_gregory.specs.JapaneseLaws.{japanese_era-named}
 use Rattle.cal_gregory.specs.RocEra.{roc_offset}
 use Rattle.cal_gregory.specs.RocEraLaws.{roc_era-named}
 use Rattle.cal_hebrew.specs.HebrewList.{hebrew_list}
+use Rattle.cal_hebrew.specs.HebrewLaws as hebrew_bounds
 use Rattle.cal_hebrew.specs.HebrewMonths.{hebrew_list-lawful}
 use Rattle.cal_east_asian.specs.ComputedLaws.{computed_year}
 use Rattle.cal_east_asian.specs.EastAsianList.{east_asian_list}
 use Rattle.cal_east_asian.specs.EastAsianListLaws.{east_asian_list-lawful}
+use Rattle.cal_east_asian.specs.EastAsianStartLaws as east_asian_bounds
 use Rattle.cal_east_asian.specs.SameYears.{same_year}
 use Rattle.cal_east_asian.specs.TableRules as tables
 use Rattle.cal_east_asian.specs.TableRules.{same_lists, same_year-alike}
 use Rattle.cal_east_asian.specs.TableYears.{chosen_year}
 use Rattle.cal_east_asian.specs.declared.sides.Side.{Side}
 use Rattle.cal_east_asian.specs.declared.sides.Side.TheVariants.{China, Korea}
+use Rattle.cal_hijri.specs.HijriBounds as hijri_bounds
 use Rattle.cal_hijri.specs.HijriList.{hijri_list, has_parts_of}
 use Rattle.cal_hijri.specs.HijriNames.{years-named}
 use Rattle.cal_hijri.specs.HijriShapes.{hijri_list-lawful}
-use Rattle.cal_hijri.specs.TableRules.{table_year, table-shared, same_rows-equivalence}
-use Rattle.cal_hijri.specs.TabularRules.{tabular_year, tabular-shared, same_rules-equivalence}
+use Rattle.cal_hijri.specs.TableRules.{table_year, table-numbered, table-joins, table-shared, same_rows-equivalence}
+use Rattle.cal_hijri.specs.TabularRules.{tabular_year, tabular-numbered, tabular-joins, tabular-shared, same_rules-equivalence}
 use Rattle.cal_julian.specs.IndianList.{indian_list}
+use Rattle.cal_julian.specs.IndianLaws as indian_bounds
 use Rattle.cal_julian.specs.IndianLaws.{indian_list-lawful}
 use Rattle.cal_julian.specs.JulianList.{julian_list}
+use Rattle.cal_julian.specs.JulianLaws as julian_bounds
 use Rattle.cal_julian.specs.JulianLaws.{julian_list-lawful}
 use Rattle.cal_julian.specs.JulianSystemLaws.{julian_year_info-named}
 use Rattle.cal_julian.specs.PersianCorrected.{corrected_years}
 use Rattle.cal_julian.specs.PersianList.{persian_list}
+use Rattle.cal_julian.specs.PersianLaws as persian_bounds
 use Rattle.cal_julian.specs.PersianLaws.{persian_list-lawful, same_years}
 use Rattle.cal_any.specs.AnySystem.{any_system, any_date, any_belongs, any_compatible, calendar_kind, table_tests}
 use Rattle.cal_any.specs.AnySystem.{kept_list, extended_date, is_kept, is_valid_kept, keeps_given_year}
@@ -74,6 +83,47 @@ any_lawful (calendar.JapaneseExtended _) = offset_list-lawful (pos 0)
 any_lawful (calendar.Julian _) = julian_list-lawful
 any_lawful (calendar.Persian c) = persian_list-lawful (corrected_years c)
 any_lawful (calendar.Roc _) = offset_list-lawful roc_offset
+
+-- the extended years of valid dates are small
+pub any_ranged : (c : AnyCalendar) (t : Date) → IsValidDate (any_system c).list t → IsFieldYear t.year
+any_ranged (calendar.Buddhist _) t h = offset_list-ranged buddhist_offset (true-offset buddhist_offset refl) t h
+any_ranged (calendar.Chinese c) t h = (east_asian_bounds.years-ranged (tables.table_year c.0.table) (tables.table-years c.0.table) t h).0
+any_ranged (calendar.Coptic _) t h = (coptic_bounds.years-ranged t h).0
+any_ranged (calendar.Dangi c) t h = (east_asian_bounds.years-ranged (tables.table_year c.0.table) (tables.table-years c.0.table) t h).0
+any_ranged (calendar.Ethiopian c) t h = (ranged-renumbered (coptic_offset c.era_style) (coptic_offset-small c.era_style) coptic_list coptic_list-bounded t h).0
+any_ranged (calendar.Gregorian _) t h = offset_list-ranged (pos 0) (true-offset (pos 0) refl) t h
+any_ranged (calendar.Hebrew _) t h = (hebrew_bounds.years-ranged t h).0
+any_ranged (calendar.HijriSimulated c) t h = (hijri_bounds.years-ranged (table_year c.0.table.rows.now) (table-numbered c.0.table.rows.now c.0.table.accepted) (table-joins c.0.table.rows.now c.0.table.accepted) t h).0
+any_ranged (calendar.HijriTabular c) t h = (hijri_bounds.years-ranged (tabular_year c.0) (tabular-numbered c.0) (tabular-joins c.0) t h).0
+any_ranged (calendar.HijriUmmAlQura c) t h = (hijri_bounds.years-ranged (table_year c.0.table.rows.now) (table-numbered c.0.table.rows.now c.0.table.accepted) (table-joins c.0.table.rows.now c.0.table.accepted) t h).0
+any_ranged (calendar.Indian _) t h = (indian_bounds.years-ranged t h).0
+any_ranged (calendar.Iso _) t h = offset_list-ranged (pos 0) (true-offset (pos 0) refl) t h
+any_ranged (calendar.Japanese _) t h = offset_list-ranged (pos 0) (true-offset (pos 0) refl) t h
+any_ranged (calendar.JapaneseExtended _) t h = offset_list-ranged (pos 0) (true-offset (pos 0) refl) t h
+any_ranged (calendar.Julian _) t h = (julian_bounds.years-ranged t h).0
+any_ranged (calendar.Persian c) t h = (persian_bounds.years-ranged (corrected_years c) c.corrections.known t h).0
+any_ranged (calendar.Roc _) t h = offset_list-ranged roc_offset (true-offset roc_offset refl) t h
+
+-- the days of small years are valid
+pub any_covered : (c : AnyCalendar) (t : Date) → IsCoveredYear t.year → IsDate (any_system c).list t
+    → IsValidDay (day_number (any_system c).list t)
+any_covered (calendar.Buddhist _) t y h = offset_list-covered buddhist_offset (true-offset buddhist_offset refl) t y h
+any_covered (calendar.Chinese c) t y h = east_asian_bounds.days-covered (tables.table_year c.0.table) (tables.table-years c.0.table) t y h
+any_covered (calendar.Coptic _) t y h = coptic_bounds.days-covered t y h
+any_covered (calendar.Dangi c) t y h = east_asian_bounds.days-covered (tables.table_year c.0.table) (tables.table-years c.0.table) t y h
+any_covered (calendar.Ethiopian c) t y h = covered-renumbered (coptic_offset c.era_style) (coptic_offset-small c.era_style) coptic_list coptic_list-bounded t y h
+any_covered (calendar.Gregorian _) t y h = offset_list-covered (pos 0) (true-offset (pos 0) refl) t y h
+any_covered (calendar.Hebrew _) t y h = hebrew_bounds.days-covered t y h
+any_covered (calendar.HijriSimulated c) t y h = hijri_bounds.days-covered (table_year c.0.table.rows.now) (table-numbered c.0.table.rows.now c.0.table.accepted) (table-joins c.0.table.rows.now c.0.table.accepted) t y h
+any_covered (calendar.HijriTabular c) t y h = hijri_bounds.days-covered (tabular_year c.0) (tabular-numbered c.0) (tabular-joins c.0) t y h
+any_covered (calendar.HijriUmmAlQura c) t y h = hijri_bounds.days-covered (table_year c.0.table.rows.now) (table-numbered c.0.table.rows.now c.0.table.accepted) (table-joins c.0.table.rows.now c.0.table.accepted) t y h
+any_covered (calendar.Indian _) t y h = indian_bounds.days-covered t y h
+any_covered (calendar.Iso _) t y h = offset_list-covered (pos 0) (true-offset (pos 0) refl) t y h
+any_covered (calendar.Japanese _) t y h = offset_list-covered (pos 0) (true-offset (pos 0) refl) t y h
+any_covered (calendar.JapaneseExtended _) t y h = offset_list-covered (pos 0) (true-offset (pos 0) refl) t y h
+any_covered (calendar.Julian _) t y h = julian_bounds.days-covered t y h
+any_covered (calendar.Persian c) t y h = persian_bounds.days-covered (corrected_years c) c.corrections.known t y h
+any_covered (calendar.Roc _) t y h = offset_list-covered roc_offset (true-offset roc_offset refl) t y h
 
 pub any_named : (c : AnyCalendar) (t : Date) → extended_year_of ((any_system c).year_info t) ≡ t.year
 any_named (calendar.Buddhist _) t = refl

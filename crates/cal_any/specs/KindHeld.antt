@@ -1,4 +1,5 @@
 -- The kind that a calendar is of.
+use Rattle.std.specs.Prelude.{Bool, true, false}
 use Rattle.cal_coptic.specs.declared.ethiopian.EthiopianEraStyle.{EthiopianEraStyle}
 use Rattle.cal_coptic.specs.declared.ethiopian.EthiopianEraStyle.TheVariants.{AmeteMihret, AmeteAlem}
 use Rattle.cal_hijri.specs.declared.tabular_algorithm.TabularAlgorithmEpoch.{TabularAlgorithmEpoch}
@@ -35,3 +36,13 @@ kind_held (calendar.JapaneseExtended _) = kind.Japanese
 kind_held (calendar.Julian _) = kind.Julian
 kind_held (calendar.Persian _) = kind.Persian
 kind_held (calendar.Roc _) = kind.Roc
+
+-- the kind of the calendar that is made for a kind: JapaneseExtended gives the Japanese calendar
+abbrev pub kind_made : AnyCalendarKind → AnyCalendarKind
+kind_made kind.JapaneseExtended = kind.Japanese
+kind_made other = other
+
+-- the variant of the Japanese calendar that no kind makes
+abbrev pub is_extended : AnyCalendar → Bool
+is_extended (calendar.JapaneseExtended _) = true
+is_extended _ = false

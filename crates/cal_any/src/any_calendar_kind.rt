@@ -1,8 +1,12 @@
 //! The kinds of calendars.
 
-ghost use Rattle.std.specs.Prelude.{◌≡◌};
+ghost use Rattle.std.specs.Prelude.{◌≡◌, ok_or};
 ghost use Rattle.cal_model.specs.YearNames.{is_code};
-ghost use Rattle.cal_any.specs.Kinds.{kind_named};
+ghost use Rattle.cal_types.specs.declared.algorithm.CalendarAlgorithm.TheVariants.{Hijri};
+ghost use Rattle.cal_any.specs.Kinds.{kind_named, kind_of_algorithm};
+
+use cal_types::{CalendarAlgorithm, HijriCalendarAlgorithm};
+use std::fmt;
 
 /// A kind of calendar.
 #[derive(Clone, Copy, PartialEq, Eq, PartialOrd, Ord, Hash, Debug)]
@@ -97,5 +101,86 @@ impl AnyCalendarKind {
             b"persian" => Persian,
             b"roc" => Roc
         )
+    }
+}
+
+/// The name of the variant that a kind is.
+macro_rules! variant_name {
+    ($kind:ident, $($variant:ident),*) => {
+        match $kind {
+            $(AnyCalendarKind::$variant => stringify!($variant),)*
+        }
+    };
+}
+
+/// The name of the variant, as `HijriUmmAlQura`.
+impl fmt::Display for AnyCalendarKind {
+    ghost use Rattle.std.specs.Prelude.{Some};
+    ghost use Rattle.cal_any.specs.Kinds.{variant_name};
+
+    ghost output = { λ k. Some (variant_name k) };
+
+    fn fmt<W: fmt::Write>(&self, f: &mut fmt::Formatter<W>) -> fmt::Result {
+        f.write_str(variant_name!(
+            self,
+            Buddhist,
+            Chinese,
+            Coptic,
+            Dangi,
+            Ethiopian,
+            EthiopianAmeteAlem,
+            Gregorian,
+            Hebrew,
+            Indian,
+            HijriTabularTypeIIFriday,
+            HijriSimulatedMecca,
+            HijriTabularTypeIIThursday,
+            HijriUmmAlQura,
+            Iso,
+            Japanese,
+            JapaneseExtended,
+            Julian,
+            Persian,
+            Roc
+        ))
+    }
+}
+
+/// The kind that CLDR's name of a calendar stands for (UTS 35, the key `ca`). An error exactly for `islamic` and
+/// `islamic-rgsa`, which stand for no kind.
+impl TryFrom<CalendarAlgorithm> for AnyCalendarKind {
+    type Error = ();
+
+    ghost try_from_gives = { λ algorithm r. r ≡ ok_or (kind_of_algorithm algorithm) tt };
+
+    fn try_from(algorithm: CalendarAlgorithm) -> Result<AnyCalendarKind, ()> {
+        match algorithm {
+            CalendarAlgorithm::Buddhist => Ok(AnyCalendarKind::Buddhist),
+            CalendarAlgorithm::Chinese => Ok(AnyCalendarKind::Chinese),
+            CalendarAlgorithm::Coptic => Ok(AnyCalendarKind::Coptic),
+            CalendarAlgorithm::Dangi => Ok(AnyCalendarKind::Dangi),
+            CalendarAlgorithm::Ethioaa => Ok(AnyCalendarKind::EthiopianAmeteAlem),
+            CalendarAlgorithm::Ethiopic => Ok(AnyCalendarKind::Ethiopian),
+            CalendarAlgorithm::Gregory => Ok(AnyCalendarKind::Gregorian),
+            CalendarAlgorithm::Hebrew => Ok(AnyCalendarKind::Hebrew),
+            CalendarAlgorithm::Hijri(kind) => kind_of_hijri(kind),
+            CalendarAlgorithm::Indian => Ok(AnyCalendarKind::Indian),
+            CalendarAlgorithm::Iso8601 => Ok(AnyCalendarKind::Iso),
+            CalendarAlgorithm::Japanese => Ok(AnyCalendarKind::Japanese),
+            CalendarAlgorithm::Persian => Ok(AnyCalendarKind::Persian),
+            CalendarAlgorithm::Roc => Ok(AnyCalendarKind::Roc),
+        }
+    }
+}
+
+/// The kind that a kind of CLDR's `islamic` stands for.
+fn kind_of_hijri(kind: Option<HijriCalendarAlgorithm>) -> Result<AnyCalendarKind, ()>
+    ensures { result ≡ ok_or (kind_of_algorithm (Hijri kind)) tt }
+{
+    match kind {
+        Some(HijriCalendarAlgorithm::Civil) => Ok(AnyCalendarKind::HijriTabularTypeIIFriday),
+        Some(HijriCalendarAlgorithm::Tbla) => Ok(AnyCalendarKind::HijriTabularTypeIIThursday),
+        Some(HijriCalendarAlgorithm::Umalqura) => Ok(AnyCalendarKind::HijriUmmAlQura),
+        Some(HijriCalendarAlgorithm::Rgsa) | None => Err(()),
     }
 }

@@ -1,10 +1,11 @@
 //! The calendar of a kind, over tables.
 
-ghost use Rattle.std.specs.Prelude.{◌≡◌};
+ghost use Rattle.std.specs.Prelude.{◌≡◌, false};
 ghost use Rattle.cal_coptic.specs.EthiopianSystem.{ethiopian_system};
 ghost use Rattle.cal_hijri.specs.TabularRules.{tabular_system};
 ghost use Rattle.cal_hijri.specs.declared.tabular_algorithm.TabularAlgorithmLeapYears.TheVariants.{TypeII};
 ghost use Rattle.cal_any.specs.AnySystem.{any_system};
+ghost use Rattle.cal_any.specs.KindHeld.{is_extended, kind_held, kind_made, kind_of_epoch, kind_of_style};
 ghost use Rattle.cal_any.specs.Kinds.{kind_system, table_contents};
 
 use crate::any_calendar::AnyCalendar;
@@ -20,26 +21,33 @@ use cal_julian::{Indian, Julian, Persian};
 
 /// The Ethiopian calendar in a style.
 fn ethiopian<'t>(style: EthiopianEraStyle) -> AnyCalendar<'t>
-    ensures { any_system result ≡ ethiopian_system style }
+    ensures system { any_system result ≡ ethiopian_system style }
+    ensures held { kind_held result ≡ kind_of_style style }
+    ensures variant { is_extended result ≡ false }
 {
     AnyCalendar::Ethiopian(Ethiopian::new_with_era_style(style))
 }
 
 /// The tabular Hijri calendar with the leap years of type II, from a day on.
 fn tabular<'t>(epoch: TabularAlgorithmEpoch) -> AnyCalendar<'t>
-    ensures { any_system result ≡ tabular_system (record { leap_years = TypeII; epoch = epoch }) }
+    ensures system { any_system result ≡ tabular_system (record { leap_years = TypeII; epoch = epoch }) }
+    ensures held { kind_held result ≡ kind_of_epoch epoch }
+    ensures variant { is_extended result ≡ false }
 {
     AnyCalendar::HijriTabular(Hijri::new_tabular(TabularAlgorithmLeapYears::TypeII, epoch))
 }
 
 impl<'t> AnyCalendar<'t> {
-    /// The calendar of a kind, over tables.
+    /// The calendar of a kind, over tables. [`AnyCalendar::kind`] gives the kind back, but `Japanese` for
+    /// `JapaneseExtended`.
     ///
     /// The rows of China serve `Chinese`, those of Korea `Dangi`, those of Umm al-Qura `HijriUmmAlQura` alone, the
     /// corrected years `Persian`, and the eras `Japanese` and `JapaneseExtended`, of which both give the variant
     /// `Japanese`.
     pub fn new(kind: AnyCalendarKind, tables: Tables<'t>) -> AnyCalendar<'t>
-        ensures { any_system result ≡ kind_system (table_contents tables.entry) kind }
+        ensures system { any_system result ≡ kind_system (table_contents tables.entry) kind }
+        ensures held { kind_held result ≡ kind_made kind }
+        ensures variant { is_extended result ≡ false }
     {
         match kind {
             AnyCalendarKind::Buddhist => AnyCalendar::Buddhist(Buddhist),

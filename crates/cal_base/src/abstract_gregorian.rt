@@ -183,7 +183,7 @@ impl<Y: GregorianYears> Calendar for AbstractGregorian<Y> {
     ghost use Rattle.std.proofs.Common.{ap};
     ghost use Rattle.cal_base.specs.OffsetSystem.{offset_system, offset_date, packed_belongs};
     ghost use Rattle.cal_base.specs.Compatibility.{never_refused};
-    ghost use Rattle.cal_base.specs.OffsetListLaws.{offset_list-lawful};
+    ghost use Rattle.cal_base.specs.OffsetListLaws.{offset_list-lawful, offset_list-ranged, offset_list-covered};
     ghost use Rattle.cal_base.specs.OffsetSystemLaws.{packed-dated, packed-equal, packed-ordered, packed-shared};
 
     type DateInner = ArithmeticDate<AbstractGregorian<Y>>;
@@ -333,6 +333,10 @@ impl<Y: GregorianYears> Calendar for AbstractGregorian<Y> {
     ghost lawful = { λ s. offset_list-lawful (Y.offset s.0) };
 
     ghost dated = { λ s d h. packed-dated (Y.offset s.0) d.packed h };
+
+    ghost ranged = { λ s. offset_list-ranged (Y.offset s.0) (Y.offset_bound s.0) };
+
+    ghost covered = { λ s. offset_list-covered (Y.offset s.0) (Y.offset_bound s.0) };
 
     ghost named = { λ s t. Y.named s.0 t };
 

@@ -196,6 +196,10 @@ impl<C: NamedYears> Calendar for Arithmetic<C> {
     ghost dated = { λ s d. own_dated (C.years s.0) (C.ranged s.0) (C.has_year s.0) (C.tested s.0)
         (C.YearInfo.parts d.packed) };
 
+    ghost ranged = { λ s t h. (C.ranged s.0 t h).0 };
+
+    ghost covered = { λ s. C.covered s.0 };
+
     ghost named = { λ s t. C.named s.0 t.year };
 
     ghost equal_days = { λ s a b h k. days_equal (C.years s.0) (C.ranged s.0) (C.has_year s.0) (C.tested s.0)

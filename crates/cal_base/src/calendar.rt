@@ -2,13 +2,13 @@
 
 ghost use Rattle.std.specs.Prelude.{◌≡◌, ◌↔◌, ◌+◌, ◌≤◌, ℕ, pos, ◌+ℤ◌, ◌-ℤ◌, unsigned_abs, Bool, List, Option, IsTrue, IsOk, IfOk, None, Some, Ok, false};
 ghost use Rattle.std.specs.Ordering.{int_cmp, int_eq};
-ghost use Rattle.cal_days.specs.Day.{IsValidDay};
+ghost use Rattle.cal_days.specs.Day.{IsCoveredYear, IsFieldYear, IsValidDay};
 ghost use Rattle.cal_types.specs.Bag.{bag_of};
 ghost use Rattle.cal_types.specs.Year.{extended_year_of};
 ghost use Rattle.cal_types.specs.MonthParts.{month_parts};
 ghost use Rattle.cal_types.specs.MonthInfoParts.{month_info_parts};
 ghost use Rattle.cal_types.specs.declared.algorithm.CalendarAlgorithm.{CalendarAlgorithm};
-ghost use Rattle.cal_model.specs.CalendarList.{Date, IsLawful, IsOn, IsValidDate, day_number, month_count, month_length, start_of_year, year_length};
+ghost use Rattle.cal_model.specs.CalendarList.{Date, IsDate, IsLawful, IsOn, IsValidDate, day_number, month_count, month_length, start_of_year, year_length};
 ghost use Rattle.cal_model.specs.CalendarSystem.{CalendarSystem, month_info_of, resolve_fields};
 ghost use Rattle.cal_model.specs.Constructing.{made_date};
 ghost use Rattle.cal_model.specs.Adding.{IsSum, add_overflow_of};
@@ -282,6 +282,13 @@ pub trait Calendar: UnstableSealed + Drop {
     /// What belongs is a date of the list, with a valid day number.
     ghost dated: { (s : Self) (d : Self.DateInner) → IsTrue (belongs s d) →
         IsValidDate (system s).list (date_of s d) };
+
+    /// The extended years of dates with valid days lie from -1040000 to 1040000.
+    ghost ranged: { (s : Self) (t : Date) → IsValidDate (system s).list t → IsFieldYear t.year };
+
+    /// The days of years from -20000 to 20000 are valid.
+    ghost covered: { (s : Self) (t : Date) → IsCoveredYear t.year → IsDate (system s).list t →
+        IsValidDay (day_number (system s).list t) };
 
     /// The year that a date is printed in has its extended year.
     ghost named: { (s : Self) (t : Date) → extended_year_of ((system s).year_info t) ≡ t.year };

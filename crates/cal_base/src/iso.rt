@@ -97,7 +97,7 @@ impl Calendar for Iso {
     ghost use Rattle.std.proofs.Common.{ap};
     ghost use Rattle.cal_base.specs.IsoSystem.{iso_system, iso_date, iso_belongs};
     ghost use Rattle.cal_base.specs.Compatibility.{never_refused};
-    ghost use Rattle.cal_base.specs.OffsetListLaws.{offset_list-lawful};
+    ghost use Rattle.cal_base.specs.OffsetListLaws.{offset_list-lawful, offset_list-ranged, offset_list-covered, true-offset};
     ghost use Rattle.cal_base.specs.OffsetSystemLaws.{packed-dated, packed-equal, packed-ordered};
 
     type DateInner = IsoDateInner;
@@ -240,6 +240,10 @@ impl Calendar for Iso {
     ghost lawful = { λ _. offset_list-lawful (pos 0) };
 
     ghost dated = { λ _ d h. packed-dated (pos 0) d.0.packed h };
+
+    ghost ranged = { λ _. offset_list-ranged (pos 0) (true-offset (pos 0) refl) };
+
+    ghost covered = { λ _. offset_list-covered (pos 0) (true-offset (pos 0) refl) };
 
     ghost named = { λ _ t. refl };
 

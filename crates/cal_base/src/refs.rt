@@ -4,6 +4,7 @@ ghost use Rattle.std.specs.Prelude.{◌≡◌};
 
 use crate::calendar::AsCalendar;
 use std::ops::Deref;
+use std::rc::Rc;
 
 /// A calendar that is borrowed.
 #[derive(Clone, Copy, PartialEq, Eq, Debug)]
@@ -26,5 +27,15 @@ impl<'a, C: AsCalendar> AsCalendar for Ref<'a, C> {
 
     fn as_calendar(&self) -> &C::Calendar {
         self.0.as_calendar()
+    }
+}
+
+impl<C: AsCalendar> AsCalendar for Rc<C> {
+    type Calendar = C::Calendar;
+
+    ghost cal_of = { λ r. C.cal_of r.value };
+
+    fn as_calendar(&self) -> &C::Calendar {
+        (**self).as_calendar()
     }
 }

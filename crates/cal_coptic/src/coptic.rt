@@ -235,7 +235,7 @@ impl Calendar for Coptic {
     ghost use Rattle.cal_base.specs.NumberedYears.{numbered_equal, numbered_ordered};
     ghost use Rattle.cal_coptic.specs.CopticList.{coptic_list};
     ghost use Rattle.cal_coptic.specs.CopticSystem.{coptic_system, coptic_date, coptic_belongs};
-    ghost use Rattle.cal_coptic.specs.CopticLaws.{coptic_list-lawful};
+    ghost use Rattle.cal_coptic.specs.CopticLaws.{coptic_list-lawful, years-ranged, days-covered};
     ghost use Rattle.cal_coptic.specs.CopticSystemLaws.{coptic_belongs-dated};
 
     type DateInner = CopticDateInner;
@@ -370,6 +370,10 @@ impl Calendar for Coptic {
     ghost lawful = { λ _. coptic_list-lawful };
 
     ghost dated = { λ _ d h. coptic_belongs-dated d h };
+
+    ghost ranged = { λ _ t h. (years-ranged t h).0 };
+
+    ghost covered = { λ _ t. days-covered t };
 
     ghost named = { λ _ t. refl };
 

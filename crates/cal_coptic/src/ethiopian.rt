@@ -358,9 +358,12 @@ impl Calendar for Ethiopian {
     ghost use Rattle.std.specs.Prelude.{false, true, refl, Some};
     ghost use Rattle.cal_base.specs.Compatibility.{never_refused};
     ghost use Rattle.cal_coptic.specs.EthiopianList.{coptic_offset};
-    ghost use Rattle.cal_coptic.specs.EthiopianLaws.{ethiopian_list-lawful, ethiopian_year-named};
+    ghost use Rattle.cal_coptic.specs.EthiopianLaws.{ethiopian_list-lawful, ethiopian_year-named, coptic_offset-small};
     ghost use Rattle.cal_coptic.specs.EthiopianSystem.{ethiopian_algorithm, ethiopian_belongs, ethiopian_date, ethiopian_name, ethiopian_system};
     ghost use Rattle.cal_coptic.specs.EthiopianSystemLaws.{ethiopian_belongs-dated, ethiopian_belongs-shared, ethiopian_dates-equal, ethiopian_dates-ordered, ethiopian_day-shared};
+    ghost use Rattle.cal_model.proofs.RenumberedBoundLemmas.{ranged-renumbered, covered-renumbered};
+    ghost use Rattle.cal_coptic.specs.CopticList.{coptic_list};
+    ghost use Rattle.cal_coptic.specs.CopticLaws.{coptic_list-bounded};
 
     type DateInner = EthiopianDateInner;
 
@@ -500,6 +503,12 @@ impl Calendar for Ethiopian {
     ghost lawful = { λ s. ethiopian_list-lawful (coptic_offset s.era_style) };
 
     ghost dated = { λ s d h. ethiopian_belongs-dated s.era_style d h };
+
+    ghost ranged = { λ s t h. (ranged-renumbered (coptic_offset s.era_style) (coptic_offset-small s.era_style)
+        coptic_list coptic_list-bounded t h).0 };
+
+    ghost covered = { λ s. covered-renumbered (coptic_offset s.era_style) (coptic_offset-small s.era_style)
+        coptic_list coptic_list-bounded };
 
     ghost named = { λ s t. ethiopian_year-named s.era_style t.year };
 

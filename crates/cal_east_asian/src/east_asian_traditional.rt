@@ -249,6 +249,7 @@ impl<R: Rules> Calendar for EastAsianTraditional<R> {
     ghost use Rattle.cal_east_asian.specs.EastAsianListLaws.{east_asian_list-lawful};
     ghost use Rattle.cal_east_asian.specs.EastAsianSystem.{east_asian_system, packed_date, east_asian_belongs};
     ghost use Rattle.cal_east_asian.specs.EastAsianGivenLaws.{belongs-valid, belongs-dated, belongs-shared, day-shared};
+    ghost use Rattle.cal_east_asian.specs.EastAsianStartLaws.{years-ranged, days-covered};
 
     type DateInner = ChineseDateInner<R>;
 
@@ -382,6 +383,10 @@ impl<R: Rules> Calendar for EastAsianTraditional<R> {
     ghost lawful = { λ s. east_asian_list-lawful (R.year_of s.0) };
 
     ghost dated = { λ s d h. belongs-dated (R.year_of s.0) d.0.packed h };
+
+    ghost ranged = { λ s t h. (years-ranged (R.year_of s.0) (R.lawful s.0) t h).0 };
+
+    ghost covered = { λ s t. days-covered (R.year_of s.0) (R.lawful s.0) t };
 
     ghost named = { λ _ t. refl };
 

@@ -127,7 +127,7 @@ impl Calendar for Roc {
     ghost use Rattle.std.proofs.Common.{ap};
     ghost use Rattle.cal_types.specs.declared.algorithm.CalendarAlgorithm.TheVariants as algorithms;
     ghost use Rattle.cal_base.specs.Compatibility.{never_refused};
-    ghost use Rattle.cal_base.specs.OffsetListLaws.{offset_list-lawful};
+    ghost use Rattle.cal_base.specs.OffsetListLaws.{offset_list-lawful, offset_list-ranged, offset_list-covered, true-offset};
     ghost use Rattle.cal_base.specs.OffsetSystemLaws.{packed-dated, packed-equal, packed-ordered};
     ghost use Rattle.cal_gregory.specs.RocSystem.{roc_system, roc_date, roc_belongs};
     ghost use Rattle.cal_gregory.specs.RocEra.{roc_offset};
@@ -273,6 +273,10 @@ impl Calendar for Roc {
     ghost lawful = { λ _. offset_list-lawful roc_offset };
 
     ghost dated = { λ _ d h. packed-dated roc_offset d.0.packed h };
+
+    ghost ranged = { λ _. offset_list-ranged roc_offset (true-offset roc_offset refl) };
+
+    ghost covered = { λ _. offset_list-covered roc_offset (true-offset roc_offset refl) };
 
     ghost named = { λ _ t. roc_era-named t };
 

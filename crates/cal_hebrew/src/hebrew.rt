@@ -308,6 +308,7 @@ impl Calendar for Hebrew {
     ghost use Rattle.cal_hebrew.specs.HebrewSystem.{hebrew_system, hebrew_date, hebrew_belongs};
     ghost use Rattle.cal_hebrew.specs.HebrewMonths.{hebrew_list-lawful};
     ghost use Rattle.cal_hebrew.specs.HebrewSystemLaws.{hebrew_belongs-dated, hebrew_belongs-valid};
+    ghost use Rattle.cal_hebrew.specs.HebrewLaws.{years-ranged, days-covered};
 
     type DateInner = HebrewDateInner;
 
@@ -441,6 +442,10 @@ impl Calendar for Hebrew {
     ghost lawful = { λ _. hebrew_list-lawful };
 
     ghost dated = { λ _ d h. hebrew_belongs-dated d h };
+
+    ghost ranged = { λ _ t h. (years-ranged t h).0 };
+
+    ghost covered = { λ _ t. days-covered t };
 
     ghost named = { λ _ t. refl };
 

@@ -312,6 +312,7 @@ impl<R: Rules> Calendar for Hijri<R> {
     ghost use Rattle.cal_hijri.specs.HijriNames.{years-named};
     ghost use Rattle.cal_hijri.specs.HijriSystem.{hijri_system, packed_date, hijri_belongs};
     ghost use Rattle.cal_hijri.specs.HijriSystemLaws.{alike-back, alike-on, belongs-valid, belongs-dated, belongs-shared, day-shared};
+    ghost use Rattle.cal_hijri.specs.HijriBounds.{years-ranged, days-covered};
 
     type DateInner = HijriDateInner<R>;
 
@@ -445,6 +446,10 @@ impl<R: Rules> Calendar for Hijri<R> {
     ghost lawful = { λ s. hijri_list-lawful (R.year_of s.0) };
 
     ghost dated = { λ s d h. belongs-dated (R.year_of s.0) d.0.packed h };
+
+    ghost ranged = { λ s t h. (years-ranged (R.year_of s.0) (R.numbered s.0) (R.joins s.0) t h).0 };
+
+    ghost covered = { λ s t. days-covered (R.year_of s.0) (R.numbered s.0) (R.joins s.0) t };
 
     ghost named = { λ _ t. years-named t.year };
 

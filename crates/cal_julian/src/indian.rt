@@ -461,7 +461,7 @@ impl Calendar for Indian {
     ghost use Rattle.cal_base.specs.NumberedYears.{numbered_equal, numbered_ordered};
     ghost use Rattle.cal_julian.specs.IndianList.{indian_list};
     ghost use Rattle.cal_julian.specs.IndianSystem.{indian_system, indian_date, indian_belongs};
-    ghost use Rattle.cal_julian.specs.IndianLaws.{indian_list-lawful};
+    ghost use Rattle.cal_julian.specs.IndianLaws.{indian_list-lawful, years-ranged, days-covered};
     ghost use Rattle.cal_julian.specs.IndianSystemLaws.{indian_belongs-dated};
 
     type DateInner = IndianDateInner;
@@ -596,6 +596,10 @@ impl Calendar for Indian {
     ghost lawful = { λ _. indian_list-lawful };
 
     ghost dated = { λ _ d h. indian_belongs-dated d h };
+
+    ghost ranged = { λ _ t h. (years-ranged t h).0 };
+
+    ghost covered = { λ _ t. days-covered t };
 
     ghost named = { λ _ t. refl };
 

@@ -383,7 +383,7 @@ impl Calendar for Julian {
     ghost use Rattle.cal_base.specs.NumberedYears.{numbered_equal, numbered_ordered};
     ghost use Rattle.cal_julian.specs.JulianList.{julian_list};
     ghost use Rattle.cal_julian.specs.JulianSystem.{julian_system, julian_date, julian_belongs};
-    ghost use Rattle.cal_julian.specs.JulianLaws.{julian_list-lawful};
+    ghost use Rattle.cal_julian.specs.JulianLaws.{julian_list-lawful, years-ranged, days-covered};
     ghost use Rattle.cal_julian.specs.JulianSystemLaws.{julian_belongs-dated, julian_year_info-named};
 
     type DateInner = JulianDateInner;
@@ -518,6 +518,10 @@ impl Calendar for Julian {
     ghost lawful = { λ _. julian_list-lawful };
 
     ghost dated = { λ _ d h. julian_belongs-dated d h };
+
+    ghost ranged = { λ _ t h. (years-ranged t h).0 };
+
+    ghost covered = { λ _ t. days-covered t };
 
     ghost named = { λ _ t. julian_year_info-named t };
 

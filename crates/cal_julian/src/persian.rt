@@ -340,7 +340,7 @@ impl<'t> Calendar for Persian<'t> {
     ghost use Rattle.cal_julian.specs.PersianCorrected.{are_corrected_alike, corrected_years};
     ghost use Rattle.cal_julian.specs.PersianList.{persian_list};
     ghost use Rattle.cal_julian.specs.PersianSystem.{persian_system, persian_date, persian_belongs};
-    ghost use Rattle.cal_julian.specs.PersianLaws.{persian_list-lawful};
+    ghost use Rattle.cal_julian.specs.PersianLaws.{persian_list-lawful, years-ranged, days-covered};
     ghost use Rattle.cal_julian.specs.PersianSystemLaws.{persian_belongs-dated, persian_alike-back, persian_alike-on, persian_belongs-shared, persian_day-shared};
 
     type DateInner = PersianDateInner<'t>;
@@ -479,6 +479,10 @@ impl<'t> Calendar for Persian<'t> {
     ghost lawful = { λ s. persian_list-lawful (corrected_years s) };
 
     ghost dated = { λ s d h. persian_belongs-dated s d h };
+
+    ghost ranged = { λ s t h. (years-ranged (corrected_years s) s.corrections.known t h).0 };
+
+    ghost covered = { λ s t. days-covered (corrected_years s) s.corrections.known t };
 
     ghost named = { λ _ t. refl };
 

@@ -88,7 +88,8 @@ pub fn gather<S: Source>(
     ensures later { S.faults source.old ≤ S.faults source.new }
     ensures gathers { (left : Option (List ℕ)) (faults : ℕ) → faults ≤ S.faults source.old
         → IsGathering left (S.left source.old) reader.old line.old (rows_said rows.old)
-        → Gathers result left (S.left source.new) faults (S.faults source.new) reader.new line.new (rows_said rows.new) }
+        → Gathers result left (S.left source.new) faults (S.faults source.new) reader.new line.new
+        (rows_said rows.new) }
 {
     'lines: loop {
         match reader.next_line(line) {

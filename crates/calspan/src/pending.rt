@@ -64,7 +64,8 @@ pub fn respond<K: Sink>(
     pending: &mut Pending,
     sink: &mut K,
 ) -> Result<Answered, Failed>
-    ensures answered { (before : Option (List ℕ)) (lines : List (List ℕ)) (whole : List ℕ) (rows : TableRows) (s : Stage)
+    ensures answered { (before : Option (List ℕ)) (lines : List (List ℕ)) (whole : List ℕ)
+        (rows : TableRows) (s : Stage)
         → table_contents tables.now ≡ contents_of rows → number ≡ length lines + 1 → Holds line.now whole
         → Follows s (Answering rows progress.refused) whole → Stands before (K.taken sink.old) pending.old.items lines s
         → Responded result rows before (K.taken sink.new) pending.new.items (lines ++ whole ∷ []) }

@@ -55,7 +55,8 @@ fn finish_line<K: Sink>(
     pending: &mut Pending,
     sink: &mut K,
 ) -> Result<Status, Failed>
-    ensures concludes { (before : Option (List ℕ)) (lines : List (List ℕ)) (last : List ℕ) (rows : table.TableRows) (s : Stage)
+    ensures concludes { (before : Option (List ℕ)) (lines : List (List ℕ)) (last : List ℕ)
+        (rows : table.TableRows) (s : Stage)
         → table_contents tables.now ≡ contents_of rows → number ≡ length lines + 1 → Holds line.now last
         → Follows s (Answering rows progress.refused) last → Stands before (K.taken sink.old) pending.old.items lines s
         → Concludes result before (K.taken sink.new) (lines ++ last ∷ []) }
@@ -306,10 +307,10 @@ fn generate<K: Sink>(count: u32, sink: &mut K) -> Status
 ///   long it is.
 /// - `TooLong`: the source gave more than 16777216 bytes. The answers to all lines whose LF is among
 ///   the first 16777216.
-/// - `TableRefused`: a row line is refused (`table line N syntax`, `range` or `late`), or a table (`table NAME ROW PART`).
-///   The answers before, and that line.
-/// - `NoMemory`: there was no memory for a row, which can be where the first line that gives anything is a row line, and
-///   nowhere else. Nothing.
+/// - `TableRefused`: a row line is refused (`table line N syntax`, `range` or `late`), or a table
+///   (`table NAME ROW PART`). The answers before, and that line.
+/// - `NoMemory`: there was no memory for a row, which can be where the first line that gives anything is a row
+///   line, and nowhere else. Nothing.
 pub fn run<S: Source, K: Sink>(
     alloc: Global,
     words: &[String],

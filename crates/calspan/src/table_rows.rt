@@ -54,7 +54,8 @@ fn keep<T: Drop>(rows: &mut Vec<T>, row: T) -> Taken
 
 // Keeps the eras of a row, where no row named any before.
 fn keep_eras(eras: &mut Option<JapaneseEras>, row: EraRow<'_>) -> Taken
-    ensures { let before = option_map listed_eras eras.old in let read = eras_with_last row.entry.start row.entry.letters.now row.entry.index in
+    ensures { let before = option_map listed_eras eras.old in
+        let read = eras_with_last row.entry.start row.entry.letters.now row.entry.index in
         AreErasKept result before read (option_map listed_eras eras.new) }
 {
     if eras.is_some() {

@@ -18,7 +18,7 @@ pub returns-in-Ok : goal.returns-in-Ok
 returns-in-Ok c =
     let dates = span_dates c.in-Ok.span in
     let spans = c.in-Ok.ensures.spans in
-    named _ _ _ (any_system c.new.result) (any_system c.new-2.result) _ _ false c.new.ensures c.new-2.ensures (
+    named _ _ _ (any_system c.new.result) (any_system c.new-2.result) _ _ false c.new.ensures.system c.new-2.ensures.system (
       span_text (any_system c.new.result) (any_system c.new-2.result) dates,
       c.push_span.ensures c.new.result c.new-2.result c.in-Ok.ensures.calendars (record { from = spans.from_shown.day; to = spans.to_shown.day }),
       record { answer = Ok dates; span = spans; says = refl; refuses = refl },
@@ -26,5 +26,5 @@ returns-in-Ok c =
 
 pub returns-in-Err : goal.returns-in-Err
 returns-in-Err c =
-    named _ _ _ (any_system c.new.result) (any_system c.new-2.result) _ _ true c.new.ensures c.new-2.ensures
+    named _ _ _ (any_system c.new.result) (any_system c.new-2.result) _ _ true c.new.ensures.system c.new-2.ensures.system
     (error_text c.in-Err.error, c.push_error.ensures, record { answer = Err c.in-Err.error; span = c.in-Err.ensures.spans; says = refl; refuses = refl })

@@ -3,4 +3,4 @@ use Rattle.cal_any.specs.Kinds.{TableContents, kind_system}
 use Rattle.calspan.proofs.totals.calendar.Goals as goal
 
 pub returns : goal.returns
-returns c = c.new.ensures ∙ ap (λ (t : TableContents). kind_system t c.args.kind) c.none.ensures
+returns c = c.new.ensures.system ∙ ap (λ (t : TableContents). kind_system t c.args.kind) c.none.ensures
