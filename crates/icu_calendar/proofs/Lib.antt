@@ -1,2 +1,12 @@
 pub mod SpanLemmas
 pub mod SumLemmas
+pub mod OrderLemmas
+pub mod PlacingLemmas
+pub mod FieldsLemmas
+pub mod OptionLemmas
+pub mod NumberLemmas
+pub mod NameLemmas
+pub mod RecordLemmas
+pub mod DateTextLemmas
+pub mod WeekLemmas
+pub use Rattle.cal_days.proofs.Signed

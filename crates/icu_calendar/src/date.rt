@@ -7,6 +7,7 @@ ghost use Rattle.cal_types.specs.Bag.{bag_of};
 ghost use Rattle.cal_types.specs.MonthInfoParts.{month_info_parts};
 ghost use Rattle.cal_types.specs.MonthParts.{month_parts};
 ghost use Rattle.cal_types.specs.Weekday.{days_since_sunday};
+ghost use Rattle.cal_types.specs.declared.year.YearInfo.TheVariants.{Era, Cyclic};
 ghost use Rattle.cal_model.specs.CalendarList.{IsOn, day_number, month_count, month_length, start_of_year, year_length};
 ghost use Rattle.cal_model.specs.Adding.{IsSum, add_overflow_of};
 ghost use Rattle.cal_model.specs.Difference.{IsDifference, largest_unit_of};
@@ -14,16 +15,21 @@ ghost use Rattle.cal_model.specs.CalendarSystem.{month_info_of, resolve_fields};
 ghost use Rattle.cal_model.specs.Constructing.{made_date};
 ghost use Rattle.cal_arith.specs.Dates.{answer_by};
 ghost use Rattle.cal_arith.specs.Ticks.{most_ticks};
+ghost use Rattle.cal_base.specs.IsoSystem.{iso_list, iso_date};
 ghost use Rattle.icu_calendar.specs.Clamping.{clamped_day, done_with};
 
+mod any;
+mod comparing;
+mod copies;
+
 use cal_arith::Steps;
-use cal_base::{AsCalendar, Calendar};
+use cal_base::{AsCalendar, Calendar, Iso, Ref};
 use cal_days::RataDie;
 use cal_days::ranges::{FIRST_VALID_DAY, LAST_VALID_DAY};
 use cal_types::{
-    DateAddError, DateAddOptions, DateDifferenceOptions, DateDuration, DateFields,
-    DateFromFieldsError, DateFromFieldsOptions, DateNewError, DayOfMonth, DayOfYear, IntoYearInfo,
-    Month, MonthInfo, Overflow, Weekday, YearInfo, YearInput,
+    CyclicYear, DateAddError, DateAddOptions, DateDifferenceOptions, DateDuration, DateFields,
+    DateFromFieldsError, DateFromFieldsOptions, DateNewError, DayOfMonth, DayOfYear, EraYear,
+    IntoYearInfo, Month, MonthInfo, Overflow, Weekday, YearInfo, YearInput,
 };
 use std::alloc::AllocError;
 use std::fmt;
@@ -128,6 +134,38 @@ where
         Ok(Date { inner, calendar })
     }
 
+    /// The date of an inner date and its calendar. The inner date has to belong to the calendar, which
+    /// [`Calendar::owns`] tests; each inner date in an answer of the calendar does.
+    pub fn from_raw(inner: <A::Calendar as Calendar>::DateInner, calendar: A) -> Self
+        requires { IsTrue (A.Calendar.belongs (A.cal_of calendar) inner) }
+        ensures inner { result.inner ≡ inner }
+        ensures calendar { result.calendar ≡ calendar }
+    {
+        Date { inner, calendar }
+    }
+
+    /// The date as its calendar keeps it.
+    pub fn inner(&self) -> &<A::Calendar as Calendar>::DateInner
+        ensures { result.now ≡ self.now.inner }
+    {
+        &self.inner
+    }
+
+    /// What leads to the calendar: the calendar itself, or a pointer to it.
+    pub fn calendar_wrapper(&self) -> &A
+        ensures { result.now ≡ self.now.calendar }
+    {
+        &self.calendar
+    }
+
+    /// The same date, with its calendar borrowed.
+    pub fn as_borrowed(&self) -> Date<Ref<'_, A>>
+        ensures inner { result.inner ≡ self.now.inner }
+        ensures calendar { result.calendar.0.now ≡ self.now.calendar }
+    {
+        Date::from_raw(self.inner, Ref(&self.calendar))
+    }
+
     /// The date of a day number, which is clamped to the valid range, -365242499 to 365242134.
     pub fn from_rata_die(rd: RataDie, calendar: A) -> Self
         ensures on { let c = A.cal_of calendar in
@@ -228,6 +266,30 @@ where
             pos (days_since_sunday result) ≡ int_rem_euclid day (pos 7) }
     {
         Weekday::from(self.to_rata_die())
+    }
+
+    /// The day of an ISO date in a calendar: the date of the same day number there.
+    pub fn new_from_iso(iso: Date<Iso>, calendar: A) -> Self
+        ensures on { let c = A.cal_of calendar in
+            let day = day_number iso_list (iso_date iso.inner) in
+            IsOn (A.Calendar.system c).list day (A.Calendar.date_of c result.inner) }
+        ensures calendar { result.calendar ≡ calendar }
+    {
+        let inner = calendar.as_calendar().from_iso(iso.inner);
+        Date { inner, calendar }
+    }
+
+    /// The same day as an ISO date: the one of the same day number.
+    pub fn to_iso(&self) -> Date<Iso>
+        ensures { let c = A.cal_of self.now.calendar in
+            let day = day_number (A.Calendar.system c).list (A.Calendar.date_of c self.now.inner) in
+            IsOn iso_list day (iso_date result.inner) }
+    {
+        let inner = self.calendar.as_calendar().to_iso(&self.inner);
+        Date {
+            inner,
+            calendar: Iso,
+        }
     }
 
     /// The same day in another calendar: the date of the same day number there.
@@ -386,6 +448,32 @@ where
         self.calendar
             .as_calendar()
             .until(&self.inner, &other.inner, options)
+    }
+}
+
+impl<A: AsCalendar> Date<A>
+where
+    A::Calendar: Calendar<Year = EraYear>,
+{
+    /// The year in its era, in a calendar whose years all have one.
+    pub fn era_year(&self) -> EraYear
+        ensures { let c = A.cal_of self.now.calendar in
+            Era result ≡ (A.Calendar.system c).year_info (A.Calendar.date_of c self.now.inner) }
+    {
+        self.calendar.as_calendar().year_info(&self.inner)
+    }
+}
+
+impl<A: AsCalendar> Date<A>
+where
+    A::Calendar: Calendar<Year = CyclicYear>,
+{
+    /// The year in the cycle of sixty years, in a calendar whose years are counted in it.
+    pub fn cyclic_year(&self) -> CyclicYear
+        ensures { let c = A.cal_of self.now.calendar in
+            Cyclic result ≡ (A.Calendar.system c).year_info (A.Calendar.date_of c self.now.inner) }
+    {
+        self.calendar.as_calendar().year_info(&self.inner)
     }
 }
 

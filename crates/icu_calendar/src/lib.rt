@@ -4,43 +4,130 @@
 //! as [`AnyCalendar`]. All that a caller needs is passed on from here.
 #![tactic(auto)]
 
+mod constructors;
 mod date;
+mod date_parsing;
+mod date_text;
+mod easter;
+mod ixdtf_record;
 pub mod laws;
+mod placing;
+mod record_dates;
 mod span_parts;
 mod spans;
 #[cfg(test)]
 mod tests;
+mod weeks;
 
-pub use cal_any::{AnyCalendar, AnyCalendarKind, AnyDateInner, Tables};
+pub use cal_any::AnyCalendar;
+pub use cal_any::AnyCalendarKind;
+pub use cal_any::AnyDateInner;
+pub use cal_any::IntoAnyCalendar;
+pub use cal_any::Tables;
 pub use cal_arith::Steps;
-pub use cal_base::{AsCalendar, Calendar, Iso, IsoDateInner, Ref};
-pub use cal_coptic::{Coptic, CopticDateInner, Ethiopian, EthiopianDateInner, EthiopianEraStyle};
+pub use cal_base::AsCalendar;
+pub use cal_base::Calendar;
+pub use cal_base::Iso;
+pub use cal_base::IsoDateInner;
+pub use cal_base::Ref;
+pub use cal_coptic::Coptic;
+pub use cal_coptic::CopticDateInner;
+pub use cal_coptic::Ethiopian;
+pub use cal_coptic::EthiopianDateInner;
+pub use cal_coptic::EthiopianEraStyle;
 pub use cal_days::RataDie;
-pub use cal_east_asian::{
-    China, ChineseDateInner, ChineseTraditional, EastAsianTable, EastAsianTraditional,
-    EastAsianTraditionalYear, Korea, KoreanTraditional, Side, mean_year, qing_year,
-};
-pub use cal_gregory::{
-    Buddhist, BuddhistDateInner, EraStartDate, Gregorian, GregorianDateInner, Japanese,
-    JapaneseDateInner, JapaneseEras, JapaneseErasIter, Roc, RocDateInner,
-};
-pub use cal_hebrew::{Hebrew, HebrewDateInner};
-pub use cal_hijri::{
-    AstronomicalSimulation, Hijri, HijriDateInner, HijriTable, HijriYear, TabularAlgorithm,
-    TabularAlgorithmEpoch, TabularAlgorithmLeapYears, UmmAlQura,
-};
-pub use cal_julian::{
-    Indian, IndianDateInner, Julian, JulianDateInner, Persian, PersianCorrections, PersianDateInner,
-};
-pub use cal_types::{
-    CalendarAlgorithm, CyclicYear, DateAddError, DateAddOptions, DateDifferenceOptions,
-    DateDuration, DateDurationUnit, DateError, DateFields, DateFromFieldsError,
-    DateFromFieldsOptions, DateNewError, DayOfMonth, DayOfYear, EcmaReferenceYearError, EraYear,
-    HijriCalendarAlgorithm, IntoYearInfo, LeapStatus, LunisolarDateError, MismatchedCalendarError,
-    MissingFieldsStrategy, Month, MonthCode, MonthCodeParseError, MonthError, MonthInfo, Overflow,
-    RangeError, TableFault, TablePart, TinyAsciiStr, TinyStrError, UnknownEraError, Weekday,
-    YearAmbiguity, YearInfo, YearInput,
-};
+pub use cal_east_asian::China;
+pub use cal_east_asian::ChineseDateInner;
+pub use cal_east_asian::ChineseTraditional;
+pub use cal_east_asian::EastAsianTable;
+pub use cal_east_asian::EastAsianTraditional;
+pub use cal_east_asian::EastAsianTraditionalYear;
+pub use cal_east_asian::Korea;
+pub use cal_east_asian::KoreanTraditional;
+pub use cal_east_asian::Side;
+pub use cal_east_asian::mean_year;
+pub use cal_east_asian::qing_year;
+pub use cal_gregory::Buddhist;
+pub use cal_gregory::BuddhistDateInner;
+pub use cal_gregory::EraStartDate;
+pub use cal_gregory::Gregorian;
+pub use cal_gregory::GregorianDateInner;
+pub use cal_gregory::Japanese;
+pub use cal_gregory::JapaneseDateInner;
+pub use cal_gregory::JapaneseEras;
+pub use cal_gregory::JapaneseErasIter;
+pub use cal_gregory::Roc;
+pub use cal_gregory::RocDateInner;
+pub use cal_hebrew::Hebrew;
+pub use cal_hebrew::HebrewDateInner;
+pub use cal_hijri::AstronomicalSimulation;
+pub use cal_hijri::Hijri;
+pub use cal_hijri::HijriDateInner;
+pub use cal_hijri::HijriTable;
+pub use cal_hijri::HijriYear;
+pub use cal_hijri::TabularAlgorithm;
+pub use cal_hijri::TabularAlgorithmEpoch;
+pub use cal_hijri::TabularAlgorithmLeapYears;
+pub use cal_hijri::UmmAlQura;
+pub use cal_julian::Indian;
+pub use cal_julian::IndianDateInner;
+pub use cal_julian::Julian;
+pub use cal_julian::JulianDateInner;
+pub use cal_julian::Persian;
+pub use cal_julian::PersianCorrections;
+pub use cal_julian::PersianDateInner;
+pub use cal_types::CalendarAlgorithm;
+pub use cal_types::CalendarPreference;
+pub use cal_types::CyclicYear;
+pub use cal_types::DateAddError;
+pub use cal_types::DateAddOptions;
+pub use cal_types::DateDifferenceOptions;
+pub use cal_types::DateDuration;
+pub use cal_types::DateDurationParseError;
+pub use cal_types::DateDurationUnit;
+pub use cal_types::DateError;
+pub use cal_types::DateFields;
+pub use cal_types::DateFromFieldsError;
+pub use cal_types::DateFromFieldsOptions;
+pub use cal_types::DateNewError;
+pub use cal_types::DayOfMonth;
+pub use cal_types::DayOfWeekInMonth;
+pub use cal_types::DayOfYear;
+pub use cal_types::EcmaReferenceYearError;
+pub use cal_types::EraYear;
+pub use cal_types::HijriCalendarAlgorithm;
+pub use cal_types::IntoYearInfo;
+pub use cal_types::IsoWeekOfYear;
+pub use cal_types::LeapStatus;
+pub use cal_types::LunisolarDateError;
+pub use cal_types::MismatchedCalendarError;
+pub use cal_types::MissingFieldsStrategy;
+pub use cal_types::Month;
+pub use cal_types::MonthCode;
+pub use cal_types::MonthCodeParseError;
+pub use cal_types::MonthError;
+pub use cal_types::MonthInfo;
+pub use cal_types::Overflow;
+pub use cal_types::ParseError;
+pub use cal_types::RangeError;
+pub use cal_types::TableFault;
+pub use cal_types::TablePart;
+pub use cal_types::TinyAsciiStr;
+pub use cal_types::TinyStrError;
+pub use cal_types::UnknownEraError;
+pub use cal_types::WeekInformation;
+pub use cal_types::Weekday;
+pub use cal_types::WeekdaySet;
+pub use cal_types::WeekdaySetIterator;
+pub use cal_types::YearAmbiguity;
+pub use cal_types::YearInfo;
+pub use cal_types::YearInput;
 pub use date::Date;
-pub use span_parts::{BagSide, Span, SpanError};
+pub use easter::easter_gregorian;
+pub use easter::easter_julian;
+pub use ixdtf_record::DateRecord;
+pub use ixdtf_record::IxdtfRecord;
+pub use span_parts::BagSide;
+pub use span_parts::Span;
+pub use span_parts::SpanError;
 pub use spans::span;

@@ -2,13 +2,18 @@
 
 ghost use Rattle.cal_days.specs.Day.{IsValidDay};
 
+mod any_calendars;
 mod comparing;
+mod constructors;
 mod conversions;
 mod differences;
 mod getters;
 mod kinds;
 mod spans;
 mod sums;
+mod texts;
+mod weeks;
+mod wrappers;
 
 use crate::date::Date;
 use cal_any::AnyCalendar;

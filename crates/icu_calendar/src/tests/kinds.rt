@@ -2,6 +2,7 @@
 
 use super::*;
 use cal_any::{AnyCalendarKind, Tables};
+use cal_types::{CalendarAlgorithm, HijriCalendarAlgorithm};
 
 /// The program's names with the kinds of CLDR's calendars, and the kind that has none.
 #[test]
@@ -33,6 +34,49 @@ fn names_of_kinds(rt: HostRuntime) {
         "", "ISO", "iso ", "is", "isos", "japanext", "islamic", "gregory",
     ] {
         assert!(rt; AnyCalendarKind::from_program_name(name.as_bytes()).is_none());
+    }
+}
+
+/// The kinds of CLDR's calendars, and their texts.
+#[test]
+fn kinds_of_algorithms(rt: HostRuntime) {
+    use HijriCalendarAlgorithm::{Civil, Rgsa, Tbla, Umalqura};
+    for (algorithm, text) in [
+        (CalendarAlgorithm::Buddhist, "Buddhist"),
+        (CalendarAlgorithm::Chinese, "Chinese"),
+        (CalendarAlgorithm::Coptic, "Coptic"),
+        (CalendarAlgorithm::Dangi, "Dangi"),
+        (CalendarAlgorithm::Ethioaa, "EthiopianAmeteAlem"),
+        (CalendarAlgorithm::Ethiopic, "Ethiopian"),
+        (CalendarAlgorithm::Gregory, "Gregorian"),
+        (CalendarAlgorithm::Hebrew, "Hebrew"),
+        (
+            CalendarAlgorithm::Hijri(Some(Civil)),
+            "HijriTabularTypeIIFriday",
+        ),
+        (
+            CalendarAlgorithm::Hijri(Some(Tbla)),
+            "HijriTabularTypeIIThursday",
+        ),
+        (CalendarAlgorithm::Hijri(Some(Umalqura)), "HijriUmmAlQura"),
+        (CalendarAlgorithm::Indian, "Indian"),
+        (CalendarAlgorithm::Iso8601, "Iso"),
+        (CalendarAlgorithm::Japanese, "Japanese"),
+        (CalendarAlgorithm::Persian, "Persian"),
+        (CalendarAlgorithm::Roc, "Roc"),
+    ] {
+        match AnyCalendarKind::try_from(algorithm) {
+            Ok(kind) => assert!(rt;
+                format!(in rt.alloc(); "{kind}").is_ok_and(|s| s.as_str() == text)
+            ),
+            Err(()) => assert!(rt; false, "{text}"),
+        }
+    }
+    for algorithm in [
+        CalendarAlgorithm::Hijri(None),
+        CalendarAlgorithm::Hijri(Some(Rgsa)),
+    ] {
+        assert!(rt; AnyCalendarKind::try_from(algorithm).is_err());
     }
 }
 

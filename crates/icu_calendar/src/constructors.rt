@@ -1,0 +1,282 @@
+//! Dates of one calendar, of its own fields: a year from -9999 to 9999, a month and a day. None of them is changed to
+//! fit.
+
+ghost use Rattle.std.specs.Prelude.{◌≡◌, IfOk};
+ghost use Rattle.cal_types.specs.MonthParts.{month_parts};
+ghost use Rattle.cal_types.specs.RangeParts.{range_parts, date_fault};
+ghost use Rattle.cal_types.specs.declared.year.YearInput.TheVariants.{Extended};
+ghost use Rattle.cal_model.specs.Constructing.{made_date};
+ghost use Rattle.cal_model.specs.Placing.{lunisolar_answer, placed_date, placed_of_era};
+ghost use Rattle.cal_arith.specs.Dates.{answer_by};
+ghost use Rattle.cal_base.specs.IsoSystem.{iso_date, iso_list};
+ghost use Rattle.cal_gregory.specs.GregorianSystem.{gregorian_date, gregorian_system};
+ghost use Rattle.cal_gregory.specs.BuddhistSystem.{buddhist_date, buddhist_system};
+ghost use Rattle.cal_gregory.specs.RocSystem.{roc_date, roc_system};
+ghost use Rattle.cal_gregory.specs.JapaneseSystem.{japanese_date, japanese_system};
+ghost use Rattle.cal_julian.specs.JulianList.{julian_list};
+ghost use Rattle.cal_julian.specs.JulianSystem.{julian_date};
+ghost use Rattle.cal_julian.specs.IndianList.{indian_list};
+ghost use Rattle.cal_julian.specs.IndianSystem.{indian_date};
+ghost use Rattle.cal_julian.specs.PersianSystem.{persian_date, persian_system};
+ghost use Rattle.cal_coptic.specs.CopticList.{coptic_list};
+ghost use Rattle.cal_coptic.specs.CopticSystem.{coptic_date};
+ghost use Rattle.cal_coptic.specs.EthiopianSystem.{ethiopian_date, ethiopian_system};
+ghost use Rattle.cal_hebrew.specs.HebrewSystem.{hebrew_date, hebrew_system};
+ghost use Rattle.cal_hijri.specs.HijriList.{hijri_list};
+ghost use Rattle.cal_hijri.specs.HijriSystem as hijri;
+ghost use Rattle.cal_east_asian.specs.EastAsianSystem as east_asian;
+ghost use Rattle.cal_east_asian.specs.EastAsianReferences.{side_reference};
+ghost use Rattle.cal_east_asian.specs.TableRules.{table_year};
+ghost use Rattle.cal_east_asian.specs.declared.sides.Side.TheVariants.{China, Korea};
+ghost use Rattle.icu_calendar.specs.Answers.{answer_with};
+
+use crate::date::Date;
+use crate::placing::{lunisolar, placed, placed_in_era};
+use cal_base::{AsCalendar, Iso};
+use cal_coptic::{Coptic, Ethiopian, EthiopianEraStyle};
+use cal_east_asian::{ChineseTraditional, KoreanTraditional};
+use cal_gregory::{Buddhist, Gregorian, Japanese, Roc};
+use cal_hebrew::Hebrew;
+use cal_hijri::{Hijri, Rules};
+use cal_julian::{Indian, Julian, Persian};
+use cal_types::{DateError, LunisolarDateError, Month, RangeError};
+
+impl Date<Iso> {
+    /// The ISO date of a year, a month and a day: 1992, 9, 2 is day 727443.
+    ///
+    /// The first that is out of its range is refused: `"year"` from -9999 to 9999, `"month"` from 1 to 12, `"day"`
+    /// from 1 to the month's length.
+    pub fn try_new_iso(year: i32, month: u8, day: u8) -> Result<Date<Iso>, RangeError>
+        ensures { answer_with (λ d. iso_date d.inner) range_parts result ≡ placed_date iso_list year month day }
+    {
+        placed(year, month, day, Iso)
+    }
+}
+
+impl Date<Gregorian> {
+    /// The Gregorian date of an extended year, a month and a day: 2024, 3, 1 is day 738946, and the year 0 is 1 BCE.
+    ///
+    /// The first that is out of its range is refused: `"year"` from -9999 to 9999, `"month"` from 1 to 12, `"day"`
+    /// from 1 to the month's length.
+    pub fn try_new_gregorian(year: i32, month: u8, day: u8) -> Result<Date<Gregorian>, RangeError>
+        ensures { answer_with (λ d. gregorian_date d.inner) range_parts result
+            ≡ placed_date gregorian_system.list year month day }
+    {
+        placed(year, month, day, Gregorian)
+    }
+}
+
+impl Date<Buddhist> {
+    /// The date of a Buddhist year, a month and a day: 2535, 9, 2 is the ISO date 1992-09-02.
+    ///
+    /// The first that is out of its range is refused: `"year"` from -9999 to 9999, `"month"` from 1 to 12, `"day"`
+    /// from 1 to the month's length.
+    pub fn try_new_buddhist(year: i32, month: u8, day: u8) -> Result<Date<Buddhist>, RangeError>
+        ensures { answer_with (λ d. buddhist_date d.inner) range_parts result
+            ≡ placed_date buddhist_system.list year month day }
+    {
+        placed(year, month, day, Buddhist)
+    }
+}
+
+impl Date<Roc> {
+    /// The date of a year of the Republic of China (Minguo), a month and a day: 81, 9, 2 is the ISO date 1992-09-02.
+    ///
+    /// The first that is out of its range is refused: `"year"` from -9999 to 9999, `"month"` from 1 to 12, `"day"`
+    /// from 1 to the month's length.
+    pub fn try_new_roc(year: i32, month: u8, day: u8) -> Result<Date<Roc>, RangeError>
+        ensures { answer_with (λ d. roc_date d.inner) range_parts result ≡ placed_date roc_system.list year month day }
+    {
+        placed(year, month, day, Roc)
+    }
+}
+
+impl Date<Julian> {
+    /// The Julian date of an extended year, a month and a day: 2021, 12, 19 is the ISO date 2022-01-01.
+    ///
+    /// The first that is out of its range is refused: `"year"` from -9999 to 9999, `"month"` from 1 to 12, `"day"`
+    /// from 1 to the month's length.
+    pub fn try_new_julian(year: i32, month: u8, day: u8) -> Result<Date<Julian>, RangeError>
+        ensures { answer_with (λ d. julian_date d.inner) range_parts result ≡ placed_date julian_list year month day }
+    {
+        placed(year, month, day, Julian)
+    }
+}
+
+impl Date<Coptic> {
+    /// The Coptic date of a year, a month and a day: 1687, 13, 6 is the ISO date 1971-09-11.
+    ///
+    /// The first that is out of its range is refused: `"year"` from -9999 to 9999, `"month"` from 1 to 13, `"day"`
+    /// from 1 to the month's length.
+    pub fn try_new_coptic(year: i32, month: u8, day: u8) -> Result<Date<Coptic>, RangeError>
+        ensures { answer_with (λ d. coptic_date d.inner) range_parts result ≡ placed_date coptic_list year month day }
+    {
+        placed(year, month, day, Coptic)
+    }
+}
+
+impl Date<Indian> {
+    /// The date of a Saka year, a month and a day of the Indian calendar: 1914, 6, 11 is the ISO date 1992-09-02.
+    ///
+    /// The first that is out of its range is refused: `"year"` from -9999 to 9999, `"month"` from 1 to 12, `"day"`
+    /// from 1 to the month's length.
+    pub fn try_new_indian(year: i32, month: u8, day: u8) -> Result<Date<Indian>, RangeError>
+        ensures { answer_with (λ d. indian_date d.inner) range_parts result ≡ placed_date indian_list year month day }
+    {
+        placed(year, month, day, Indian)
+    }
+}
+
+impl<'t> Date<Persian<'t>> {
+    /// The date of a year, a month and a day of a Persian calendar: without corrections, 1502, 12, 30 is day 775489.
+    ///
+    /// The first that is out of its range is refused: `"year"` from -9999 to 9999, `"month"` from 1 to 12, `"day"`
+    /// from 1 to the month's length.
+    pub fn try_new_persian(
+        year: i32,
+        month: u8,
+        day: u8,
+        calendar: Persian<'t>,
+    ) -> Result<Date<Persian<'t>>, RangeError>
+        ensures placed { let list = (persian_system calendar.entry).list in
+            answer_with (λ d. persian_date d.inner) range_parts result ≡ placed_date list year month day }
+        ensures calendar { IfOk result (λ d. d.calendar ≡ calendar.entry) }
+    {
+        placed(year, month, day, calendar)
+    }
+}
+
+impl Date<Ethiopian> {
+    /// The Ethiopian date of a year in the era of the style, a month and a day: 1962, 4, 24 under Amete Mihret, or
+    /// 7462, 4, 24 under Amete Alem, is the ISO date 1970-01-02.
+    ///
+    /// The first that is out of its range is refused: `"year"` from -9999 to 9999, `"month"` from 1 to 13, `"day"`
+    /// from 1 to the month's length.
+    pub fn try_new_ethiopian(
+        era_style: EthiopianEraStyle,
+        year: i32,
+        month: u8,
+        day: u8,
+    ) -> Result<Date<Ethiopian>, RangeError>
+        ensures placed { let list = (ethiopian_system era_style).list in
+            answer_with (λ d. ethiopian_date era_style d.inner) range_parts result
+            ≡ placed_date list year month day }
+        ensures style { IfOk result (λ d. d.calendar.era_style ≡ era_style) }
+    {
+        placed(year, month, day, Ethiopian::new_with_era_style(era_style))
+    }
+}
+
+impl<A: AsCalendar<Calendar = Hijri<R>>, R: Rules> Date<A> {
+    /// The date of a year, a month and a day of a Hijri calendar: by the tabular rules of type II from Friday on,
+    /// 1445, 2, 1 is the ISO date 2023-08-18.
+    ///
+    /// The first that is out of its range is refused: `"year"` from -9999 to 9999, `"month"` from 1 to 12, `"day"`
+    /// from 1 to the month's length.
+    pub fn try_new_hijri_with_calendar(
+        year: i32,
+        month: u8,
+        day: u8,
+        calendar: A,
+    ) -> Result<Date<A>, RangeError>
+        ensures placed { let list = hijri_list (R.year_of (A.cal_of calendar).0) in
+            answer_with (λ d. hijri.packed_date d.inner.0.packed) range_parts result
+            ≡ placed_date list year month day }
+        ensures calendar { IfOk result (λ d. d.calendar ≡ calendar) }
+    {
+        placed(year, month, day, calendar)
+    }
+}
+
+impl Date<Hebrew> {
+    /// The Hebrew date of a year, a month and a day: 5782, `Month::leap(5)` (Adar I), 9 is the ISO date 2022-02-10.
+    ///
+    /// The refusals, in their order:
+    /// - [`LunisolarDateError::InvalidYear`]: the year isn't from -9999 to 9999;
+    /// - [`LunisolarDateError::MonthNotInCalendar`]: the month is none of the plain ones 1 to 12 and the leap month 5;
+    /// - [`LunisolarDateError::MonthNotInYear`]: the leap month isn't in the year;
+    /// - [`LunisolarDateError::InvalidDay`], with `max`: the day isn't from 1 to the month's length.
+    pub fn try_new_hebrew_v2(
+        year: i32,
+        month: Month,
+        day: u8,
+    ) -> Result<Date<Hebrew>, LunisolarDateError>
+        ensures { answer_by (λ d. hebrew_date d.inner) result ≡ lunisolar_answer
+            (made_date hebrew_system.list hebrew_system.year_names (Extended year) (month_parts month) day) }
+    {
+        lunisolar(year, month, day, Hebrew)
+    }
+}
+
+impl<'t> Date<ChineseTraditional<'t>> {
+    /// The Chinese date of a year, a month and a day; the year is the ISO year in which it begins. 1900,
+    /// `Month::leap(8)`, 1 is the ISO date 1900-09-24.
+    ///
+    /// The refusals, in their order:
+    /// - [`LunisolarDateError::InvalidYear`]: the year isn't from -9999 to 9999;
+    /// - [`LunisolarDateError::MonthNotInCalendar`]: the month's number isn't from 1 to 12;
+    /// - [`LunisolarDateError::MonthNotInYear`]: it is a leap month that the year lacks;
+    /// - [`LunisolarDateError::InvalidDay`], with `max`: the day isn't from 1 to the month's length.
+    pub fn try_new_chinese_traditional(
+        related_iso_year: i32,
+        month: Month,
+        day: u8,
+        calendar: ChineseTraditional<'t>,
+    ) -> Result<Date<ChineseTraditional<'t>>, LunisolarDateError>
+        ensures made { let year = table_year calendar.entry.0.table in
+            let s = east_asian.east_asian_system year (side_reference China) in
+            answer_by (λ d. east_asian.packed_date d.inner.0.packed) result ≡ lunisolar_answer
+            (made_date s.list s.year_names (Extended related_iso_year) (month_parts month) day) }
+        ensures calendar { IfOk result (λ d. d.calendar ≡ calendar.entry) }
+    {
+        lunisolar(related_iso_year, month, day, calendar)
+    }
+}
+
+impl<'t> Date<KoreanTraditional<'t>> {
+    /// The Korean date of a year, a month and a day; the year is the ISO year in which it begins. 1911,
+    /// `Month::new(12)`, 30 is the ISO date 1912-02-17.
+    ///
+    /// The refusals, in their order:
+    /// - [`LunisolarDateError::InvalidYear`]: the year isn't from -9999 to 9999;
+    /// - [`LunisolarDateError::MonthNotInCalendar`]: the month's number isn't from 1 to 12;
+    /// - [`LunisolarDateError::MonthNotInYear`]: it is a leap month that the year lacks;
+    /// - [`LunisolarDateError::InvalidDay`], with `max`: the day isn't from 1 to the month's length.
+    pub fn try_new_korean_traditional(
+        related_iso_year: i32,
+        month: Month,
+        day: u8,
+        calendar: KoreanTraditional<'t>,
+    ) -> Result<Date<KoreanTraditional<'t>>, LunisolarDateError>
+        ensures made { let year = table_year calendar.entry.0.table in
+            let s = east_asian.east_asian_system year (side_reference Korea) in
+            answer_by (λ d. east_asian.packed_date d.inner.0.packed) result ≡ lunisolar_answer
+            (made_date s.list s.year_names (Extended related_iso_year) (month_parts month) day) }
+        ensures calendar { IfOk result (λ d. d.calendar ≡ calendar.entry) }
+    {
+        lunisolar(related_iso_year, month, day, calendar)
+    }
+}
+
+impl<A: AsCalendar<Calendar = Japanese>> Date<A> {
+    /// The Japanese date of a year of an era, a month and a day: `"heisei"`, 1, 1, 1 is the ISO date 1989-01-01. The
+    /// era need not be the one that the date lies in: that date is printed in the year 64 of Showa.
+    ///
+    /// The refusals, in their order: [`DateError::Range`] for a `"year"` that isn't from -9999 to 9999,
+    /// [`DateError::UnknownEra`] for an era that the calendar doesn't read, and [`DateError::Range`] for a `"month"`
+    /// that isn't from 1 to 12, then for a `"day"` that isn't from 1 to the month's length.
+    pub fn try_new_japanese_with_calendar(
+        era: &str,
+        year: i32,
+        month: u8,
+        day: u8,
+        japanese_calendar: A,
+    ) -> Result<Date<A>, DateError>
+        ensures placed { let s = japanese_system (A.cal_of japanese_calendar) in
+            answer_with (λ d. japanese_date d.inner) date_fault result
+            ≡ placed_of_era s.list s.year_names era.now year month day }
+        ensures calendar { IfOk result (λ d. d.calendar ≡ japanese_calendar) }
+    {
+        placed_in_era(era, year, month, day, japanese_calendar)
+    }
+}

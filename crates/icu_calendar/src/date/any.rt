@@ -1,0 +1,69 @@
+//! Dates of one calendar as dates of any, and dates of any calendar in another.
+
+ghost use Rattle.std.specs.Prelude.{◌≡◌, IsTrue};
+ghost use Rattle.cal_model.specs.CalendarList.{IsOn, day_number};
+ghost use Rattle.cal_any.specs.AnySystem.{any_compatible, any_date, any_system};
+
+use super::Date;
+use cal_any::{AnyCalendar, IntoAnyCalendar};
+use cal_base::{AsCalendar, Calendar, Ref};
+
+impl<'t, C: IntoAnyCalendar<'t>> Date<C> {
+    /// The same date, of the calendar in its variant of [`AnyCalendar`].
+    pub fn to_any(self) -> Date<AnyCalendar<'t>>
+        ensures calendar { result.calendar ≡ C.in_any self.calendar }
+        ensures date { any_date result.calendar result.inner ≡ C.date_of self.calendar self.inner }
+        ensures day { let day = day_number (C.system self.calendar).list (C.date_of self.calendar self.inner) in
+            day_number (any_system result.calendar).list (any_date result.calendar result.inner) ≡ day }
+    {
+        let Date { inner, calendar } = self;
+        let inner = calendar.date_to_any(&inner);
+        Date {
+            inner,
+            calendar: calendar.to_any(),
+        }
+    }
+}
+
+/// The same day in another calendar of the same type: where the two are compatible, the date as it is kept, and
+/// otherwise the date of the same day number there.
+fn converted<'a, A: AsCalendar<Calendar = K>, K: Calendar + AsCalendar<Calendar = K>>(
+    date: &Date<A>,
+    calendar: &'a K,
+) -> Date<Ref<'a, K>>
+    ensures on { let c = A.cal_of date.now.calendar in
+        let shown = K.cal_of calendar.now in
+        let day = day_number (K.system c).list (K.date_of c date.now.inner) in
+        IsOn (K.system shown).list day (K.date_of shown result.inner) }
+    ensures kept { IsTrue (K.compatible (A.cal_of date.now.calendar) (K.cal_of calendar.now)) →
+        result.inner ≡ date.now.inner }
+    ensures calendar { result.calendar.0.now ≡ calendar.now }
+{
+    let shown = Ref(calendar);
+    match date
+        .calendar
+        .as_calendar()
+        .check_date_compatibility(shown.as_calendar())
+    {
+        Ok(()) => Date {
+            inner: date.inner,
+            calendar: shown,
+        },
+        Err(_) => date.to_calendar(shown),
+    }
+}
+
+impl<'t, A: AsCalendar<Calendar = AnyCalendar<'t>>> Date<A> {
+    /// The same day in another calendar: where the two are compatible, the date as it is kept, and otherwise the
+    /// date of the same day number there.
+    pub fn convert_any<'a>(&self, calendar: &'a AnyCalendar<'t>) -> Date<Ref<'a, AnyCalendar<'t>>>
+        ensures on { let c = A.cal_of self.now.calendar in
+            let day = day_number (any_system c).list (any_date c self.now.inner) in
+            IsOn (any_system calendar.now).list day (any_date calendar.now result.inner) }
+        ensures kept { IsTrue (any_compatible (A.cal_of self.now.calendar) calendar.now) →
+            result.inner ≡ self.now.inner }
+        ensures calendar { result.calendar.0.now ≡ calendar.now }
+    {
+        converted(self, calendar)
+    }
+}

@@ -1,0 +1,126 @@
+//! Which dates are equal, and which comes first.
+
+ghost use Rattle.std.specs.Prelude.{◌≡◌, ◌↔◌, ◌&&◌, if◌then◌else◌, IsTrue, Some, None};
+ghost use Rattle.std.specs.Ordering.{int_cmp};
+ghost use Rattle.std.specs.Cmp.{on_equiv, on_po, on_total, and_equiv, partial_equiv_from_equiv};
+ghost use Rattle.cal_model.specs.CalendarList.{day_number};
+ghost use Rattle.icu_calendar.specs.Comparing.{compatible-alike, ordered_within, all_ordered, all_equal};
+
+use super::Date;
+use cal_base::{AsCalendar, Calendar};
+use std::cmp::Ordering;
+use std::convert::Infallible;
+
+impl<A: AsCalendar> Date<A>
+where
+    A::Calendar: Calendar,
+{
+    /// Whether the two calendars are compatible, and year, month and day are the same. The dates may lead to their
+    /// calendars in two ways, as one that is borrowed and one that is counted.
+    pub fn same_date<B: AsCalendar<Calendar = A::Calendar>>(&self, other: &Date<B>) -> bool
+        ensures equal { let c = A.cal_of self.now.calendar in
+            let compatible = A.Calendar.compatible c (B.cal_of other.now.calendar) in
+            result ≡ (compatible && A.Calendar.DateInner.eq self.now.inner other.now.inner) }
+        ensures date { let c = A.cal_of self.now.calendar in
+            let same = A.Calendar.date_of c self.now.inner ≡ A.Calendar.date_of c other.now.inner in
+            IsTrue result ↔ (IsTrue (A.Calendar.compatible c (B.cal_of other.now.calendar)) × same) }
+    {
+        is_compatible(&self.calendar, &other.calendar) && self.inner == other.inner
+    }
+
+    /// The order of the two dates, which is that of their day numbers. None exactly where the two calendars aren't
+    /// compatible.
+    pub fn date_cmp<B: AsCalendar<Calendar = A::Calendar>>(
+        &self,
+        other: &Date<B>,
+    ) -> Option<Ordering>
+        ensures ordered { let c = A.cal_of self.now.calendar in
+            let compatible = A.Calendar.compatible c (B.cal_of other.now.calendar) in
+            result ≡ (if compatible then A.Calendar.DateInner.partial_cmp self.now.inner other.now.inner else None) }
+        ensures days { let c = A.cal_of self.now.calendar in let d = B.cal_of other.now.calendar in
+            let day = day_number (A.Calendar.system c).list (A.Calendar.date_of c self.now.inner) in
+            let other_day = day_number (A.Calendar.system d).list (A.Calendar.date_of d other.now.inner) in
+            result ≡ (if A.Calendar.compatible c d then Some (int_cmp day other_day) else None) }
+    {
+        if is_compatible(&self.calendar, &other.calendar) {
+            self.inner.partial_cmp(&other.inner)
+        } else {
+            None
+        }
+    }
+}
+
+/// Whether dates of two calendars can be compared.
+fn is_compatible<A: AsCalendar, B: AsCalendar<Calendar = A::Calendar>>(
+    first: &A,
+    second: &B,
+) -> bool
+where
+    A::Calendar: Calendar,
+    ensures { result ≡ A.Calendar.compatible (A.cal_of first.now) (B.cal_of second.now) }
+{
+    first
+        .as_calendar()
+        .check_date_compatibility(second.as_calendar())
+        .is_ok()
+}
+
+/// As [`Date::same_date`].
+impl<A: AsCalendar<Calendar = K>, K: Calendar<DateInner = D>, D: Eq + Copy + PartialOrd> PartialEq
+    for Date<A, K, D> {
+    ghost eq = { λ d e. K.compatible (A.cal_of d.calendar) (A.cal_of e.calendar) && D.eq d.inner e.inner };
+
+    ghost laws = { partial_equiv_from_equiv (and_equiv
+        (on_equiv (λ d. A.cal_of d.calendar)
+        (compatible-alike K.compatible K.compatible_itself K.compatible_back K.compatible_on))
+        (on_equiv (λ d. d.inner) D.Eq.laws)) };
+
+    fn eq(&self, other: &Self) -> bool {
+        self.same_date(other)
+    }
+}
+
+impl<A: AsCalendar<Calendar = K>, K: Calendar<DateInner = D>, D: Eq + Copy + PartialOrd> Eq
+    for Date<A, K, D> {
+    ghost laws = { and_equiv
+        (on_equiv (λ d. A.cal_of d.calendar)
+        (compatible-alike K.compatible K.compatible_itself K.compatible_back K.compatible_on))
+        (on_equiv (λ d. d.inner) D.Eq.laws) };
+}
+
+/// As [`Date::date_cmp`].
+impl<A: AsCalendar<Calendar = K>, K: Calendar<DateInner = D>, D: Eq + Copy + PartialOrd> PartialOrd
+    for Date<A, K, D> {
+    ghost partial_cmp = { λ d e. if K.compatible (A.cal_of d.calendar) (A.cal_of e.calendar)
+        then D.partial_cmp d.inner e.inner else None };
+
+    ghost laws = { ordered_within
+        (on_equiv (λ d. A.cal_of d.calendar)
+        (compatible-alike K.compatible K.compatible_itself K.compatible_back K.compatible_on))
+        (on_po (λ d. d.inner) D.PartialOrd.laws) };
+
+    fn partial_cmp(&self, other: &Self) -> Option<Ordering> {
+        self.date_cmp(other)
+    }
+}
+
+/// The order of the days, where any two calendars of the type are compatible.
+impl<
+    A: AsCalendar<Calendar = K>,
+    K: Calendar<DateInner = D, DateCompatibilityError = Infallible>,
+    D: Ord + Copy,
+> Ord for Date<A, K, D> {
+    ghost cmp = { λ d e. D.cmp d.inner e.inner };
+
+    ghost total = { on_total (λ d. d.inner) D.total };
+
+    ghost matches_partial_cmp = { λ d e. all_ordered
+        (K.refusal (A.cal_of d.calendar) (A.cal_of e.calendar)) (D.matches_partial_cmp d.inner e.inner) };
+
+    ghost matches_eq = { λ d e. all_equal
+        (K.refusal (A.cal_of d.calendar) (A.cal_of e.calendar)) (D.matches_eq d.inner e.inner) };
+
+    fn cmp(&self, other: &Self) -> Ordering {
+        self.inner.cmp(&other.inner)
+    }
+}
