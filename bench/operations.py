@@ -26,6 +26,7 @@ OPERATIONS = {
     "difference": ("difference in years, some centuries apart, less `pair`", "pair"),
     "months": ("difference in months over a year, less `pair`", "pair"),
     "far-months": ("difference in months over about two million years, less `pair`", "pair"),
+    "text": ("a plain ISO date text read, and its day number", None),
 }
 CALENDARS = [
     *["iso", "gregorian", "buddhist", "roc", "japanese", "julian", "coptic", "ethiopic", "indian", "persian", "hebrew"],

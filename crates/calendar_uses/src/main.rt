@@ -1,8 +1,12 @@
 //! Uses of `icu_calendar`, as its callers write them, and a program that prints them.
 #![tactic(auto)]
 
+mod every_calendar;
+mod feasts;
 mod uses;
 
+use every_calendar::print_every_calendar;
+use feasts::{hebrew_text_in_gregorian, next_easter};
 use icu_calendar::{
     AnyCalendar, AsCalendar, Calendar, Date, DateDuration, Gregorian, Iso, Julian, RataDie,
 };
@@ -94,10 +98,30 @@ fn print_order(rt: &HostRuntime) -> io::Result<()> {
     println!(rt; "{last:?} is earlier than {first:?}: {order}")
 }
 
+/// The day of a text, and why there is none.
+fn print_texts(rt: &HostRuntime) -> io::Result<()> {
+    for text in ["2024-03-01[u-ca=hebrew]", "2024-03-01[u-ca=gregory]"] {
+        match hebrew_text_in_gregorian(text) {
+            Ok(date) => println!(rt; "{text}: {date:?}")?,
+            Err(fault) => println!(rt; "{text}: {fault}")?,
+        }
+    }
+    Ok(())
+}
+
+/// The next Easter after 2024-03-01, and the next one after that.
+fn print_feasts(rt: &HostRuntime) -> io::Result<()> {
+    let first = next_easter(&Date::from_rata_die(RataDie::new(738946), Gregorian));
+    println!(rt; "Easter: {first:?}, and then {:?}", next_easter(&first))
+}
+
 fn main(rt: HostRuntime) -> io::Result<()> {
     print_forms(&rt)?;
     print_chosen_calendar(&rt)?;
     print_recurrence(&rt)?;
     print_age(&rt)?;
-    print_order(&rt)
+    print_order(&rt)?;
+    print_every_calendar(&rt)?;
+    print_texts(&rt)?;
+    print_feasts(&rt)
 }

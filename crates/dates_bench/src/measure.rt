@@ -14,6 +14,9 @@ const CONSTRAIN: DateAddOptions = DateAddOptions {
     overflow: Some(Overflow::Constrain),
 };
 
+/// Plain ISO date texts.
+const TEXTS: [&[u8]; 4] = [b"1643-01-05", b"1992-09-02", b"2024-02-29", b"2465-12-31"];
+
 /// The months of about two million years.
 const FAR_MONTHS: i32 = 23900000;
 
@@ -94,6 +97,17 @@ where
     i64::from(first) + i64::from(second)
 }
 
+/// The day number of the date that a text names, and 0 where it names none.
+fn day_of_text<A: AsCalendar + Copy>(turn_day: u64, calendar: A) -> i64
+where
+    A::Calendar: Calendar,
+{
+    match Date::try_from_utf8(TEXTS[(turn_day % 4) as usize], calendar) {
+        Ok(date) => date.to_rata_die().to_i64_date(),
+        Err(_) => 0,
+    }
+}
+
 /// The day of the other date of a pair, 547 to 821 years before.
 fn other_day(day: u64) -> i64
     requires { day < 900000 }
@@ -153,6 +167,7 @@ where
             DateDurationUnit::Months,
             calendar,
         ),
+        Operation::Text => day_of_text(turn_day, calendar),
     }
 }
 

@@ -23,6 +23,8 @@ pub enum Operation {
     MonthsOverAYear,
     /// The difference in months between two dates about two million years apart.
     FarMonths,
+    /// A plain ISO date text read into the calendar, and its day number.
+    Text,
 }
 
 /// A calendar's name.
@@ -83,6 +85,7 @@ fn read_operation(word: &str) -> Option<Operation> {
         "difference" => Some(Operation::Difference),
         "months" => Some(Operation::MonthsOverAYear),
         "far-months" => Some(Operation::FarMonths),
+        "text" => Some(Operation::Text),
         _ => None,
     }
 }

@@ -1,0 +1,83 @@
+//! A date of each calendar, made by that calendar's constructor, compared with another day and shown in ISO.
+
+use icu_calendar::{
+    AsCalendar, Calendar, ChineseTraditional, Date, EastAsianTable, EthiopianEraStyle, Hijri,
+    HijriTable, Iso, Japanese, KoreanTraditional, Month, Persian, PersianCorrections, RataDie,
+    Side, TabularAlgorithmEpoch, TabularAlgorithmLeapYears,
+};
+use std::{fmt, io};
+
+/// A date that was made, the same day in ISO, and how it stands to another day; or why there is none.
+fn print_made<A: AsCalendar, E: fmt::Display + Drop>(
+    rt: &HostRuntime,
+    made: Result<Date<A>, E>,
+    day: &Date<Iso>,
+) -> io::Result<()>
+where
+    A::Calendar: Calendar,
+{
+    match made {
+        Ok(date) => {
+            let iso = date.to_calendar(Iso);
+            println!(rt; "{date:?} is {iso:?}: {:?}", iso.cmp(day))
+        }
+        Err(fault) => println!(rt; "{fault}"),
+    }
+}
+
+/// 2024-03-01 in the calendars with Gregorian months.
+fn print_gregorian(rt: &HostRuntime, day: &Date<Iso>) -> io::Result<()> {
+    print_made(rt, Date::try_new_iso(2024, 3, 1), day)?;
+    print_made(rt, Date::try_new_gregorian(2024, 3, 1), day)?;
+    print_made(rt, Date::try_new_buddhist(2567, 3, 1), day)?;
+    print_made(rt, Date::try_new_roc(113, 3, 1), day)?;
+    let japanese = Japanese::new();
+    let in_reiwa = Date::try_new_japanese_with_calendar("reiwa", 6, 3, 1, japanese);
+    print_made(rt, in_reiwa, day)
+}
+
+/// The same day in the calendars with other solar months.
+fn print_solar(rt: &HostRuntime, day: &Date<Iso>) -> io::Result<()> {
+    print_made(rt, Date::try_new_julian(2024, 2, 17), day)?;
+    print_made(rt, Date::try_new_coptic(1740, 6, 22), day)?;
+    let style = EthiopianEraStyle::AmeteMihret;
+    print_made(rt, Date::try_new_ethiopian(style, 2016, 6, 22), day)?;
+    print_made(rt, Date::try_new_indian(1945, 12, 11), day)?;
+    let persian = Persian::new(PersianCorrections::none());
+    print_made(rt, Date::try_new_persian(1402, 12, 11, persian), day)
+}
+
+/// The same day in the calendars of the moon alone.
+fn print_hijri(rt: &HostRuntime, day: &Date<Iso>) -> io::Result<()> {
+    let leap_years = TabularAlgorithmLeapYears::TypeII;
+    let civil = Hijri::new_tabular(leap_years, TabularAlgorithmEpoch::Friday);
+    print_made(
+        rt,
+        Date::try_new_hijri_with_calendar(1445, 8, 20, civil),
+        day,
+    )?;
+    let umm_al_qura = Hijri::new_umm_al_qura(HijriTable::none());
+    let computed = Date::try_new_hijri_with_calendar(1445, 8, 20, umm_al_qura);
+    print_made(rt, computed, day)
+}
+
+/// The same day in the Hebrew calendar, and older days in the Chinese and the Korean one.
+fn print_lunisolar(rt: &HostRuntime, day: &Date<Iso>) -> io::Result<()> {
+    print_made(rt, Date::try_new_hebrew_v2(5784, Month::leap(5), 21), day)?;
+    let chinese = ChineseTraditional::new(EastAsianTable::none(Side::China));
+    let leap_month = Date::try_new_chinese_traditional(1900, Month::leap(8), 1, chinese);
+    print_made(rt, leap_month, day)?;
+    let korean = KoreanTraditional::new(EastAsianTable::none(Side::Korea));
+    let last_day = Date::try_new_korean_traditional(1911, Month::new(12), 30, korean);
+    print_made(rt, last_day, day)
+}
+
+/// A date of each calendar, and the refusal of a month that isn't there.
+pub fn print_every_calendar(rt: &HostRuntime) -> io::Result<()> {
+    let day = Date::from_rata_die(RataDie::new(738946), Iso);
+    print_gregorian(rt, &day)?;
+    print_solar(rt, &day)?;
+    print_lunisolar(rt, &day)?;
+    print_hijri(rt, &day)?;
+    print_made(rt, Date::try_new_iso(2024, 0, 1), &day)
+}
