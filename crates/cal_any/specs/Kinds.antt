@@ -1,8 +1,8 @@
 -- The kinds of calendars: their names, and the calendar of each kind over tables.
 use Rattle.std.specs.Prelude.{ℕ, ℤ, pos, List, [], ◌∷◌, Option, Some, None, if◌then◌else◌, codes}
-use Rattle.cal_types.specs.declared.algorithm.CalendarAlgorithm.{CalendarAlgorithm}
-use Rattle.cal_types.specs.declared.algorithm.CalendarAlgorithm.TheVariants as algorithm
-use Rattle.cal_types.specs.declared.algorithm.HijriCalendarAlgorithm.TheVariants.{Civil, Rgsa, Tbla, Umalqura}
+use Rattle.cal_algorithms.specs.declared.algorithm.CalendarAlgorithm.{CalendarAlgorithm}
+use Rattle.cal_algorithms.specs.declared.algorithm.CalendarAlgorithm.TheVariants as algorithm
+use Rattle.cal_algorithms.specs.declared.algorithm.HijriCalendarAlgorithm.TheVariants.{Civil, Rgsa, Tbla, Umalqura}
 use Rattle.cal_model.specs.CalendarSystem.{CalendarSystem}
 use Rattle.cal_model.specs.YearNames.{is_code}
 use Rattle.cal_base.specs.IsoSystem.{iso_system}

@@ -2,7 +2,7 @@
 
 ghost use Rattle.std.specs.Prelude.{◌≡◌, ok_or};
 ghost use Rattle.cal_model.specs.YearNames.{is_code};
-ghost use Rattle.cal_types.specs.declared.algorithm.CalendarAlgorithm.TheVariants.{Hijri};
+ghost use Rattle.cal_algorithms.specs.declared.algorithm.CalendarAlgorithm.TheVariants.{Hijri};
 ghost use Rattle.cal_any.specs.Kinds.{kind_named, kind_of_algorithm};
 
 use cal_types::{CalendarAlgorithm, HijriCalendarAlgorithm};

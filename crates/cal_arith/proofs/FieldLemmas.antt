@@ -4,8 +4,8 @@ use Rattle.std.specs.Prelude.{◌&&◌, nat_le}
 use Rattle.std.proofs.lemmas.Bool.Decides.{nat_tests}
 use Rattle.cal_types.specs.Month.{MonthParts}
 use Rattle.cal_types.specs.declared.options.Overflow.{Overflow}
-use Rattle.cal_types.specs.declared.errors.MonthError.{MonthError}
-use Rattle.cal_types.specs.declared.errors.MonthError.TheVariants.{NotInCalendar, NotInYear}
+use Rattle.cal_errors.specs.declared.errors.MonthError.{MonthError}
+use Rattle.cal_errors.specs.declared.errors.MonthError.TheVariants.{NotInCalendar, NotInYear}
 use Rattle.cal_model.specs.CalendarList.{CalendarList, HasPlace, spot}
 use Rattle.cal_model.proofs.ListLemmas.{spot-place}
 use Rattle.cal_arith.specs.FieldNames.{era_read}

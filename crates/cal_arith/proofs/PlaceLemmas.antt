@@ -3,7 +3,7 @@ use Rattle.std.proofs.Common.{◌≡◌, ℕ, ℤ, true, None, ok_or, refl, sym,
 use Rattle.cal_types.specs.Month.{MonthParts}
 use Rattle.cal_types.specs.declared.options.Overflow.{Overflow}
 use Rattle.cal_types.specs.declared.options.Overflow.TheVariants.{Constrain}
-use Rattle.cal_types.specs.declared.errors.MonthError.TheVariants.{NotInYear}
+use Rattle.cal_errors.specs.declared.errors.MonthError.TheVariants.{NotInYear}
 use Rattle.cal_model.specs.CalendarList.{CalendarList, HasPlace, IsLawful, month_at, spot}
 use Rattle.cal_arith.specs.Places.{ordinal_month}
 

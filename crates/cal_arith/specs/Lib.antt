@@ -5,4 +5,3 @@ pub mod Counting
 pub mod Places
 pub mod Ticks
 pub mod FieldNames
-pub mod AlternatingMonths

@@ -2,8 +2,8 @@
 use Rattle.std.specs.Prelude.{ℕ, ℤ, Result, Err, ok_or, if◌then◌else◌}
 use Rattle.cal_types.specs.Month.{MonthParts}
 use Rattle.cal_types.specs.declared.options.Overflow.{Overflow}
-use Rattle.cal_types.specs.declared.errors.MonthError.{MonthError}
-use Rattle.cal_types.specs.declared.errors.MonthError.TheVariants.{NotInCalendar, NotInYear}
+use Rattle.cal_errors.specs.declared.errors.MonthError.{MonthError}
+use Rattle.cal_errors.specs.declared.errors.MonthError.TheVariants.{NotInCalendar, NotInYear}
 use Rattle.cal_model.specs.CalendarList.{CalendarList, spot}
 
 -- a month that the calendar does not know; else its spot, or that the year lacks it

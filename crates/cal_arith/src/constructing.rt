@@ -3,7 +3,7 @@
 ghost use Rattle.std.specs.Prelude.{◌≡◌, Err, IfOk, ok_or, pos, neg_ℤ, if◌then◌else◌};
 ghost use Rattle.cal_days.specs.Day.{IsCoveredYear, IsConstructorYear, is_constructor_year};
 ghost use Rattle.cal_types.specs.MonthParts.{month_parts};
-ghost use Rattle.cal_types.specs.declared.errors.DateNewError.TheVariants.{InvalidYear, InvalidEra};
+ghost use Rattle.cal_errors.specs.declared.errors.DateNewError.TheVariants.{InvalidYear, InvalidEra};
 ghost use Rattle.cal_model.specs.Constructing.{made_date, made_day, made_in_year, year_given, year_read};
 ghost use Rattle.cal_arith.specs.Dates.{answer_by, answer_of, date_of, Belongs};
 ghost use Rattle.cal_arith.specs.FieldNames.{era_read};

@@ -20,8 +20,6 @@ mod months_between;
 mod past;
 mod placing;
 pub mod steps;
-#[cfg(test)]
-mod tests;
 pub mod years;
 mod years_between;
 

@@ -5,7 +5,7 @@ ghost use Rattle.std.specs.Prelude.{◌≡◌, Some, None, IfOk, IfSome, pos, if
 ghost use Rattle.std.specs.Result.{result_map_both};
 ghost use Rattle.cal_days.specs.Day.{IsConstructorYear, IsCoveredYear, is_constructor_year};
 ghost use Rattle.cal_types.specs.MonthParts.{month_parts};
-ghost use Rattle.cal_types.specs.RangeParts.{range_parts, date_fault};
+ghost use Rattle.cal_errors.specs.RangeParts.{range_parts, date_fault};
 ghost use Rattle.cal_types.specs.declared.year.YearInput.TheVariants.{Extended};
 ghost use Rattle.cal_model.specs.Constructing.{made_date};
 ghost use Rattle.cal_model.specs.Placing.{lunisolar_answer, lunisolar_fault, out_of_range, placed_date, placed_day, placed_in_era, placed_in_year, placed_of_era, year_out_of_range};

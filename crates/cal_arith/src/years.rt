@@ -6,7 +6,7 @@ ghost use Rattle.cal_days.specs.Day.{IsBetween, IsValidDay, IsFieldYear, IsRuleY
 ghost use Rattle.cal_days.specs.Sums.{total};
 ghost use Rattle.cal_types.specs.Month.{MonthParts};
 ghost use Rattle.cal_types.specs.MonthParts.{month_parts};
-ghost use Rattle.cal_types.specs.declared.errors.EcmaReferenceYearError.TheVariants.{MonthNotInCalendar, UseRegularIfConstrain};
+ghost use Rattle.cal_errors.specs.declared.errors.EcmaReferenceYearError.TheVariants.{MonthNotInCalendar, UseRegularIfConstrain};
 ghost use Rattle.cal_model.specs.YearNames.{YearNames};
 ghost use Rattle.cal_arith.specs.FieldNames.{era_read, seen};
 ghost use Rattle.cal_model.specs.CalendarList.{Date, date, month_count, month_at, month_length, month_number, year_length, spot, start_of_year, day_number, IsDate, IsLawful, IsOn, IsValidDate};

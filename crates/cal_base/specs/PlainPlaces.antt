@@ -1,8 +1,8 @@
 -- The place of a month in a year of plain months.
 use Rattle.std.proofs.Common.{◌≡◌, ℕ, Bool, true, false, Some, Result, Ok, Err, if◌then◌else◌, refl, ap, ◌∙◌, ℤ}
 use Rattle.cal_types.specs.Month.{MonthParts}
-use Rattle.cal_types.specs.declared.errors.MonthError.{MonthError}
-use Rattle.cal_types.specs.declared.errors.MonthError.TheVariants.{NotInCalendar}
+use Rattle.cal_errors.specs.declared.errors.MonthError.{MonthError}
+use Rattle.cal_errors.specs.declared.errors.MonthError.TheVariants.{NotInCalendar}
 use Rattle.cal_types.specs.declared.options.Overflow.{Overflow}
 use Rattle.cal_model.specs.CalendarList.{CalendarList, HasPlace, month_at, spot}
 use Rattle.cal_model.specs.PlainMonths.{is_plain_month, numbered_month, HasPlainMonths}

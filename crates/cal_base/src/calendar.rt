@@ -7,7 +7,7 @@ ghost use Rattle.cal_types.specs.Bag.{bag_of};
 ghost use Rattle.cal_types.specs.Year.{extended_year_of};
 ghost use Rattle.cal_types.specs.MonthParts.{month_parts};
 ghost use Rattle.cal_types.specs.MonthInfoParts.{month_info_parts};
-ghost use Rattle.cal_types.specs.declared.algorithm.CalendarAlgorithm.{CalendarAlgorithm};
+ghost use Rattle.cal_algorithms.specs.declared.algorithm.CalendarAlgorithm.{CalendarAlgorithm};
 ghost use Rattle.cal_model.specs.CalendarList.{Date, IsDate, IsLawful, IsOn, IsValidDate, day_number, month_count, month_length, start_of_year, year_length};
 ghost use Rattle.cal_model.specs.CalendarSystem.{CalendarSystem, month_info_of, resolve_fields};
 ghost use Rattle.cal_model.specs.Constructing.{made_date};

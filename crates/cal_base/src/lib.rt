@@ -21,6 +21,3 @@ pub use iso::{Iso, IsoDateInner, IsoYears};
 pub use iso_year::{IsoYear, PackedIsoYear};
 pub use named_years::NamedYears;
 pub use refs::Ref;
-
-#[cfg(test)]
-mod tests;

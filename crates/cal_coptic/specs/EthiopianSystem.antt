@@ -1,7 +1,7 @@
 -- The Ethiopian calendar in one of its era styles.
 use Rattle.std.specs.Prelude.{Bool, ℕ, List, codes, ◌+ℤ◌}
-use Rattle.cal_types.specs.declared.algorithm.CalendarAlgorithm.{CalendarAlgorithm}
-use Rattle.cal_types.specs.declared.algorithm.CalendarAlgorithm.TheVariants.{Ethioaa, Ethiopic}
+use Rattle.cal_algorithms.specs.declared.algorithm.CalendarAlgorithm.{CalendarAlgorithm}
+use Rattle.cal_algorithms.specs.declared.algorithm.CalendarAlgorithm.TheVariants.{Ethioaa, Ethiopic}
 use Rattle.cal_types.specs.declared.month_info.LeapStatus.TheVariants.{Normal}
 use Rattle.cal_types.specs.declared.year.YearInfo.TheVariants.{Era}
 use Rattle.cal_days.specs.Coptic.{coptic_leap}

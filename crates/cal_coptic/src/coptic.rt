@@ -230,7 +230,7 @@ impl UnstableSealed for Coptic {}
 
 impl Calendar for Coptic {
     ghost use Rattle.std.specs.Prelude.{true, false, refl, codes, Some};
-    ghost use Rattle.cal_types.specs.declared.algorithm.CalendarAlgorithm.TheVariants.{Coptic as coptic};
+    ghost use Rattle.cal_algorithms.specs.declared.algorithm.CalendarAlgorithm.TheVariants.{Coptic as coptic};
     ghost use Rattle.cal_base.specs.Compatibility.{never_refused};
     ghost use Rattle.cal_base.specs.NumberedYears.{numbered_equal, numbered_ordered};
     ghost use Rattle.cal_coptic.specs.CopticList.{coptic_list};

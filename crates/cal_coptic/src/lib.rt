@@ -8,6 +8,3 @@ mod ethiopian;
 pub use coptic::{Coptic, CopticDateInner};
 pub use coptic_year::{CopticYear, PackedCopticDate};
 pub use ethiopian::{Ethiopian, EthiopianDateInner, EthiopianEraStyle};
-
-#[cfg(test)]
-mod tests;

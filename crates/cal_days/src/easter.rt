@@ -28,6 +28,3 @@ pub fn sunday_after(day: i64) -> RataDie
 {
     RataDie::new(day + 7 - day.rem_euclid(7))
 }
-
-#[cfg(test)]
-mod tests;

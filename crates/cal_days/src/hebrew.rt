@@ -200,6 +200,3 @@ pub fn year_from_fixed(rd: RataDie) -> i32
         near
     }
 }
-
-#[cfg(test)]
-mod tests;

@@ -15,7 +15,5 @@ pub mod julian;
 pub mod persian;
 pub mod ranges;
 pub mod rata_die;
-#[cfg(test)]
-mod tests;
 
 pub use rata_die::RataDie;

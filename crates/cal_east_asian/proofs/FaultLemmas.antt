@@ -5,9 +5,9 @@ use Rattle.cal_east_asian.specs.TableYears.{IsRow}
 use Rattle.cal_east_asian.specs.TableAccepted.{IsAccepted, IsFirstFault, IsFirstBroken, meets, rank}
 use Rattle.cal_east_asian.specs.TableRows.{one_row}
 use Rattle.cal_east_asian.specs.declared.east_asian_traditional_year.EastAsianTraditionalYear.{EastAsianTraditionalYear}
-use Rattle.cal_types.specs.declared.errors.TableFault.{TableFault}
-use Rattle.cal_types.specs.declared.errors.TablePart.{TablePart}
-use Rattle.cal_types.specs.declared.errors.TablePart.TheVariants.{Year, Join, End, Leap, Rule}
+use Rattle.cal_errors.specs.declared.errors.TableFault.{TableFault}
+use Rattle.cal_errors.specs.declared.errors.TablePart.{TablePart}
+use Rattle.cal_errors.specs.declared.errors.TablePart.TheVariants.{Year, Join, End, Leap, Rule}
 
 differ : {P : Type 0} (b : Bool) → b ≡ true → b ≡ false → P
 differ b on off = let e : true ≡ false = sym on ∙ off in absurd cc

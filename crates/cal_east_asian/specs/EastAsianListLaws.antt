@@ -3,8 +3,8 @@ use Rattle.std.proofs.Common.{◌≡◌, ℕ, zero, suc, ◌+◌, ◌-◌, ◌/�
 use Rattle.std.specs.Prelude.{nat_eq, ok_or}
 use Rattle.std.proofs.lemmas.Bool.Decides.{nat_tests}
 use Rattle.cal_types.specs.Month.{MonthParts, month_rank}
-use Rattle.cal_types.specs.declared.errors.MonthError.{MonthError}
-use Rattle.cal_types.specs.declared.errors.MonthError.TheVariants.{NotInYear}
+use Rattle.cal_errors.specs.declared.errors.MonthError.{MonthError}
+use Rattle.cal_errors.specs.declared.errors.MonthError.TheVariants.{NotInYear}
 use Rattle.cal_types.specs.declared.options.Overflow.{Overflow}
 use Rattle.cal_types.specs.declared.options.Overflow.TheVariants.{Constrain, Reject}
 use Rattle.cal_model.specs.CalendarList.{Entry, entry_at, days_before, month_length, month_count, month_at, place_of, spot, first_of_two, HasPlace, IsLawful}

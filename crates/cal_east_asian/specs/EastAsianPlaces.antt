@@ -1,8 +1,8 @@
 -- The months of a Chinese or Korean year by their places, in closed form: for a year whose leap month has the place p, or 0 without one.
 use Rattle.std.specs.Prelude.{ℕ, zero, suc, ◌+◌, ◌-◌, ◌/◌, ◌%◌, ◌^◌, Bool, ◌&&◌, ◌||◌, nat_eq, nat_le, nat_lt, if◌then◌else◌, Result, Ok, Err}
 use Rattle.cal_types.specs.Month.{MonthParts}
-use Rattle.cal_types.specs.declared.errors.MonthError.{MonthError}
-use Rattle.cal_types.specs.declared.errors.MonthError.TheVariants.{NotInCalendar, NotInYear}
+use Rattle.cal_errors.specs.declared.errors.MonthError.{MonthError}
+use Rattle.cal_errors.specs.declared.errors.MonthError.TheVariants.{NotInCalendar, NotInYear}
 use Rattle.cal_types.specs.declared.month_info.LeapStatus.{LeapStatus}
 use Rattle.cal_types.specs.declared.month_info.LeapStatus.TheVariants.{Normal, Leap, Base}
 use Rattle.cal_types.specs.declared.options.Overflow.{Overflow}

@@ -3,8 +3,8 @@
 use Rattle.std.specs.Prelude.{ℕ, ℤ, pos, ◌+◌, ◌-ℤ◌, Bool, ◌&&◌, nat_eq, None, Result, Err, if◌then◌else◌}
 use Rattle.cal_days.specs.Division.{floor_mod}
 use Rattle.cal_types.specs.Month.{MonthParts}
-use Rattle.cal_types.specs.declared.errors.EcmaReferenceYearError.{EcmaReferenceYearError}
-use Rattle.cal_types.specs.declared.errors.EcmaReferenceYearError.TheVariants.{MonthNotInCalendar}
+use Rattle.cal_errors.specs.declared.errors.EcmaReferenceYearError.{EcmaReferenceYearError}
+use Rattle.cal_errors.specs.declared.errors.EcmaReferenceYearError.TheVariants.{MonthNotInCalendar}
 use Rattle.cal_types.specs.declared.month_info.LeapStatus.{LeapStatus}
 use Rattle.cal_types.specs.declared.year.CyclicYear.{CyclicYear}
 use Rattle.cal_types.specs.declared.year.YearInfo.TheVariants.{Cyclic}

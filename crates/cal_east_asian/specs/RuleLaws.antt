@@ -3,8 +3,8 @@ use Rattle.std.proofs.Common.{◌≡◌, ℤ, Result, Ok, Err, refl, ap, ◌∙�
 use Rattle.std.specs.Prelude.{IsTrue}
 use Rattle.std.specs.Ordering.{int_eq}
 use Rattle.std.proofs.lemmas.Int.{ints}
-use Rattle.cal_types.specs.declared.errors.EcmaReferenceYearError.{EcmaReferenceYearError}
-use Rattle.cal_types.specs.declared.errors.EcmaReferenceYearError.TheVariants.{MonthNotInCalendar, UseRegularIfConstrain, Unimplemented}
+use Rattle.cal_errors.specs.declared.errors.EcmaReferenceYearError.{EcmaReferenceYearError}
+use Rattle.cal_errors.specs.declared.errors.EcmaReferenceYearError.TheVariants.{MonthNotInCalendar, UseRegularIfConstrain, Unimplemented}
 use Rattle.cal_east_asian.specs.EastAsianYears.{rule_year}
 use Rattle.cal_east_asian.specs.MeanYears.{IsOffset}
 use Rattle.cal_east_asian.specs.MeanTraditionalYears.{mean_parts, mean_traditional_year}

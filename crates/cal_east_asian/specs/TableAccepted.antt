@@ -5,9 +5,9 @@ use Rattle.cal_days.specs.Day.{IsBetween}
 use Rattle.cal_east_asian.specs.EastAsianYears.{parts_of, end_day, leap_in_three}
 use Rattle.cal_east_asian.specs.TableYears.{IsRow, chosen_year}
 use Rattle.cal_east_asian.specs.declared.east_asian_traditional_year.EastAsianTraditionalYear.{EastAsianTraditionalYear}
-use Rattle.cal_types.specs.declared.errors.TablePart.{TablePart}
-use Rattle.cal_types.specs.declared.errors.TablePart.TheVariants.{Year, Join, End, Leap, Rule}
-use Rattle.cal_types.specs.declared.errors.TableFault.{TableFault}
+use Rattle.cal_errors.specs.declared.errors.TablePart.{TablePart}
+use Rattle.cal_errors.specs.declared.errors.TablePart.TheVariants.{Year, Join, End, Leap, Rule}
+use Rattle.cal_errors.specs.declared.errors.TableFault.{TableFault}
 
 -- the row before row i
 abbrev pub row_before : List EastAsianTraditionalYear → ℕ → Option EastAsianTraditionalYear

@@ -6,7 +6,7 @@ use Rattle.cal_days.proofs.Signed.{signed, by_bool}
 use Rattle.cal_east_asian.specs.TableYears.{IsRow}
 use Rattle.cal_east_asian.specs.TableAccepted.{row_before, is_next, IsAccepted}
 use Rattle.cal_east_asian.specs.declared.east_asian_traditional_year.EastAsianTraditionalYear.{EastAsianTraditionalYear}
-use Rattle.cal_types.specs.declared.errors.TablePart.TheVariants.{Year}
+use Rattle.cal_errors.specs.declared.errors.TablePart.TheVariants.{Year}
 
 pub left_true : (a b : Bool) → (a && b) ≡ true → a ≡ true
 left_true true b e = refl

@@ -7,8 +7,8 @@ use Rattle.std.proofs.lemmas.Bool.Decides.{nat_tests}
 use Rattle.cal_days.specs.Day.{IsFieldYear}
 use Rattle.cal_days.proofs.Signed.{signed}
 use Rattle.cal_types.specs.Month.{MonthParts}
-use Rattle.cal_types.specs.declared.errors.EcmaReferenceYearError.{EcmaReferenceYearError}
-use Rattle.cal_types.specs.declared.errors.EcmaReferenceYearError.TheVariants.{MonthNotInCalendar, UseRegularIfConstrain}
+use Rattle.cal_errors.specs.declared.errors.EcmaReferenceYearError.{EcmaReferenceYearError}
+use Rattle.cal_errors.specs.declared.errors.EcmaReferenceYearError.TheVariants.{MonthNotInCalendar, UseRegularIfConstrain}
 use Rattle.cal_model.proofs.MonthCases.{by_month}
 use Rattle.cal_east_asian.specs.EastAsianYears.{AreYears}
 use Rattle.cal_east_asian.specs.EastAsianPlaces.{is_east_asian_month}

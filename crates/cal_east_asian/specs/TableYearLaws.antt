@@ -7,7 +7,7 @@ use Rattle.cal_east_asian.specs.EastAsianYears.{end_day, AreYears}
 use Rattle.cal_east_asian.specs.TableYears.{chosen_year, IsRow}
 use Rattle.cal_east_asian.specs.TableAccepted.{leap_by_years, joins, ends, leaps_after, IsAccepted}
 use Rattle.cal_east_asian.specs.declared.east_asian_traditional_year.EastAsianTraditionalYear.{EastAsianTraditionalYear}
-use Rattle.cal_types.specs.declared.errors.TablePart.TheVariants.{Join, End, Leap}
+use Rattle.cal_errors.specs.declared.errors.TablePart.TheVariants.{Join, End, Leap}
 use Rattle.cal_east_asian.specs.TableRows.{left_true, right_true, or_right, row_below, row_before-next, next-number, number-at, is_last}
 use Rattle.cal_east_asian.specs.TablePlaces.{by_year, chosen_year-row}
 

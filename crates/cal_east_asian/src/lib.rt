@@ -19,8 +19,6 @@ mod same_rows;
 mod sides;
 mod table_check;
 mod table_months;
-#[cfg(test)]
-mod tests;
 
 pub use china::{China, ChineseTraditional};
 pub use east_asian_table::EastAsianTable;

@@ -7,7 +7,7 @@ ghost use Rattle.cal_east_asian.specs.EastAsianYears as years;
 ghost use Rattle.cal_east_asian.specs.TableYears as table;
 ghost use Rattle.cal_east_asian.specs.TableYears.{IsRow};
 ghost use Rattle.cal_east_asian.specs.TableAccepted.{IsTableYear, row_before, is_next, follows, joins, ends, leap_by_years, leaps_after, meets, MeetsAll, IsAccepted, IsFirstBroken, IsFirstFault};
-ghost use Rattle.cal_types.specs.declared.errors.TablePart.TheVariants as parts;
+ghost use Rattle.cal_errors.specs.declared.errors.TablePart.TheVariants as parts;
 
 use crate::chosen_years::{chosen_year, row_at};
 use crate::computed_years::computed_year;

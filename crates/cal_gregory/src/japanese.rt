@@ -87,7 +87,7 @@ fn year_in_era(era: ListedEra, year: i32) -> EraYear
 /// The ISO years, in the eras of the Gregorian calendar and those that are listed.
 impl GregorianYears for JapaneseEras {
     ghost use Rattle.std.specs.Prelude.{codes, pos, refl, Some};
-    ghost use Rattle.cal_types.specs.declared.algorithm.CalendarAlgorithm.TheVariants as algorithms;
+    ghost use Rattle.cal_algorithms.specs.declared.algorithm.CalendarAlgorithm.TheVariants as algorithms;
     ghost use Rattle.cal_base.specs.OffsetListLaws.{true-offset};
     ghost use Rattle.cal_gregory.specs.JapaneseEraList.{japanese_era_year, japanese_reads};
     ghost use Rattle.cal_gregory.specs.JapaneseEras.{listed_eras};
@@ -151,7 +151,7 @@ impl UnstableSealed for Japanese {}
 impl Calendar for Japanese {
     ghost use Rattle.std.specs.Prelude.{pos, true, refl, codes, Some};
     ghost use Rattle.std.proofs.Common.{ap};
-    ghost use Rattle.cal_types.specs.declared.algorithm.CalendarAlgorithm.TheVariants as algorithms;
+    ghost use Rattle.cal_algorithms.specs.declared.algorithm.CalendarAlgorithm.TheVariants as algorithms;
     ghost use Rattle.cal_base.specs.Compatibility.{never_refused};
     ghost use Rattle.cal_base.specs.OffsetListLaws.{offset_list-lawful, offset_list-ranged, offset_list-covered, true-offset};
     ghost use Rattle.cal_base.specs.OffsetSystemLaws.{packed-dated, packed-equal, packed-ordered};

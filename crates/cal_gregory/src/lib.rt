@@ -17,6 +17,3 @@ pub use japanese::{Japanese, JapaneseDateInner};
 pub use japanese_eras::JapaneseEras;
 pub use japanese_eras_iter::JapaneseErasIter;
 pub use roc::{MinguoYears, Roc, RocDateInner};
-
-#[cfg(test)]
-mod tests;

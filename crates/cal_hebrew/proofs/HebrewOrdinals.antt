@@ -4,8 +4,8 @@ use Rattle.std.specs.Prelude.{ok_or, if◌then◌else◌}
 use Rattle.std.proofs.lemmas.Bool.Decides.{nat_tests}
 use Rattle.cal_days.specs.Hebrew.{hebrew_leap, hebrew_year_length}
 use Rattle.cal_types.specs.Month.{MonthParts}
-use Rattle.cal_types.specs.declared.errors.MonthError.{MonthError}
-use Rattle.cal_types.specs.declared.errors.MonthError.TheVariants.{NotInYear}
+use Rattle.cal_errors.specs.declared.errors.MonthError.{MonthError}
+use Rattle.cal_errors.specs.declared.errors.MonthError.TheVariants.{NotInYear}
 use Rattle.cal_types.specs.declared.options.Overflow.{Overflow}
 use Rattle.cal_types.specs.declared.options.Overflow.TheVariants.{Constrain, Reject}
 use Rattle.cal_model.specs.CalendarList.{spot, place_of, first_of_two}

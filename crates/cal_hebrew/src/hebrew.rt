@@ -301,7 +301,7 @@ impl UnstableSealed for Hebrew {}
 
 impl Calendar for Hebrew {
     ghost use Rattle.std.specs.Prelude.{true, false, refl, codes, Some};
-    ghost use Rattle.cal_types.specs.declared.algorithm.CalendarAlgorithm.TheVariants.{Hebrew as hebrew_algorithm};
+    ghost use Rattle.cal_algorithms.specs.declared.algorithm.CalendarAlgorithm.TheVariants.{Hebrew as hebrew_algorithm};
     ghost use Rattle.cal_base.specs.Compatibility.{never_refused};
     ghost use Rattle.cal_base.specs.NumberedYears.{numbered_equal, numbered_ordered};
     ghost use Rattle.cal_hebrew.specs.HebrewList.{hebrew_list};

@@ -4,9 +4,9 @@ use Rattle.cal_days.proofs.Signed.{by_lt}
 use Rattle.cal_hijri.specs.TableAccepted.{IsRow, IsAccepted, IsFirstFault, IsFirstBroken, meets, rank}
 use Rattle.cal_hijri.specs.TableRows.{one_row}
 use Rattle.cal_hijri.specs.declared.hijri_year.HijriYear.{HijriYear}
-use Rattle.cal_types.specs.declared.errors.TableFault.{TableFault}
-use Rattle.cal_types.specs.declared.errors.TablePart.{TablePart}
-use Rattle.cal_types.specs.declared.errors.TablePart.TheVariants.{Year, Join, End, Leap, Rule}
+use Rattle.cal_errors.specs.declared.errors.TableFault.{TableFault}
+use Rattle.cal_errors.specs.declared.errors.TablePart.{TablePart}
+use Rattle.cal_errors.specs.declared.errors.TablePart.TheVariants.{Year, Join, End, Leap, Rule}
 
 differ : {P : Type 0} (b : Bool) → b ≡ true → b ≡ false → P
 differ b on off = let e : true ≡ false = sym on ∙ off in absurd cc

@@ -6,8 +6,8 @@ use Rattle.cal_days.specs.Day.{IsBetween, IsFieldYear, IsRuleYear}
 use Rattle.cal_days.proofs.Signed.{signed}
 use Rattle.cal_types.specs.Month.{MonthParts}
 use Rattle.cal_types.specs.Year.{extended_year_of}
-use Rattle.cal_types.specs.declared.errors.EcmaReferenceYearError.{EcmaReferenceYearError}
-use Rattle.cal_types.specs.declared.errors.EcmaReferenceYearError.TheVariants.{MonthNotInCalendar, Unimplemented, UseRegularIfConstrain}
+use Rattle.cal_errors.specs.declared.errors.EcmaReferenceYearError.{EcmaReferenceYearError}
+use Rattle.cal_errors.specs.declared.errors.EcmaReferenceYearError.TheVariants.{MonthNotInCalendar, Unimplemented, UseRegularIfConstrain}
 use Rattle.cal_types.specs.declared.year.EraYear.{EraYear}
 use Rattle.cal_types.specs.declared.year.YearInfo.TheVariants.{Era}
 use Rattle.cal_types.specs.declared.year.YearAmbiguity.TheVariants.{CenturyRequired}

@@ -1,7 +1,7 @@
 -- A Hijri calendar: the list of its rules' years, with the eras `ah` and `bh`, and the rules' reference years.
 use Rattle.std.specs.Prelude.{Bool, ◌&&◌, ◌==◌, ℕ, Result, ℤ}
 use Rattle.cal_types.specs.Month.{MonthParts}
-use Rattle.cal_types.specs.declared.errors.EcmaReferenceYearError.{EcmaReferenceYearError}
+use Rattle.cal_errors.specs.declared.errors.EcmaReferenceYearError.{EcmaReferenceYearError}
 use Rattle.cal_types.specs.declared.month_info.LeapStatus.TheVariants.{Normal}
 use Rattle.cal_types.specs.declared.year.YearInfo.TheVariants.{Era}
 use Rattle.cal_model.specs.CalendarList.{Date, date, year_length, is_valid_date}

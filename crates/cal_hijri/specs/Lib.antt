@@ -10,7 +10,6 @@ pub mod HijriNames
 pub mod HijriSystem
 pub mod HijriSystemLaws
 pub mod TabularRules
-pub mod LateYears
 pub mod TableFriday
 pub mod TableYears
 pub mod TableAccepted

@@ -4,9 +4,9 @@ use Rattle.std.specs.Ordering.{int_eq}
 use Rattle.cal_days.specs.Day.{IsBetween}
 use Rattle.cal_hijri.specs.HijriList.{hijri_days}
 use Rattle.cal_hijri.specs.declared.hijri_year.HijriYear.{HijriYear}
-use Rattle.cal_types.specs.declared.errors.TablePart.{TablePart}
-use Rattle.cal_types.specs.declared.errors.TablePart.TheVariants.{Year, Join, End, Leap, Rule}
-use Rattle.cal_types.specs.declared.errors.TableFault.{TableFault}
+use Rattle.cal_errors.specs.declared.errors.TablePart.{TablePart}
+use Rattle.cal_errors.specs.declared.errors.TablePart.TheVariants.{Year, Join, End, Leap, Rule}
+use Rattle.cal_errors.specs.declared.errors.TableFault.{TableFault}
 
 -- row i of a table, counted from 0
 abbrev pub IsRow : List HijriYear → ℕ → HijriYear → Type 0

@@ -6,7 +6,7 @@ use Rattle.cal_hijri.specs.HijriList.{Numbered, Joins}
 use Rattle.cal_hijri.specs.TableYears.{chosen}
 use Rattle.cal_hijri.specs.TableAccepted.{IsRow, end_day, joins, ends, IsAccepted}
 use Rattle.cal_hijri.specs.declared.hijri_year.HijriYear.{HijriYear}
-use Rattle.cal_types.specs.declared.errors.TablePart.TheVariants.{Join, End}
+use Rattle.cal_errors.specs.declared.errors.TablePart.TheVariants.{Join, End}
 use Rattle.cal_hijri.specs.TableRows.{or_right, row_below, row_before-next, next-number, number-at, is_last}
 use Rattle.cal_hijri.specs.TablePlaces.{by_year, chosen-row}
 

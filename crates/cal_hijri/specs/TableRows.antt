@@ -5,7 +5,7 @@ use Rattle.std.proofs.lemmas.Option.{slice_get_cases, slice_get_within}
 use Rattle.cal_days.proofs.Signed.{signed, by_bool}
 use Rattle.cal_hijri.specs.TableAccepted.{IsRow, row_before, is_next, IsAccepted}
 use Rattle.cal_hijri.specs.declared.hijri_year.HijriYear.{HijriYear}
-use Rattle.cal_types.specs.declared.errors.TablePart.TheVariants.{Year}
+use Rattle.cal_errors.specs.declared.errors.TablePart.TheVariants.{Year}
 
 pub left_true : (a b : Bool) → (a && b) ≡ true → a ≡ true
 left_true true b e = refl

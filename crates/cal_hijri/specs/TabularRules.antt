@@ -9,11 +9,11 @@ use Rattle.cal_days.specs.Islamic.{IsIslamicEpoch, islamic_leap, islamic_start}
 use Rattle.cal_days.proofs.IslamicLemmas.{islamic_start-near, islamic_start-next}
 use Rattle.cal_days.proofs.Signed.{signed}
 use Rattle.cal_types.specs.Month.{MonthParts}
-use Rattle.cal_types.specs.declared.algorithm.CalendarAlgorithm.{CalendarAlgorithm}
-use Rattle.cal_types.specs.declared.algorithm.CalendarAlgorithm.TheVariants.{Hijri}
-use Rattle.cal_types.specs.declared.algorithm.HijriCalendarAlgorithm.TheVariants.{Civil, Tbla}
-use Rattle.cal_types.specs.declared.errors.EcmaReferenceYearError.{EcmaReferenceYearError}
-use Rattle.cal_types.specs.declared.errors.EcmaReferenceYearError.TheVariants.{MonthNotInCalendar, UseRegularIfConstrain}
+use Rattle.cal_algorithms.specs.declared.algorithm.CalendarAlgorithm.{CalendarAlgorithm}
+use Rattle.cal_algorithms.specs.declared.algorithm.CalendarAlgorithm.TheVariants.{Hijri}
+use Rattle.cal_algorithms.specs.declared.algorithm.HijriCalendarAlgorithm.TheVariants.{Civil, Tbla}
+use Rattle.cal_errors.specs.declared.errors.EcmaReferenceYearError.{EcmaReferenceYearError}
+use Rattle.cal_errors.specs.declared.errors.EcmaReferenceYearError.TheVariants.{MonthNotInCalendar, UseRegularIfConstrain}
 use Rattle.cal_model.specs.PlainMonths.{is_plain_month}
 use Rattle.cal_model.specs.YearNames.{reference_of_known}
 use Rattle.cal_model.specs.CalendarSystem.{CalendarSystem}

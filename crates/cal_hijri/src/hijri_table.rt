@@ -7,7 +7,7 @@ ghost use Rattle.cal_hijri.specs.TableYears as table;
 ghost use Rattle.cal_hijri.specs.SameRows.{are_same_rows};
 ghost use Rattle.cal_hijri.specs.TableAccepted.{IsRow, IsTableYear, row_before, is_next, end_day, follows, joins, ends, meets, MeetsAll, IsAccepted, IsFirstBroken, IsFirstFault};
 ghost use Rattle.cal_hijri.specs.declared.hijri_year.HijriYear.{HijriYear};
-ghost use Rattle.cal_types.specs.declared.errors.TablePart.TheVariants as parts;
+ghost use Rattle.cal_errors.specs.declared.errors.TablePart.TheVariants as parts;
 
 use crate::hijri_year::{HijriYear, days_before_month};
 use crate::tabular_algorithm::{

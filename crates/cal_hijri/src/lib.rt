@@ -8,8 +8,6 @@ mod hijri_year;
 mod rules;
 mod table_references;
 mod tabular_algorithm;
-#[cfg(test)]
-mod tests;
 mod umm_al_qura;
 
 pub use astronomical_simulation::AstronomicalSimulation;

@@ -36,8 +36,8 @@ impl<'t> UnstableSealed for UmmAlQura<'t> {}
 impl<'t> Rules for UmmAlQura<'t> {
     ghost use Rattle.std.specs.Prelude.{codes, Some};
     ghost use Rattle.std.specs.Cmp.{on_equiv};
-    ghost use Rattle.cal_types.specs.declared.algorithm.CalendarAlgorithm.TheVariants.{Hijri};
-    ghost use Rattle.cal_types.specs.declared.algorithm.HijriCalendarAlgorithm.TheVariants.{Umalqura};
+    ghost use Rattle.cal_algorithms.specs.declared.algorithm.CalendarAlgorithm.TheVariants.{Hijri};
+    ghost use Rattle.cal_algorithms.specs.declared.algorithm.HijriCalendarAlgorithm.TheVariants.{Umalqura};
     ghost use Rattle.cal_hijri.specs.SameRows.{are_same_rows};
     ghost use Rattle.cal_hijri.specs.TableRules.{same_rows-equivalence, table_reference, table_year, table-joins, table-numbered, table-references, table-shared};
 

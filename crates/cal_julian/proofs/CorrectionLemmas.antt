@@ -11,9 +11,9 @@ use Rattle.cal_days.proofs.Signed.{signed, by_bool, by_lt}
 use Rattle.cal_model.proofs.DateTests.{and-left, and-right, true-and}
 use Rattle.cal_julian.specs.PersianAccepted.{IsListed, year_before, is_above, meets, AreCorrections, rank, IsFirstBroken, IsFirstFault}
 use Rattle.cal_julian.specs.PersianRule.{AreCorrectable, IsRising, is_correctable}
-use Rattle.cal_types.specs.declared.errors.TableFault.{TableFault}
-use Rattle.cal_types.specs.declared.errors.TablePart.{TablePart}
-use Rattle.cal_types.specs.declared.errors.TablePart.TheVariants.{Year, Join, End, Leap, Rule}
+use Rattle.cal_errors.specs.declared.errors.TableFault.{TableFault}
+use Rattle.cal_errors.specs.declared.errors.TablePart.{TablePart}
+use Rattle.cal_errors.specs.declared.errors.TablePart.TheVariants.{Year, Join, End, Leap, Rule}
 
 differ : {P : Type 0} (b : Bool) → b ≡ true → b ≡ false → P
 differ b on off = let e : true ≡ false = sym on ∙ off in absurd cc

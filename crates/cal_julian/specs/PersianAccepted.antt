@@ -2,9 +2,9 @@
 use Rattle.std.specs.Prelude.{◌≡◌, ℕ, ◌+◌, ◌-◌, ◌<◌, Bool, true, false, ◌&&◌, nat_eq, int_lt, if◌then◌else◌, List, Option, Some, None, slice_get, IsTrue, ℤ, pos}
 use Rattle.cal_days.specs.Day.{is_between}
 use Rattle.cal_days.specs.Persian.{persian_leap}
-use Rattle.cal_types.specs.declared.errors.TablePart.{TablePart}
-use Rattle.cal_types.specs.declared.errors.TablePart.TheVariants.{Year, Join, End, Leap, Rule}
-use Rattle.cal_types.specs.declared.errors.TableFault.{TableFault}
+use Rattle.cal_errors.specs.declared.errors.TablePart.{TablePart}
+use Rattle.cal_errors.specs.declared.errors.TablePart.TheVariants.{Year, Join, End, Leap, Rule}
+use Rattle.cal_errors.specs.declared.errors.TableFault.{TableFault}
 
 -- year i of those that are listed, counted from 0
 abbrev pub IsListed : List ℤ → ℕ → ℤ → Type 0

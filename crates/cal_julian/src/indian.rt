@@ -456,7 +456,7 @@ impl UnstableSealed for Indian {}
 
 impl Calendar for Indian {
     ghost use Rattle.std.specs.Prelude.{true, false, refl, codes, Some};
-    ghost use Rattle.cal_types.specs.declared.algorithm.CalendarAlgorithm.TheVariants.{Indian as indian};
+    ghost use Rattle.cal_algorithms.specs.declared.algorithm.CalendarAlgorithm.TheVariants.{Indian as indian};
     ghost use Rattle.cal_base.specs.Compatibility.{never_refused};
     ghost use Rattle.cal_base.specs.NumberedYears.{numbered_equal, numbered_ordered};
     ghost use Rattle.cal_julian.specs.IndianList.{indian_list};

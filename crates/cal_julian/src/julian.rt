@@ -551,6 +551,3 @@ impl AsCalendar for Julian {
         self
     }
 }
-
-#[cfg(test)]
-mod tests;

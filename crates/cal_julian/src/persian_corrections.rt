@@ -5,7 +5,7 @@ ghost use Rattle.cal_days.specs.Day.{IsBetween, IsRuleYear, IsValidDay};
 ghost use Rattle.cal_days.specs.Persian.{persian_start, persian_year_length};
 ghost use Rattle.cal_julian.specs.PersianAccepted.{AreCorrections, IsFirstBroken, IsFirstFault, MeetsAll, is_above, meets};
 ghost use Rattle.cal_julian.specs.PersianRule.{AreCorrectable, IsRising, is_corrected, is_persian_leap, persian_new_year};
-ghost use Rattle.cal_types.specs.declared.errors.TablePart.TheVariants as parts;
+ghost use Rattle.cal_errors.specs.declared.errors.TablePart.TheVariants as parts;
 
 use crate::persian_rule::year_and_day_from_fixed;
 use cal_days::{RataDie, persian};

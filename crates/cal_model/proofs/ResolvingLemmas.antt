@@ -6,9 +6,9 @@ use Rattle.cal_types.specs.Month.{MonthParts}
 use Rattle.cal_types.specs.Bag.{Bag}
 use Rattle.cal_types.specs.declared.options.Overflow.{Overflow}
 use Rattle.cal_types.specs.declared.options.Overflow.TheVariants.{Constrain, Reject}
-use Rattle.cal_types.specs.declared.errors.DateFromFieldsError.{DateFromFieldsError}
+use Rattle.cal_errors.specs.declared.errors.DateFromFieldsError.{DateFromFieldsError}
 use Rattle.cal_types.specs.declared.options.MissingFieldsStrategy.{MissingFieldsStrategy}
-use Rattle.cal_types.specs.declared.errors.DateFromFieldsError.TheVariants.{Overflow as OutOfRange, MonthNotInYear, InconsistentMonth, InvalidOrdinalMonth, InvalidDay}
+use Rattle.cal_errors.specs.declared.errors.DateFromFieldsError.TheVariants.{Overflow as OutOfRange, MonthNotInYear, InconsistentMonth, InvalidOrdinalMonth, InvalidDay}
 use Rattle.cal_model.specs.CalendarList.{CalendarList, Date, date, month_count, month_length, day_number, spot, HasPlace, IsDate, IsLawful}
 use Rattle.cal_model.specs.YearNames.{YearNames}
 use Rattle.cal_model.specs.Resolving.{Resolved, after, or_fault, MonthName, ByMonth, ByCode, ByOrdinal, YearAndMonth, month_known, resolved_place, same_place, resolved_number, place_in_year, resolved_day, valid_date, resolved_in_month, resolved_in_year, day_asked, month_named, year_named, in_year, resolve}

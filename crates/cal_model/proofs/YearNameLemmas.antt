@@ -1,6 +1,6 @@
 -- What eras read as, and reference years of months that each have one.
 use Rattle.std.proofs.Common.{◌≡◌, ◌↔◌, ℤ, Bool, true, false, Option, Some, None, Err, refl, sym, subst}
-use Rattle.cal_types.specs.declared.errors.EcmaReferenceYearError.TheVariants.{MonthNotInCalendar, UseRegularIfConstrain}
+use Rattle.cal_errors.specs.declared.errors.EcmaReferenceYearError.TheVariants.{MonthNotInCalendar, UseRegularIfConstrain}
 use Rattle.cal_model.specs.YearNames.{year_in_era, reference_of_known}
 
 -- a fact of the year of one era and of the years of those behind it is one of each year that is read

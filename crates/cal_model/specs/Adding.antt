@@ -5,8 +5,8 @@ use Rattle.std.specs.Bool.{MatchBool}
 use Rattle.cal_types.specs.declared.options.Overflow.{Overflow}
 use Rattle.cal_types.specs.declared.options.Overflow.TheVariants.{Constrain, Reject}
 use Rattle.cal_types.specs.declared.duration.DateDuration.{DateDuration}
-use Rattle.cal_types.specs.declared.errors.DateAddError.{DateAddError}
-use Rattle.cal_types.specs.declared.errors.DateAddError.TheVariants as fault
+use Rattle.cal_errors.specs.declared.errors.DateAddError.{DateAddError}
+use Rattle.cal_errors.specs.declared.errors.DateAddError.TheVariants as fault
 use Rattle.cal_days.specs.declared.ranges.TheConstants.{MAX_ADDED_YEARS, MAX_ADDED_MONTHS, MAX_ADDED_DAYS}
 use Rattle.cal_days.specs.Day.{is_valid_day, is_field_year}
 use Rattle.cal_model.specs.CalendarList.{spot, CalendarList, Date, date, month_at, month_length, day_number, IsOn, IsMonthsAfter}

@@ -6,8 +6,8 @@ use Rattle.cal_types.specs.Month.{MonthParts}
 use Rattle.cal_types.specs.declared.year.YearInput.{YearInput}
 use Rattle.cal_types.specs.declared.year.YearInput.TheVariants.{Extended, EraYear}
 use Rattle.cal_types.specs.declared.options.Overflow.TheVariants.{Reject}
-use Rattle.cal_types.specs.declared.errors.DateNewError.{DateNewError}
-use Rattle.cal_types.specs.declared.errors.DateNewError.TheVariants.{InvalidYear, InvalidEra, MonthNotInCalendar, MonthNotInYear, InvalidDay}
+use Rattle.cal_errors.specs.declared.errors.DateNewError.{DateNewError}
+use Rattle.cal_errors.specs.declared.errors.DateNewError.TheVariants.{InvalidYear, InvalidEra, MonthNotInCalendar, MonthNotInYear, InvalidDay}
 use Rattle.cal_model.specs.CalendarList.{CalendarList, Date, date, month_length, spot}
 use Rattle.cal_model.specs.YearNames.{YearNames}
 

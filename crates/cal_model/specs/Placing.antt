@@ -2,11 +2,11 @@
 -- Source: `Date::try_new_iso` and its sisters of icu_calendar.
 use Rattle.std.specs.Prelude.{ℕ, ℤ, pos, neg_ℤ, ◌&&◌, nat_le, List, Option, Some, None, Result, Ok, Err, codes, if◌then◌else◌}
 use Rattle.cal_days.specs.Day.{is_constructor_year}
-use Rattle.cal_types.specs.RangeParts.{RangeParts, DateFault, OutOfRange, NoEra}
-use Rattle.cal_types.specs.declared.errors.DateNewError.{DateNewError}
-use Rattle.cal_types.specs.declared.errors.DateNewError.TheVariants as new_date
-use Rattle.cal_types.specs.declared.errors.LunisolarDateError.{LunisolarDateError}
-use Rattle.cal_types.specs.declared.errors.LunisolarDateError.TheVariants as lunisolar
+use Rattle.cal_errors.specs.RangeParts.{RangeParts, DateFault, OutOfRange, NoEra}
+use Rattle.cal_errors.specs.declared.errors.DateNewError.{DateNewError}
+use Rattle.cal_errors.specs.declared.errors.DateNewError.TheVariants as new_date
+use Rattle.cal_errors.specs.declared.errors.LunisolarDateError.{LunisolarDateError}
+use Rattle.cal_errors.specs.declared.errors.LunisolarDateError.TheVariants as lunisolar
 use Rattle.cal_model.specs.CalendarList.{CalendarList, Date, date, month_count, month_length}
 use Rattle.cal_model.specs.YearNames.{YearNames}
 

@@ -6,15 +6,15 @@ use Rattle.std.specs.Option.{is_some}
 use Rattle.cal_days.specs.Day.{is_field_year, is_valid_day}
 use Rattle.cal_types.specs.Month.{MonthParts, plain_month, month_read}
 use Rattle.cal_types.specs.Bag.{Bag}
-use Rattle.cal_types.specs.Errors.{fields_error_of_reference_year}
+use Rattle.cal_errors.specs.Errors.{fields_error_of_reference_year}
 use Rattle.cal_types.specs.declared.options.Overflow.{Overflow}
 use Rattle.cal_types.specs.declared.options.Overflow.TheVariants.{Constrain, Reject}
 use Rattle.cal_types.specs.declared.options.MissingFieldsStrategy.{MissingFieldsStrategy}
 use Rattle.cal_types.specs.declared.options.MissingFieldsStrategy.TheVariants as missing
-use Rattle.cal_types.specs.declared.errors.DateFromFieldsError.{DateFromFieldsError}
-use Rattle.cal_types.specs.declared.errors.DateFromFieldsError.TheVariants.{NotEnoughFields, TooManyFields, Overflow as OutOfRange, InvalidEra, InconsistentYear, MonthCodeInvalidSyntax, MonthNotInCalendar, MonthNotInYear, InconsistentMonth, InvalidOrdinalMonth, InvalidDay}
-use Rattle.cal_types.specs.declared.errors.EcmaReferenceYearError.{EcmaReferenceYearError}
-use Rattle.cal_types.specs.declared.errors.EcmaReferenceYearError.TheVariants.{UseRegularIfConstrain}
+use Rattle.cal_errors.specs.declared.errors.DateFromFieldsError.{DateFromFieldsError}
+use Rattle.cal_errors.specs.declared.errors.DateFromFieldsError.TheVariants.{NotEnoughFields, TooManyFields, Overflow as OutOfRange, InvalidEra, InconsistentYear, MonthCodeInvalidSyntax, MonthNotInCalendar, MonthNotInYear, InconsistentMonth, InvalidOrdinalMonth, InvalidDay}
+use Rattle.cal_errors.specs.declared.errors.EcmaReferenceYearError.{EcmaReferenceYearError}
+use Rattle.cal_errors.specs.declared.errors.EcmaReferenceYearError.TheVariants.{UseRegularIfConstrain}
 use Rattle.cal_model.specs.CalendarList.{CalendarList, Date, date, month_count, month_length, day_number, spot}
 use Rattle.cal_model.specs.YearNames.{YearNames}
 

@@ -6,7 +6,5 @@
 #![tactic(auto)]
 
 pub mod listed_years;
-#[cfg(test)]
-mod tests;
 
 pub use listed_years::{ListedDate, ListedMonth, ListedYears};

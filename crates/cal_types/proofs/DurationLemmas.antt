@@ -21,7 +21,7 @@ use Rattle.cal_types.specs.DurationText.{DurationPart, parts_of, unit_letter, un
 use Rattle.cal_types.specs.declared.duration.DateDurationUnit.{DateDurationUnit}
 use Rattle.cal_types.specs.declared.duration.DateDurationUnit.TheVariants.{Years, Months, Weeks, Days}
 use Rattle.cal_types.specs.declared.duration_text.Amounts.{Amounts}
-use Rattle.cal_types.specs.declared.errors.DateDurationParseError.{DateDurationParseError}
+use Rattle.cal_errors.specs.declared.errors.DateDurationParseError.{DateDurationParseError}
 
 abbrev part : List ℕ → Option ℕ → DurationPart
 part digits end = record { digits = digits; end = end }

@@ -9,8 +9,8 @@ use Rattle.cal_types.specs.declared.duration.DateDuration.{DateDuration}
 use Rattle.cal_types.specs.declared.duration.DateDurationUnit.{DateDurationUnit}
 use Rattle.cal_types.specs.declared.duration.DateDurationUnit.TheVariants.{Years, Months, Weeks, Days}
 use Rattle.cal_types.specs.declared.duration_text.Amounts.{Amounts}
-use Rattle.cal_types.specs.declared.errors.DateDurationParseError.{DateDurationParseError}
-use Rattle.cal_types.specs.declared.errors.DateDurationParseError.TheVariants.{InvalidStructure, TimeNotSupported, MissingValue, DuplicateUnit, NumberOverflow, PlusNotAllowed}
+use Rattle.cal_errors.specs.declared.errors.DateDurationParseError.{DateDurationParseError}
+use Rattle.cal_errors.specs.declared.errors.DateDurationParseError.TheVariants.{InvalidStructure, TimeNotSupported, MissingValue, DuplicateUnit, NumberOverflow, PlusNotAllowed}
 
 -- a part of a duration: digits, and the byte that ends them unless the text does
 pub record DurationPart : Type 0 where

@@ -1,13 +1,10 @@
-pub mod Algorithm
 pub mod Bag
 pub mod Duration
 pub mod DurationText
-pub mod Errors
 pub mod Month
 pub mod MonthParts
 pub mod MonthInfo
 pub mod MonthInfoParts
-pub mod RangeParts
 pub mod Text
 pub mod WeekNumber
 pub mod Weekday

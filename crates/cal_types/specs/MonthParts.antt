@@ -2,7 +2,7 @@
 use Rattle.std.specs.Prelude.{Result, Ok, Err}
 use Rattle.cal_types.specs.Month.{MonthParts}
 use Rattle.cal_types.specs.declared.month.Month.{Month}
-use Rattle.cal_types.specs.declared.errors.MonthCodeParseError.{MonthCodeParseError}
+use Rattle.cal_errors.specs.declared.errors.MonthCodeParseError.{MonthCodeParseError}
 
 -- its number, and whether it is a leap month
 abbrev pub month_parts : Month → MonthParts

@@ -32,18 +32,3 @@ pub struct IsoWeekOfYear {
     /// The ISO year of the week's Thursday.
     pub iso_year: i32,
 }
-
-#[cfg(test)]
-mod tests {
-    use super::*;
-
-    #[test]
-    fn a_weekday_comes_again_after_seven_days(rt: HostRuntime) {
-        for (day, want) in [(0, 1), (1, 1), (7, 1), (8, 2), (31, 5), (255, 37)] {
-            assert_eq!(rt;
-                DayOfWeekInMonth::from(DayOfMonth(day)),
-                DayOfWeekInMonth(want)
-            );
-        }
-    }
-}

@@ -5,7 +5,7 @@ ghost use Rattle.cal_types.specs.Duration.{duration_of};
 ghost use Rattle.cal_types.specs.DurationText.{duration_read};
 
 use crate::duration_text;
-use crate::errors::DateDurationParseError;
+use cal_errors::DateDurationParseError;
 
 /// The unit of a part of a [`DateDuration`].
 #[derive(Clone, Copy, Debug, PartialEq, Eq)]
@@ -115,6 +115,3 @@ impl DateDuration {
         }
     }
 }
-
-#[cfg(test)]
-mod tests;

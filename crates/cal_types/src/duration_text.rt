@@ -7,7 +7,7 @@ ghost use Rattle.std.specs.Str.Parse.{digits_value};
 ghost use Rattle.cal_types.specs.DurationText.{amount, amounts_of, duration_with, first_fault, parts_of, parts_read, read_behind_sign, unit_at, unless_fault};
 
 use crate::duration::{DateDuration, DateDurationUnit};
-use crate::errors::DateDurationParseError;
+use cal_errors::DateDurationParseError;
 use std::str;
 
 /// The number of each unit that was read.

@@ -38,16 +38,3 @@ impl DateFields<'_> {
         }
     }
 }
-
-#[cfg(test)]
-mod tests {
-    use super::*;
-
-    #[test]
-    fn the_default_has_no_fields(rt: HostRuntime) {
-        let none = DateFields::default();
-        assert!(rt; none.era.is_none() && none.era_year.is_none() && none.extended_year.is_none());
-        assert!(rt; none.month.is_none() && none.month_code.is_none());
-        assert!(rt; none.ordinal_month.is_none() && none.day.is_none());
-    }
-}

@@ -4,12 +4,9 @@
 //! Names and shapes follow `icu_calendar`; month codes and options are those of ECMAScript Temporal.
 #![tactic(auto)]
 
-pub mod algorithm;
-pub mod calendar_preference;
 pub mod day;
 pub mod duration;
 mod duration_text;
-pub mod errors;
 pub mod fields;
 pub mod month;
 pub mod month_code;
@@ -21,15 +18,16 @@ pub mod weekday;
 pub mod weekday_set;
 pub mod year;
 
-pub use algorithm::{CalendarAlgorithm, HijriCalendarAlgorithm};
-pub use calendar_preference::CalendarPreference;
-pub use day::{DayOfMonth, DayOfWeekInMonth, DayOfYear, IsoWeekOfYear};
-pub use duration::{DateDuration, DateDurationUnit};
-pub use errors::{
+pub use cal_algorithms::{
+    CalendarAlgorithm, CalendarPreference, HijriCalendarAlgorithm, ParseError,
+};
+pub use cal_errors::{
     DateAddError, DateDurationParseError, DateError, DateFromFieldsError, DateNewError,
     EcmaReferenceYearError, LunisolarDateError, MismatchedCalendarError, MonthCodeParseError,
-    MonthError, ParseError, RangeError, TableFault, TablePart, TinyStrError, UnknownEraError,
+    MonthError, RangeError, TableFault, TablePart, TinyStrError, UnknownEraError,
 };
+pub use day::{DayOfMonth, DayOfWeekInMonth, DayOfYear, IsoWeekOfYear};
+pub use duration::{DateDuration, DateDurationUnit};
 pub use fields::DateFields;
 pub use month::Month;
 pub use month_code::MonthCode;

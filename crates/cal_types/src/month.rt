@@ -3,9 +3,9 @@
 ghost use Rattle.std.specs.Prelude.{◌≡◌, ◌≤◌, min, Some, IfOk, ok_or};
 ghost use Rattle.cal_types.specs.Month.{plain_month, leap_month, code_text, month_read};
 
-use crate::errors::MonthCodeParseError;
 use crate::month_code::MonthCode;
 use crate::tiny::TinyAsciiStr;
+use cal_errors::MonthCodeParseError;
 
 /// A month of a calendar's year: its number, from 0 to 99, and whether it is a leap month.
 ///
@@ -120,6 +120,3 @@ const fn at_most_99(number: u8) -> u8
 {
     if number > 99 { 99 } else { number }
 }
-
-#[cfg(test)]
-mod tests;

@@ -44,38 +44,3 @@ impl fmt::Display for MonthCode {
         f.write_str(self.0.as_str())
     }
 }
-
-#[cfg(test)]
-mod tests {
-    use super::*;
-
-    fn code(text: &str) -> Option<MonthCode> {
-        Some(MonthCode(TinyAsciiStr::try_from_utf8(text.as_bytes()).ok()?))
-    }
-
-    #[test]
-    fn leap_codes_have_a_normal_code(rt: HostRuntime) {
-        for (leap, normal) in [("M05L", "M05"), ("M12L", "M12"), ("abcL", "abc")] {
-            assert_eq!(rt;
-                code(leap).and_then(|c| c.get_normal_if_leap()),
-                code(normal)
-            );
-        }
-        for text in ["M05", "M05l", "L", "M0L", ""] {
-            assert_eq!(rt; code(text).and_then(|c| c.get_normal_if_leap()), None);
-        }
-    }
-
-    #[test]
-    fn codes_are_parsed(rt: HostRuntime) {
-        for (text, want) in [
-            ("M05L", Some((5, true))),
-            ("M13", Some((13, false))),
-            ("m01", None),
-            ("M1", None),
-            ("", None),
-        ] {
-            assert_eq!(rt; code(text).and_then(|c| c.parsed()), want);
-        }
-    }
-}

@@ -82,20 +82,3 @@ impl MonthInfo {
         self.month.is_leap()
     }
 }
-
-#[cfg(test)]
-mod tests {
-    use super::*;
-
-    #[test]
-    fn the_adar_of_a_hebrew_leap_year_is_shown_as_a_leap_month(rt: HostRuntime) {
-        let adar = MonthInfo::new(7, Month::new(6), LeapStatus::Base, Month::leap(6));
-        assert_eq!(rt; adar.ordinal, 7);
-        assert_eq!(rt; adar.number(), 6);
-        assert_eq!(rt; adar.leap_status(), LeapStatus::Base);
-        assert_eq!(rt; adar.to_input(), Month::new(6));
-        assert!(rt; !adar.is_leap());
-        assert_eq!(rt; adar.standard_code.0.as_str(), "M06");
-        assert_eq!(rt; adar.formatting_code.0.as_str(), "M06L");
-    }
-}

@@ -70,22 +70,3 @@ pub struct DateDifferenceOptions {
     /// The largest unit that the duration uses; the default is [`DateDurationUnit::Days`].
     pub largest_unit: Option<DateDurationUnit>,
 }
-
-#[cfg(test)]
-mod tests {
-    use super::*;
-
-    #[test]
-    fn defaults_leave_options_out_and_reject(rt: HostRuntime) {
-        assert_eq!(rt; Overflow::default(), Overflow::Reject);
-        assert_eq!(rt;
-            MissingFieldsStrategy::default(),
-            MissingFieldsStrategy::Reject
-        );
-        let fields = DateFromFieldsOptions::default();
-        assert_eq!(rt; fields.overflow, None);
-        assert_eq!(rt; fields.missing_fields_strategy, None);
-        assert_eq!(rt; DateAddOptions::default().overflow, None);
-        assert_eq!(rt; DateDifferenceOptions::default().largest_unit, None);
-    }
-}

@@ -9,7 +9,7 @@ ghost use Rattle.std.specs.List.{list_all};
 ghost use Rattle.std.proofs.Common.{ap};
 ghost use Rattle.cal_types.specs.Text.{IsText, filled, is_text_byte};
 
-use crate::errors::TinyStrError;
+use cal_errors::TinyStrError;
 use std::cmp::Ordering;
 use std::hash::{Hash, Hasher};
 use std::marker::Model;
@@ -167,6 +167,3 @@ impl<const N: usize> Hash for TinyAsciiStr<N> {
         self.as_str().hash(state);
     }
 }
-
-#[cfg(test)]
-mod tests;

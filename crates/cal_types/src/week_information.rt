@@ -69,31 +69,3 @@ impl Iterator for WeekdaySetIterator {
         None
     }
 }
-
-#[cfg(test)]
-mod tests {
-    use super::*;
-
-    #[test]
-    fn a_weekend_begins_with_the_first_of_its_days_in_the_week(rt: HostRuntime) {
-        let weekend = WeekdaySet::new(&[Weekday::Saturday, Weekday::Sunday]);
-        for (first, days) in [
-            (Weekday::Sunday, [Weekday::Sunday, Weekday::Saturday]),
-            (Weekday::Monday, [Weekday::Saturday, Weekday::Sunday]),
-            (Weekday::Saturday, [Weekday::Saturday, Weekday::Sunday]),
-        ] {
-            let mut left = WeekInformation::new(first, weekend).weekend();
-            assert_eq!(rt; left.next(), Some(days[0]));
-            assert_eq!(rt; left.next(), Some(days[1]));
-            assert_eq!(rt; left.next(), None);
-            assert_eq!(rt; left.next(), None);
-        }
-    }
-
-    #[test]
-    fn a_week_without_a_weekend_has_no_days_of_it(rt: HostRuntime) {
-        let none = WeekdaySet::new(&[]);
-        let mut left = WeekInformation::new(Weekday::Monday, none).weekend();
-        assert_eq!(rt; left.next(), None);
-    }
-}

@@ -81,27 +81,3 @@ impl From<RataDie> for Weekday {
         Weekday::from_days_since_sunday(rd.to_i64_date() as isize)
     }
 }
-
-#[cfg(test)]
-mod tests {
-    use super::*;
-
-    #[test]
-    fn known_days_have_known_weekdays(rt: HostRuntime) {
-        for (number, want) in [
-            // 1992-09-02, 2000-01-01, 1969-12-31 and 0001-01-01.
-            (727443, Weekday::Wednesday),
-            (730120, Weekday::Saturday),
-            (719162, Weekday::Wednesday),
-            (1, Weekday::Monday),
-            (0, Weekday::Sunday),
-            (-1, Weekday::Saturday),
-            (-6, Weekday::Monday),
-        ] {
-            assert!(rt; -1000000 <= number && number <= 1000000);
-            assert_eq!(rt; Weekday::from(RataDie::new(number)), want, "on {number}");
-            assert_eq!(rt; Weekday::from_days_since_sunday(number as isize), want);
-        }
-        assert_eq!(rt; (Weekday::Monday as u8, Weekday::Sunday as u8), (1, 7));
-    }
-}

@@ -34,19 +34,3 @@ impl WeekdaySet {
         self.held[day.days_since_sunday()]
     }
 }
-
-#[cfg(test)]
-mod tests {
-    use super::*;
-
-    #[test]
-    fn a_set_has_its_days_in_any_order(rt: HostRuntime) {
-        let weekend = WeekdaySet::new(&[Weekday::Saturday, Weekday::Sunday]);
-        let turned = WeekdaySet::new(&[Weekday::Sunday, Weekday::Saturday, Weekday::Sunday]);
-        assert_eq!(rt; weekend, turned);
-        assert!(rt; weekend != WeekdaySet::new(&[Weekday::Saturday]));
-        assert!(rt; weekend.contains(Weekday::Saturday) && weekend.contains(Weekday::Sunday));
-        assert!(rt; !weekend.contains(Weekday::Monday) && !weekend.contains(Weekday::Friday));
-        assert!(rt; !WeekdaySet::new(&[]).contains(Weekday::Sunday));
-    }
-}

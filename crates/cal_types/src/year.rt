@@ -172,6 +172,3 @@ impl IntoYearInfo for CyclicYear {
         YearInfo::Cyclic(self)
     }
 }
-
-#[cfg(test)]
-mod tests;

@@ -11,13 +11,8 @@ use icu_calendar::{
     AnyCalendar, Date, DateFields, DateFromFieldsError, DateFromFieldsOptions, Gregorian, Iso,
     Julian, MissingFieldsStrategy, Month, Overflow,
 };
+use known_dates::{GREGORIAN, ISO, JULIAN};
 use std::process::Abort;
-
-const GREGORIAN: AnyCalendar<'static> = AnyCalendar::Gregorian(Gregorian);
-
-const ISO: AnyCalendar<'static> = AnyCalendar::Iso(Iso);
-
-const JULIAN: AnyCalendar<'static> = AnyCalendar::Julian(Julian);
 
 /// The fields of a bag that speak of the year: era, era year and extended year.
 type YearFields = (Option<&'static str>, Option<i32>, Option<i32>);

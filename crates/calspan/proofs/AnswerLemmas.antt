@@ -15,7 +15,7 @@ use Rattle.calspan.specs.Replies.{reply_text, is_refusal, options_of}
 use Rattle.calspan.specs.Rows.{Row, China, Korea, Hijri, Persian, Era}
 use Rattle.calspan.specs.RowYears.{IsHijriYear, IsEastAsianYear}
 use Rattle.calspan.proofs.RowYearLemmas.{hijri_year-decided, hijri_year-unique, east_asian_year-decided, east_asian_year-unique}
-use Rattle.cal_types.specs.declared.errors.TableFault.{TableFault}
+use Rattle.cal_errors.specs.declared.errors.TableFault.{TableFault}
 use Rattle.calspan.specs.declared.table.Table.{Table}
 use Rattle.calspan.specs.TableRows.{TableRows, AreAccepted, IsFirstRefused, contents_of, with_china, with_korea, with_hijri, with_persian, with_eras}
 use Rattle.calspan.specs.TableTexts.{row_refusal, table_refusal}

@@ -3,7 +3,7 @@ use Rattle.std.proofs.Common.{◌≡◌, ℕ, ◌+◌, ◌≤◌, Bool, true, fa
 use Rattle.std.proofs.lemmas.List.{append-nil, take_all, take-append-drop}
 use Rattle.std.specs.Io.KnownBytes.{Appends, Consumes}
 use Rattle.byte_io.specs.Faults.{Rose}
-use Rattle.cal_types.specs.declared.errors.TableFault.{TableFault}
+use Rattle.cal_errors.specs.declared.errors.TableFault.{TableFault}
 use Rattle.line_reader.specs.Lines.{lines_in}
 use Rattle.line_reader.specs.Reader.{IsAt}
 use Rattle.line_reader.specs.declared.reader.Reader.{Reader}

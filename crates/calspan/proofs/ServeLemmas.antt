@@ -10,7 +10,7 @@ use Rattle.line_reader.specs.declared.buffer.LineBuffer.{LineBuffer}
 use Rattle.line_reader.specs.declared.reader.Reader.{Reader}
 use Rattle.byte_io.specs.Faults.{Rose}
 use Rattle.byte_io.specs.declared.Failed.{Failed}
-use Rattle.cal_types.specs.declared.errors.TableFault.{TableFault}
+use Rattle.cal_errors.specs.declared.errors.TableFault.{TableFault}
 use Rattle.calspan.specs.Answers.{Gathering, Answering, Ended, begin, IsAnswerTo, AreAnswers, IsAnswers}
 use Rattle.calspan.specs.Lines.{Line, Nothing, Requests, RequestLine, line_of}
 use Rattle.calspan.specs.Run.{Outside, outside, AnsweredAll, RefusedTable, Serves, limit}

@@ -1,8 +1,8 @@
 -- The rows of all tables are accepted, or there is a first table that isn't, and its fault.
 use Rattle.std.proofs.Common.{◌≡◌, ℤ, List, ◌<◌, ◌⊎◌, inl, inr, refl, sym, subst}
-use Rattle.cal_types.specs.declared.errors.TableFault.{TableFault}
-use Rattle.cal_types.specs.declared.errors.TablePart.{TablePart}
-use Rattle.cal_types.specs.declared.errors.TablePart.TheVariants.{Year, Join, End, Leap, Rule}
+use Rattle.cal_errors.specs.declared.errors.TableFault.{TableFault}
+use Rattle.cal_errors.specs.declared.errors.TablePart.{TablePart}
+use Rattle.cal_errors.specs.declared.errors.TablePart.TheVariants.{Year, Join, End, Leap, Rule}
 use Rattle.cal_any.specs.Kinds.{TableContents}
 use Rattle.cal_east_asian.specs.ComputedLaws.{computed_year}
 use Rattle.cal_east_asian.specs.TableAccepted as lunisolar

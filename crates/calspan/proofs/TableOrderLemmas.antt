@@ -1,7 +1,7 @@
 -- The first table that isn't accepted: there is one exactly where not all are accepted, and it is one.
 use Rattle.std.proofs.Common.{◌≡◌, ◌<◌, inl, inr, ◌⊎◌, refl, subst, arith}
 use Rattle.cal_days.proofs.Signed.{by_lt}
-use Rattle.cal_types.specs.declared.errors.TableFault.{TableFault}
+use Rattle.cal_errors.specs.declared.errors.TableFault.{TableFault}
 use Rattle.calspan.specs.TableRows.{rank}
 use Rattle.calspan.specs.declared.table.Table.{Table}
 use Rattle.calspan.specs.declared.table.Table.TheVariants.{China, Korea, Hijri, Persian}

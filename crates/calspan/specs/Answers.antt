@@ -1,7 +1,7 @@
 -- What is written for an input, and how the run ends.
 use Rattle.std.specs.Prelude.{◌≡◌, ℕ, ◌+◌, Bool, true, false, List, [], ◌∷◌, ◌++◌, ◌⊎◌, Option, Some, None, codes, if◌then◌else◌}
 use Rattle.line_reader.specs.Lines.{lines_in}
-use Rattle.cal_types.specs.declared.errors.TableFault.{TableFault}
+use Rattle.cal_errors.specs.declared.errors.TableFault.{TableFault}
 use Rattle.cal_any.specs.Kinds.{TableContents, kind_system}
 use Rattle.cal_gregory.specs.LastEra.{eras_with_last}
 use Rattle.cal_gregory.specs.JapaneseEraList.{ListedEra}

@@ -6,8 +6,8 @@ use Rattle.cal_types.specs.Month.{code_text}
 use Rattle.cal_types.specs.declared.year.YearInfo.{YearInfo}
 use Rattle.cal_types.specs.declared.year.YearInfo.TheVariants.{Era, Cyclic}
 use Rattle.cal_types.specs.declared.duration.DateDuration.{DateDuration}
-use Rattle.cal_types.specs.declared.errors.DateFromFieldsError.{DateFromFieldsError}
-use Rattle.cal_types.specs.declared.errors.DateFromFieldsError.TheVariants as cause
+use Rattle.cal_errors.specs.declared.errors.DateFromFieldsError.{DateFromFieldsError}
+use Rattle.cal_errors.specs.declared.errors.DateFromFieldsError.TheVariants as cause
 use Rattle.cal_model.specs.CalendarList.{Date, month_at, day_number}
 use Rattle.cal_model.specs.CalendarSystem.{CalendarSystem}
 use Rattle.cal_types.specs.declared.options.DateFromFieldsOptions.{DateFromFieldsOptions}

@@ -1,7 +1,7 @@
 -- The rows of tables that come before the first request, the order in which the tables are tested, and the first fault.
 use Rattle.std.specs.Prelude.{ℕ, ℤ, ◌<◌, List, [], ◌∷◌, ◌++◌, Option, Some, None}
 use Rattle.std.specs.Option.{unwrap_or}
-use Rattle.cal_types.specs.declared.errors.TableFault.{TableFault}
+use Rattle.cal_errors.specs.declared.errors.TableFault.{TableFault}
 use Rattle.cal_any.specs.Kinds.{TableContents}
 use Rattle.cal_east_asian.specs.ComputedLaws.{computed_year}
 use Rattle.cal_east_asian.specs.TableAccepted as lunisolar

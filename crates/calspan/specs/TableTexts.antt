@@ -1,8 +1,8 @@
 -- The lines that refuse rows and tables.
 use Rattle.std.specs.Prelude.{ℕ, List, codes}
-use Rattle.cal_types.specs.declared.errors.TableFault.{TableFault}
-use Rattle.cal_types.specs.declared.errors.TablePart.{TablePart}
-use Rattle.cal_types.specs.declared.errors.TablePart.TheVariants.{Year, Join, End, Leap, Rule}
+use Rattle.cal_errors.specs.declared.errors.TableFault.{TableFault}
+use Rattle.cal_errors.specs.declared.errors.TablePart.{TablePart}
+use Rattle.cal_errors.specs.declared.errors.TablePart.TheVariants.{Year, Join, End, Leap, Rule}
 use Rattle.calspan.specs.Texts.{about_line}
 use Rattle.calspan.specs.declared.table.RowFault.{RowFault}
 use Rattle.calspan.specs.declared.table.RowFault.TheVariants.{Syntax, Range, Late}

@@ -6,7 +6,7 @@ use Rattle.cal_days.proofs.RangeLemmas.{true-is_between}
 use Rattle.cal_types.specs.Bag.{Bag, year_month_day}
 use Rattle.cal_types.specs.declared.options.Overflow.TheVariants.{Reject}
 use Rattle.cal_types.specs.declared.options.MissingFieldsStrategy.TheVariants as missing
-use Rattle.cal_types.specs.declared.errors.DateFromFieldsError.{DateFromFieldsError}
+use Rattle.cal_errors.specs.declared.errors.DateFromFieldsError.{DateFromFieldsError}
 use Rattle.cal_model.specs.CalendarList.{CalendarList, Date, IsLawful, IsValidDate, day_number, month_at, month_length, place_of, spot}
 use Rattle.cal_model.specs.YearNames.{YearNames}
 use Rattle.cal_model.specs.Resolving.{Resolved, resolve}

@@ -5,10 +5,10 @@ use Rattle.cal_days.specs.Day.{IsCoveredYear, IsConstructorYear, IsFieldYear, Is
 use Rattle.cal_days.proofs.Signed.{signed}
 use Rattle.cal_days.proofs.RangeLemmas.{is_between-true, true-is_between}
 use Rattle.cal_types.specs.Bag.{Bag}
-use Rattle.cal_types.specs.RangeParts.{RangeParts, DateFault, OutOfRange, NoEra}
+use Rattle.cal_errors.specs.RangeParts.{RangeParts, DateFault, OutOfRange, NoEra}
 use Rattle.cal_types.specs.declared.options.Overflow.TheVariants.{Reject}
 use Rattle.cal_types.specs.declared.options.MissingFieldsStrategy.TheVariants as missing
-use Rattle.cal_types.specs.declared.errors.DateFromFieldsError.TheVariants.{Overflow as PastTheRange, InvalidEra, InvalidOrdinalMonth, InvalidDay}
+use Rattle.cal_errors.specs.declared.errors.DateFromFieldsError.TheVariants.{Overflow as PastTheRange, InvalidEra, InvalidOrdinalMonth, InvalidDay}
 use Rattle.cal_model.specs.CalendarList.{CalendarList, Date, date, month_count, month_length, day_number, HasPlace, IsDate}
 use Rattle.cal_model.specs.YearNames.{YearNames}
 use Rattle.cal_model.specs.Resolving.{Resolved, ByOrdinal, YearAndMonth, year_and_month, after, or_fault, in_year, some_year, valid_date, resolve, resolved_in_month, resolved_in_year}

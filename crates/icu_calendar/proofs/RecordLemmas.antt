@@ -15,7 +15,7 @@ use Rattle.std.proofs.lemmas.Int.{by_lt_z}
 use Rattle.cal_model.proofs.ListLemmas.{start_of_year-later, date-in_year}
 use Rattle.cal_model.proofs.RenumberedLemmas.{start_of_year-renumbered}
 use Rattle.cal_base.specs.OffsetListLaws.{offset_list-plain}
-use Rattle.cal_types.specs.RangeParts.{RangeParts}
+use Rattle.cal_errors.specs.RangeParts.{RangeParts}
 use Rattle.cal_model.specs.Placing.{out_of_range, placed_day, placed_in_year}
 use Rattle.icu_calendar.specs.RecordDates.{numbered_date}
 

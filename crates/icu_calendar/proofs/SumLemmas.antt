@@ -5,8 +5,8 @@ use Rattle.std.proofs.lemmas.Bool.Decides.{nat_tests}
 use Rattle.cal_types.specs.declared.options.Overflow.{Overflow}
 use Rattle.cal_types.specs.declared.options.Overflow.TheVariants.{Reject}
 use Rattle.cal_types.specs.declared.duration.DateDuration.{DateDuration}
-use Rattle.cal_types.specs.declared.errors.DateAddError.{DateAddError}
-use Rattle.cal_types.specs.declared.errors.DateAddError.TheVariants as fault
+use Rattle.cal_errors.specs.declared.errors.DateAddError.{DateAddError}
+use Rattle.cal_errors.specs.declared.errors.DateAddError.TheVariants as fault
 use Rattle.cal_days.specs.Day.{is_field_year, is_valid_day}
 use Rattle.cal_model.specs.CalendarList.{CalendarList, Date, date, month_at, month_length, day_number, spot, IsMonthsAfter, IsOn}
 use Rattle.cal_model.specs.Adding.{is_addable, IsSum, IsSumFromMonth, IsValidOn}

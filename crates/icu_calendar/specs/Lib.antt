@@ -14,14 +14,14 @@ pub use Rattle.cal_days.specs.Sums
 pub use Rattle.cal_days.specs.Gregorian
 pub use Rattle.cal_days.specs.Julian
 pub use Rattle.cal_days.specs.Easter
-pub use Rattle.cal_types.specs.Algorithm
+pub use Rattle.cal_algorithms.specs.Algorithm
 pub use Rattle.cal_types.specs.Bag
-pub use Rattle.cal_types.specs.Errors
+pub use Rattle.cal_errors.specs.Errors
 pub use Rattle.cal_types.specs.Month
 pub use Rattle.cal_types.specs.MonthParts
 pub use Rattle.cal_types.specs.MonthInfo
 pub use Rattle.cal_types.specs.MonthInfoParts
-pub use Rattle.cal_types.specs.RangeParts
+pub use Rattle.cal_errors.specs.RangeParts
 pub use Rattle.cal_types.specs.Text
 pub use Rattle.cal_types.specs.Weekday
 pub use Rattle.cal_types.specs.Duration

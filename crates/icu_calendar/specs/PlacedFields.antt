@@ -1,9 +1,9 @@
 -- The fields of a date that name its month by its place in the year, and what is out of its range where they name none.
 use Rattle.std.specs.Prelude.{ℕ, ℤ, pos, List, codes, Option, Some, None}
 use Rattle.cal_types.specs.Bag.{Bag}
-use Rattle.cal_types.specs.RangeParts.{RangeParts, DateFault, OutOfRange, NoEra}
-use Rattle.cal_types.specs.declared.errors.DateFromFieldsError.{DateFromFieldsError}
-use Rattle.cal_types.specs.declared.errors.DateFromFieldsError.TheVariants.{InvalidEra, InvalidOrdinalMonth, InvalidDay}
+use Rattle.cal_errors.specs.RangeParts.{RangeParts, DateFault, OutOfRange, NoEra}
+use Rattle.cal_errors.specs.declared.errors.DateFromFieldsError.{DateFromFieldsError}
+use Rattle.cal_errors.specs.declared.errors.DateFromFieldsError.TheVariants.{InvalidEra, InvalidOrdinalMonth, InvalidDay}
 use Rattle.cal_model.specs.Placing.{out_of_range}
 
 -- an extended year, the place of a month and a day

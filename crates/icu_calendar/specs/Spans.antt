@@ -4,7 +4,7 @@ use Rattle.cal_types.specs.Bag.{Bag}
 use Rattle.cal_types.specs.declared.options.DateFromFieldsOptions.{DateFromFieldsOptions}
 use Rattle.cal_types.specs.declared.duration.DateDuration.{DateDuration}
 use Rattle.cal_types.specs.declared.duration.DateDurationUnit.{DateDurationUnit}
-use Rattle.cal_types.specs.declared.errors.DateFromFieldsError.{DateFromFieldsError}
+use Rattle.cal_errors.specs.declared.errors.DateFromFieldsError.{DateFromFieldsError}
 use Rattle.cal_model.specs.CalendarList.{CalendarList, Date, IsOn, day_number}
 use Rattle.cal_model.specs.CalendarSystem.{CalendarSystem, resolve_fields}
 use Rattle.cal_model.specs.Difference.{IsDifference}

@@ -3,7 +3,7 @@
 
 ghost use Rattle.std.specs.Prelude.{◌≡◌, IfOk};
 ghost use Rattle.cal_types.specs.MonthParts.{month_parts};
-ghost use Rattle.cal_types.specs.RangeParts.{range_parts, date_fault};
+ghost use Rattle.cal_errors.specs.RangeParts.{range_parts, date_fault};
 ghost use Rattle.cal_types.specs.declared.year.YearInput.TheVariants.{Extended};
 ghost use Rattle.cal_model.specs.Constructing.{made_date};
 ghost use Rattle.cal_model.specs.Placing.{lunisolar_answer, placed_date, placed_of_era};

@@ -15,8 +15,6 @@ mod placing;
 mod record_dates;
 mod span_parts;
 mod spans;
-#[cfg(test)]
-mod tests;
 mod weeks;
 
 pub use cal_any::AnyCalendar;

@@ -4,7 +4,7 @@ ghost use Rattle.std.specs.Prelude.{◌≡◌, ℤ, pos, Some, IsSome, IfOk};
 ghost use Rattle.cal_days.specs.Day.{IsConstructorYear, IsCoveredYear, is_constructor_year};
 ghost use Rattle.cal_types.specs.Bag.{bag_of};
 ghost use Rattle.cal_types.specs.MonthParts.{month_parts};
-ghost use Rattle.cal_types.specs.RangeParts.{range_parts, date_fault};
+ghost use Rattle.cal_errors.specs.RangeParts.{range_parts, date_fault};
 ghost use Rattle.cal_types.specs.declared.year.YearInput.TheVariants.{Extended};
 ghost use Rattle.cal_model.specs.Constructing.{made_date};
 ghost use Rattle.cal_model.specs.Placing.{placed_date, placed_of_era, lunisolar_answer, lunisolar_fault, out_of_range, year_out_of_range};

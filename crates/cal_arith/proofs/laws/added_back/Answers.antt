@@ -2,7 +2,7 @@ use Rattle.std.proofs.Common.{◌≡◌, ℤ, pos, ◌+ℤ◌, Result, Ok, Err, 
 use Rattle.std.specs.Prelude.{MatchResult, IfOk}
 use Rattle.cal_days.specs.Day.{IsFieldYear}
 use Rattle.cal_days.proofs.Signed.{signed}
-use Rattle.cal_types.specs.declared.errors.DateAddError.{DateAddError}
+use Rattle.cal_errors.specs.declared.errors.DateAddError.{DateAddError}
 use Rattle.cal_types.specs.declared.options.Overflow.TheVariants.{Constrain}
 use Rattle.cal_model.specs.CalendarList.{Date, IsValidDate}
 use Rattle.cal_model.specs.Difference.{largest_unit_of}

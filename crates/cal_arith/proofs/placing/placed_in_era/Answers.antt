@@ -1,7 +1,7 @@
 use Rattle.std.proofs.Common.{◌≡◌, ℕ, ℤ, Option, Some, Result, Ok, Err, to_z, of_z, w32, sym, ap, ◌∙◌, arith}
 use Rattle.cal_days.proofs.Signed.{signed}
-use Rattle.cal_types.specs.RangeParts.{RangeParts, DateFault, date_fault}
-use Rattle.cal_types.specs.declared.errors.DateError.{DateError}
+use Rattle.cal_errors.specs.RangeParts.{RangeParts, DateFault, date_fault}
+use Rattle.cal_errors.specs.declared.errors.DateError.{DateError}
 use Rattle.cal_model.specs.CalendarList.{CalendarList, Date}
 use Rattle.cal_model.specs.Placing.{date_or_fault, placed_in_era, placed_in_year}
 use Rattle.cal_arith.specs.FieldNames.{era_read}

@@ -1,0 +1,2 @@
+pub mod AlternatingMonths
+pub mod AlternatingYears

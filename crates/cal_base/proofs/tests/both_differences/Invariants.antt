@@ -1,5 +1,0 @@
-use Rattle.cal_base.proofs.tests.both_differences.Given as goal
-
--- the counter's own name and share
-abbrev pub ghosts-differences : goal.ghosts-differences
-ghosts-differences g a = record { name = a.blank.name; parts = a.blank.parts }

@@ -1,0 +1,12 @@
+//! The errors of the calendars, one type for each kind of call.
+//!
+//! Names and texts are those of `icu_calendar`.
+#![tactic(auto)]
+
+pub mod errors;
+
+pub use errors::{
+    DateAddError, DateDurationParseError, DateError, DateFromFieldsError, DateNewError,
+    EcmaReferenceYearError, LunisolarDateError, MismatchedCalendarError, MonthCodeParseError,
+    MonthError, RangeError, TableFault, TablePart, TinyStrError, UnknownEraError,
+};

@@ -1,9 +1,0 @@
-use Rattle.std.proofs.Common.{arith}
-use Rattle.cal_days.proofs.Signed.{signed}
-use Rattle.cal_hijri.proofs.tests.day_after.Goals as goal
-
-pub new-requires : goal.new-requires
-new-requires c = (omega (arith, signed, c.requires), omega (arith, signed, c.requires))
-
-pub returns : goal.returns
-returns c = omega (arith, signed, c.requires, c.new.ensures)

@@ -1,0 +1,5 @@
+//! Dates of each calendar's own fields, and the kinds of calendars.
+
+mod any_calendars;
+mod constructors;
+mod kinds;

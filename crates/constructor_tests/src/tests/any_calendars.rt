@@ -1,0 +1,128 @@
+//! Dates of one calendar as dates of any, and dates of any calendar in another.
+
+use icu_calendar::{
+    AnyCalendar, AnyCalendarKind, Buddhist, ChineseTraditional, Coptic, Date, EastAsianTable,
+    Ethiopian, EthiopianEraStyle, Gregorian, Hebrew, Hijri, HijriTable, Indian, IntoAnyCalendar,
+    Iso, Japanese, Julian, KoreanTraditional, Persian, PersianCorrections, Roc, Side, Tables,
+    TabularAlgorithmEpoch, TabularAlgorithmLeapYears,
+};
+use known_dates::{JULIAN, assert_date, day};
+use std::process::Abort;
+
+/// That a date of a calendar is the same one as a date of any calendar, that the calendar comes back from its variant,
+/// and that another variant is handed back.
+fn assert_any<'t, C: IntoAnyCalendar<'t> + Copy>(
+    rt: &impl Abort,
+    calendar: C,
+    kind: AnyCalendarKind,
+    extended_year: i32,
+) {
+    let date = Date::from_rata_die(day(rt, 730120), calendar);
+    let (month, day_of_month) = (date.month().ordinal, date.day_of_month());
+    let any = date.to_any();
+    assert_eq!(rt; any.to_rata_die().to_i64_date(), 730120);
+    assert_eq!(rt; any.year().extended_year(), extended_year);
+    assert_eq!(rt; any.month().ordinal, month);
+    assert!(rt; any.day_of_month() == day_of_month);
+    assert!(rt; calendar.kind() == kind);
+    assert!(rt; any.calendar().kind() == kind);
+    assert!(rt; C::from_any_ref(any.calendar()).is_some());
+    assert!(rt; C::from_any(calendar.to_any()).is_ok());
+    let other = if kind == AnyCalendarKind::Iso {
+        AnyCalendar::Gregorian(Gregorian)
+    } else {
+        AnyCalendar::Iso(Iso)
+    };
+    assert!(rt; C::from_any_ref(&other).is_none());
+    assert!(rt; C::from_any(other).is_err());
+}
+
+// The days of these tests are January 1, 2000 of the ISO calendar.
+
+#[test]
+fn dates_of_solar_calendars_are_dates_of_any(rt: HostRuntime) {
+    use AnyCalendarKind as kind;
+    let persian = Persian::new(PersianCorrections::none());
+    assert_any(&rt, Indian, kind::Indian, 1921);
+    assert_any(&rt, Iso, kind::Iso, 2000);
+    assert_any(&rt, Julian, kind::Julian, 1999);
+    assert_any(&rt, persian, kind::Persian, 1378);
+}
+
+#[test]
+fn dates_of_gregorian_months_are_dates_of_any(rt: HostRuntime) {
+    use AnyCalendarKind as kind;
+    assert_any(&rt, Buddhist, kind::Buddhist, 2543);
+    assert_any(&rt, Gregorian, kind::Gregorian, 2000);
+    assert_any(&rt, Japanese::new(), kind::Japanese, 2000);
+    assert_any(&rt, Roc, kind::Roc, 89);
+}
+
+#[test]
+fn dates_of_thirteen_months_are_dates_of_any(rt: HostRuntime) {
+    use AnyCalendarKind as kind;
+    let alem = Ethiopian::new_with_era_style(EthiopianEraStyle::AmeteAlem);
+    assert_any(&rt, Coptic, kind::Coptic, 1716);
+    assert_any(&rt, Ethiopian::new(), kind::Ethiopian, 1992);
+    assert_any(&rt, alem, kind::EthiopianAmeteAlem, 7492);
+}
+
+#[test]
+fn dates_of_lunisolar_calendars_are_dates_of_any(rt: HostRuntime) {
+    use AnyCalendarKind as kind;
+    let china = ChineseTraditional::new(EastAsianTable::none(Side::China));
+    let korea = KoreanTraditional::new(EastAsianTable::none(Side::Korea));
+    assert_any(&rt, china, kind::Chinese, 1999);
+    assert_any(&rt, korea, kind::Dangi, 1999);
+    assert_any(&rt, Hebrew, kind::Hebrew, 5760);
+}
+
+#[test]
+fn dates_of_hijri_calendars_are_dates_of_any(rt: HostRuntime) {
+    use AnyCalendarKind as kind;
+    use TabularAlgorithmEpoch::{Friday, Thursday};
+    use TabularAlgorithmLeapYears::TypeII;
+    let (civil, tabular) = (
+        Hijri::new_tabular(TypeII, Friday),
+        Hijri::new_tabular(TypeII, Thursday),
+    );
+    let simulated = Hijri::new_simulated_mecca(HijriTable::none());
+    let umm_al_qura = Hijri::new_umm_al_qura(HijriTable::none());
+    assert_any(&rt, civil, kind::HijriTabularTypeIIFriday, 1420);
+    assert_any(&rt, tabular, kind::HijriTabularTypeIIThursday, 1420);
+    assert_any(&rt, simulated, kind::HijriSimulatedMecca, 1420);
+    assert_any(&rt, umm_al_qura, kind::HijriUmmAlQura, 1420);
+}
+
+#[test]
+fn any_calendar_is_itself(rt: HostRuntime) {
+    let date = Date::from_rata_die(day(&rt, 738156), JULIAN);
+    assert_date(&rt, &date.to_any(), 738156, 2021, 12, 19);
+    assert!(rt; IntoAnyCalendar::kind(&JULIAN) == AnyCalendarKind::Julian);
+    assert!(rt; matches!(AnyCalendar::from_any(JULIAN), Ok(AnyCalendar::Julian(_))));
+    assert!(rt; AnyCalendar::from_any_ref(&JULIAN).is_some());
+}
+
+/// Days of the ISO calendar in others, and a date that is kept in another style of its calendar.
+#[test]
+fn dates_are_converted_to_any_calendar(rt: HostRuntime) {
+    use AnyCalendarKind::{Buddhist, Ethiopian, EthiopianAmeteAlem, Gregorian, Iso, Julian};
+    for (from, number, to, extended_year, month, day_of_month) in [
+        (Iso, 727443, Buddhist, 2535, 9, 2),
+        (Iso, 1155, Gregorian, 4, 2, 29),
+        (Iso, 738156, Julian, 2021, 12, 19),
+        (Iso, 719164, Ethiopian, 1962, 4, 24),
+        (Iso, 719164, EthiopianAmeteAlem, 7462, 4, 24),
+        (Iso, 738774, Ethiopian, 2015, 13, 6),
+        (Ethiopian, 719164, EthiopianAmeteAlem, 7462, 4, 24),
+        (EthiopianAmeteAlem, 738774, Ethiopian, 2015, 13, 6),
+    ] {
+        let date = Date::from_rata_die(day(&rt, number), AnyCalendar::new(from, Tables::none()));
+        let shown = AnyCalendar::new(to, Tables::none());
+        let there = date.convert_any(&shown);
+        assert_eq!(rt; there.to_rata_die().to_i64_date(), number);
+        assert_eq!(rt; there.year().extended_year(), extended_year, "on {number}");
+        assert_eq!(rt; there.month().ordinal, month, "on {number}");
+        assert_eq!(rt; there.day_of_month().0, day_of_month, "on {number}");
+    }
+}

@@ -1,0 +1,8 @@
+//! Known days and fields, texts that are read and written, and dates whose calendars are led to in several ways.
+
+mod comparing;
+mod conversions;
+mod getters;
+mod texts;
+mod weeks;
+mod wrappers;

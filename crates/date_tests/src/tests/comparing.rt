@@ -1,0 +1,55 @@
+//! Which dates are equal, and which are ordered.
+
+use icu_calendar::{AnyCalendar, Calendar};
+use known_dates::{GREGORIAN, ISO, JULIAN, day};
+use std::cmp::Ordering;
+use std::process::Abort;
+
+/// That the dates of two days are equal and ordered as the days are, where they are of one calendar, and
+/// otherwise neither equal nor ordered.
+fn assert_order(
+    rt: &impl Abort,
+    days: (i64, i64),
+    calendars: (AnyCalendar<'static>, AnyCalendar<'static>),
+    is_same: bool,
+) {
+    let first = calendars.0.from_rata_die(day(rt, days.0));
+    let second = calendars.1.from_rata_die(day(rt, days.1));
+    let order = if is_same {
+        Some(days.0.cmp(&days.1))
+    } else {
+        None
+    };
+    assert_eq!(rt;
+        first.partial_cmp(&second),
+        order,
+        "{} and {}",
+        days.0,
+        days.1
+    );
+    assert_eq!(rt;
+        first == second,
+        order == Some(Ordering::Equal),
+        "{} and {}",
+        days.0,
+        days.1
+    );
+}
+
+#[test]
+fn dates_are_compared_in_one_calendar_alone(rt: HostRuntime) {
+    let calendars = [(0, GREGORIAN), (1, ISO), (2, JULIAN)];
+    for (place, calendar) in calendars {
+        for (other_place, other) in calendars {
+            for days in [
+                (1, 1),
+                (1, 2),
+                (2, 1),
+                (-368, -365242499),
+                (738156, 365242134),
+            ] {
+                assert_order(&rt, days, (calendar, other), place == other_place);
+            }
+        }
+    }
+}

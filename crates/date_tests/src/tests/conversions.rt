@@ -1,0 +1,95 @@
+//! Days of known dates, there and back.
+
+use icu_calendar::{AnyCalendar, Date, DateFromFieldsError, Iso, Julian, RataDie, Ref};
+use known_dates::{
+    GREGORIAN, IN_DAYS, ISO, JULIAN, REJECT, assert_date, day, duration, fields, is_named,
+};
+use std::process::Abort;
+
+#[test]
+fn date_says_its_year_month_and_day(rt: HostRuntime) {
+    match Date::try_from_fields(fields(2020, 2, 29), REJECT, Iso) {
+        Ok(date) => {
+            assert_eq!(rt; date.to_rata_die().to_i64_date(), 737484);
+            assert!(rt; is_named(date.year(), 2020, "default", 2020));
+            assert_eq!(rt; date.month().ordinal, 2);
+            assert_eq!(rt; date.month().standard_code.0.as_str(), "M02");
+            assert_eq!(rt; date.day_of_month().0, 29);
+            let shown = date.to_calendar(ISO);
+            assert_eq!(rt; shown.to_rata_die().to_i64_date(), 737484);
+            assert_eq!(rt; shown.day_of_month().0, 29);
+        }
+        Err(cause) => assert!(rt; false, "{cause}"),
+    }
+    let fault = Date::try_from_fields(fields(2021, 2, 29), REJECT, Iso).err();
+    assert_eq!(rt; fault, Some(DateFromFieldsError::InvalidDay { max: 28 }));
+}
+
+#[test]
+fn known_days_have_known_dates(rt: HostRuntime) {
+    for (calendar, number, era, year, extended_year, month, day_of_month) in [
+        (ISO, 738156, "default", 2022, 2022, 1, 1),
+        (JULIAN, 738156, "ce", 2021, 2021, 12, 19),
+        (GREGORIAN, 1155, "ce", 4, 4, 2, 29),
+        (JULIAN, -368, "bce", 2, -1, 12, 31),
+    ] {
+        let date = Date::from_rata_die(day(&rt, number), calendar);
+        assert_date(&rt, &date, number, extended_year, month, day_of_month);
+        assert!(rt;
+            is_named(date.year(), extended_year, era, year),
+            "on {number}"
+        );
+    }
+}
+
+/// That a date of the first calendar is the same once it was shown in the second.
+fn assert_there_and_back(
+    rt: &impl Abort,
+    number: i64,
+    first: AnyCalendar<'static>,
+    second: AnyCalendar<'static>,
+) {
+    let date = Date::from_rata_die(day(rt, number), first);
+    let there = date.to_calendar(second);
+    let back = there.to_calendar(first);
+    assert_eq!(rt; there.to_rata_die().to_i64_date(), number);
+    let extended_year = date.year().extended_year();
+    let (month, day_of_month) = (date.month().ordinal, date.day_of_month().0);
+    assert_date(rt, &back, number, extended_year, month, day_of_month);
+}
+
+#[test]
+fn dates_come_back_from_each_calendar(rt: HostRuntime) {
+    for number in [-365242499, -368, -1, 0, 1, 1155, 577735, 738156, 365242134] {
+        for first in [GREGORIAN, ISO, JULIAN] {
+            for second in [GREGORIAN, ISO, JULIAN] {
+                assert_there_and_back(&rt, number, first, second);
+            }
+        }
+    }
+}
+
+#[test]
+fn days_out_of_range_are_clamped(rt: HostRuntime) {
+    for (number, want) in [
+        (365242135, 365242134),
+        (-365342499, -365242499),
+        (365242134, 365242134),
+        (-365242499, -365242499),
+    ] {
+        assert!(rt; -400000000 <= number && number <= 400000000);
+        let date = Date::from_rata_die(RataDie::new(number), Iso);
+        assert_eq!(rt; date.to_rata_die().to_i64_date(), want, "of {number}");
+    }
+}
+
+#[test]
+fn a_date_may_borrow_its_calendar(rt: HostRuntime) {
+    let calendar = Julian;
+    let borrowed = Date::from_rata_die(RataDie::new(738156), Ref(&calendar));
+    let owned = Date::from_rata_die(RataDie::new(738157), Julian);
+    assert_eq!(rt; borrowed.day_of_month().0, 19);
+    assert_eq!(rt; borrowed.to_rata_die().to_i64_date(), 738156);
+    let between = borrowed.try_until_with_options(&owned, IN_DAYS).ok();
+    assert_eq!(rt; between, Some(duration(false, 0, 0, 0, 1)));
+}

@@ -1,0 +1,4 @@
+//! Known days and years, tables that are refused, and calendars over rules of a caller.
+
+mod east_asian;
+mod hijri;

@@ -1,0 +1,483 @@
+//! Known years, and years by another program.
+//!
+//! The mean years are those of a program in Python that tries the moons and the terms one after another.
+
+ghost use Rattle.std.specs.Prelude.{pos};
+ghost use Rattle.cal_days.specs.Day.{IsBetween};
+
+use crate::mean_rules::MeanRules;
+use cal_base::Calendar;
+use cal_days::RataDie;
+use cal_east_asian::{
+    ChineseTraditional, EastAsianTable, EastAsianTraditional, EastAsianTraditionalYear,
+    KoreanTraditional, Side, mean_year, qing_year,
+};
+use cal_types::{
+    DateDifferenceOptions, DateDurationUnit, DateFields, DateFromFieldsError,
+    DateFromFieldsOptions, LeapStatus, MissingFieldsStrategy, Month, Overflow, TableFault,
+    TablePart, YearInput,
+};
+use std::process::Abort;
+
+/// A bit for each month of 30 days, the first month's lowest.
+fn long_months(year: EastAsianTraditionalYear) -> u16 {
+    let mut bits: u16 = 0;
+    for place in 1..=year.months() {
+        if year.month_len(place) == 30 {
+            bits |= 1u16.wrapping_shl(u32::from(place - 1));
+        }
+    }
+    bits
+}
+
+#[test]
+fn mean_years_have_known_months(rt: HostRuntime) {
+    for (offset, year, new_year, bits, leap_month) in [
+        (28_800_000, 1912, 698026, 0b10101101010, 0),
+        (32_400_000, 1912, 698026, 0b10101011010, 0),
+        (27_940_000, 1899, 693271, 0b101010101101, 0),
+        (28_800_000, 2024, 738926, 0b11010101010, 0),
+        (32_400_000, 2024, 738926, 0b10110101010, 0),
+        (28_800_000, 2025, 739280, 0b1010101010101, 9),
+        (28_800_000, 2033, 742204, 0b1101010101010, 11),
+        (27_940_000, 0, -314, 0b101010101011, 0),
+        (27_940_000, -8000000, -2921940336, 0b101101010101, 9),
+        (28_800_000, 8000000, 2921939679, 0b110101010101, 0),
+        (32_400_000, 8000000, 2921939679, 0b101101010101, 0),
+    ] {
+        assert!(rt; 27_940_000 <= offset && offset <= 32_400_000);
+        assert!(rt; -8000000 <= year && year <= 8000000);
+        let found = mean_year(offset, year);
+        assert_eq!(rt; found.related_iso(), year);
+        assert_eq!(rt; found.new_year().to_i64_date(), new_year, "at {year}");
+        assert_eq!(rt; long_months(found), bits, "at {year}");
+        assert_eq!(rt; found.leap_month().unwrap_or(0), leap_month, "at {year}");
+    }
+}
+
+#[test]
+fn days_lie_in_known_mean_years(rt: HostRuntime) {
+    for (offset, day, year) in [
+        (28_800_000, 738925, 2023),
+        (28_800_000, 738926, 2024),
+        (28_800_000, 739279, 2024),
+        (28_800_000, 739280, 2025),
+        (27_940_000, -365242499, -1000000),
+        (32_400_000, 365242134, 999999),
+    ] {
+        assert!(rt; 27_940_000 <= offset && offset <= 32_400_000);
+        assert!(rt; -365242499 <= day && day <= 365242134);
+        let calendar = EastAsianTraditional(MeanRules::new(offset));
+        let date = calendar.from_rata_die(RataDie::new(day));
+        assert_eq!(rt; calendar.extended_year(&date), year, "at {day}");
+    }
+}
+
+#[test]
+fn qing_years_have_their_days_and_leap_months(rt: HostRuntime) {
+    for (year, new_year, long, leap_month) in [
+        (1900, 693626, 7, 9),
+        (1901, 694010, 6, 0),
+        (1902, 694364, 7, 0),
+        (1903, 694719, 6, 6),
+        (1904, 695102, 6, 0),
+        (1905, 695456, 7, 0),
+        (1906, 695811, 7, 5),
+        (1907, 696195, 6, 0),
+        (1908, 696549, 7, 0),
+        (1909, 696904, 7, 3),
+        (1910, 697288, 6, 0),
+        (1911, 697642, 7, 7),
+    ] {
+        let found = qing_year(year).expect(&rt, "the year is there");
+        assert_eq!(rt; found.new_year().to_i64_date(), new_year, "at {year}");
+        assert_eq!(rt; long_months(found).count_ones(), long, "at {year}");
+        assert_eq!(rt; found.leap_month().unwrap_or(0), leap_month, "at {year}");
+    }
+    assert!(rt; qing_year(1899).is_none() && qing_year(1912).is_none());
+}
+
+/// The first day of a year, and the place of its leap month, or 0.
+fn start_and_leap_month<C: Calendar>(rt: &impl Abort, calendar: &C, year: i32) -> (i64, u8) {
+    let made = calendar.new_date(YearInput::Extended(year), Month::new(1), 1);
+    let date = made.expect(rt, "the year has a first day");
+    let mut leap_month = 0;
+    for number in 1..=12 {
+        if let Ok(found) = calendar.new_date(YearInput::Extended(year), Month::leap(number), 1) {
+            leap_month = calendar.month(&found).ordinal;
+        }
+    }
+    (calendar.to_rata_die(&date).to_i64_date(), leap_month)
+}
+
+/// In China and in Korea.
+#[test]
+fn computed_years_change_at_1900_and_1912(rt: HostRuntime) {
+    let china = ChineseTraditional::new(EastAsianTable::none(Side::China));
+    let korea = KoreanTraditional::new(EastAsianTable::none(Side::Korea));
+    for (year, in_china, in_korea) in [
+        (1899, (693271, 0), (693271, 0)),
+        (1900, (693626, 9), (693626, 9)),
+        (1911, (697642, 7), (697642, 7)),
+        (1912, (698026, 0), (698026, 0)),
+        (1938, (707505, 10), (707505, 11)),
+    ] {
+        assert_eq!(rt;
+            start_and_leap_month(&rt, &china, year),
+            in_china,
+            "at {year}"
+        );
+        assert_eq!(rt;
+            start_and_leap_month(&rt, &korea, year),
+            in_korea,
+            "at {year}"
+        );
+    }
+}
+
+/// The year of a day, in a calendar.
+fn year_on<C: Calendar>(rt: &impl Abort, calendar: &C, day: i64) -> i32 {
+    assert!(rt; -365242499 <= day && day <= 365242134);
+    calendar.extended_year(&calendar.from_rata_die(RataDie::new(day)))
+}
+
+#[test]
+fn days_lie_in_known_computed_years(rt: HostRuntime) {
+    let china = ChineseTraditional::new(EastAsianTable::none(Side::China));
+    let korea = KoreanTraditional::new(EastAsianTable::none(Side::Korea));
+    for (day, year) in [
+        (693625, 1899),
+        (693626, 1900),
+        (698025, 1911),
+        (698026, 1912),
+        (-365242499, -1000000),
+        (365242134, 999999),
+    ] {
+        assert_eq!(rt; year_on(&rt, &china, day), year, "on {day}");
+        assert_eq!(rt; year_on(&rt, &korea, day), year, "on {day}");
+    }
+}
+
+/// The months from the first day of a year to that of another, and whether they lead back.
+fn months_between<C: Calendar>(rt: &impl Abort, calendar: &C, from: i32, to: i32) -> (u32, bool) {
+    let first = calendar.new_date(YearInput::Extended(from), Month::new(1), 1);
+    let last = calendar.new_date(YearInput::Extended(to), Month::new(1), 1);
+    let options = DateDifferenceOptions {
+        largest_unit: Some(DateDurationUnit::Months),
+    };
+    let passed = calendar.until(
+        &first.expect(rt, "the year has a first day"),
+        &last.expect(rt, "the year has a first day"),
+        options,
+    );
+    (passed.months, passed.is_negative)
+}
+
+#[test]
+fn months_of_computed_years_are_counted(rt: HostRuntime) {
+    let china = ChineseTraditional::new(EastAsianTable::none(Side::China));
+    let korea = KoreanTraditional::new(EastAsianTable::none(Side::Korea));
+    assert_eq!(rt; months_between(&rt, &china, 1900, 1912), (149, false));
+    assert_eq!(rt; months_between(&rt, &korea, 1900, 1901), (13, false));
+    assert_eq!(rt; months_between(&rt, &korea, 1912, 1911), (13, true));
+    assert_eq!(rt; months_between(&rt, &china, 1899, 1900), (12, false));
+    assert_eq!(rt; months_between(&rt, &china, 2024, 2026), (25, false));
+}
+
+/// By the mean years at 8 hours 2025 has the leap month 8 in the place 9, and the month before it is its base.
+#[test]
+fn leap_months_are_shown_over_any_rules(rt: HostRuntime) {
+    let calendar = EastAsianTraditional(MeanRules::new(28_800_000));
+    let first = calendar.from_rata_die(RataDie::new(739280));
+    assert_eq!(rt; calendar.extended_year(&first), 2025);
+    assert_eq!(rt; calendar.year_info(&first).year, 42);
+    assert_eq!(rt; calendar.months_in_year(&first), 13);
+    assert_eq!(rt; calendar.is_in_leap_year(&first), true);
+    for (month, ordinal, status) in [
+        (Month::new(7), 7, LeapStatus::Normal),
+        (Month::new(8), 8, LeapStatus::Base),
+        (Month::leap(8), 9, LeapStatus::Leap),
+        (Month::new(9), 10, LeapStatus::Normal),
+    ] {
+        let made = calendar.new_date(YearInput::Extended(2025), month, 1);
+        let date = made.expect(&rt, "the month is there");
+        assert_eq!(rt; calendar.month(&date).ordinal, ordinal);
+        assert_eq!(rt; calendar.month(&date).leap_status(), status);
+    }
+    let absent = calendar.new_date(YearInput::Extended(2024), Month::leap(8), 1);
+    assert_eq!(rt; absent.is_ok(), false);
+}
+
+/// A date belongs to the calendar of its own rules.
+#[test]
+fn a_date_belongs_to_its_own_rules(rt: HostRuntime) {
+    let eight = EastAsianTraditional(MeanRules::new(28_800_000));
+    let nine = EastAsianTraditional(MeanRules::new(32_400_000));
+    let date = eight.from_rata_die(RataDie::new(738926));
+    assert_eq!(rt; eight.owns(&date), true);
+    assert_eq!(rt; nine.owns(&date), false);
+    assert_eq!(rt; eight.check_date_compatibility(&nine).is_ok(), false);
+    assert_eq!(rt; eight.to_rata_die(&date).to_i64_date(), 738926);
+}
+
+/// A year is read from the first days of its months.
+#[test]
+fn a_year_has_the_lengths_between_its_starts(rt: HostRuntime) {
+    let starts = [
+        RataDie::new(738926),
+        RataDie::new(738955),
+        RataDie::new(738985),
+        RataDie::new(739014),
+        RataDie::new(739044),
+        RataDie::new(739073),
+        RataDie::new(739103),
+        RataDie::new(739132),
+        RataDie::new(739162),
+        RataDie::new(739191),
+        RataDie::new(739221),
+        RataDie::new(739250),
+        RataDie::new(739280),
+        RataDie::new(739309),
+    ];
+    let year = EastAsianTraditionalYear::try_new(2024, starts, Some(3)).expect(&rt, "a year");
+    assert_eq!(rt; year.months(), 13);
+    assert_eq!(rt; year.month_len(1), 29);
+    assert_eq!(rt; year.month_len(2), 30);
+    assert_eq!(rt; year.leap_month(), Some(3));
+    assert_eq!(rt;
+        EastAsianTraditionalYear::try_new(2024, starts, Some(1)).is_some(),
+        false
+    );
+    assert_eq!(rt;
+        EastAsianTraditionalYear::try_new(2023, starts, None).is_some(),
+        false
+    );
+}
+
+#[test]
+fn days_have_known_dates_in_china_and_korea(rt: HostRuntime) {
+    let china = ChineseTraditional::new(EastAsianTable::none(Side::China));
+    let korea = KoreanTraditional::new(EastAsianTable::none(Side::Korea));
+    for (day, year, cycle, month, ordinal, day_of_month) in [
+        (698025, 1911, 48, Month::new(12), 13, 30),
+        (698026, 1912, 49, Month::new(1), 1, 1),
+        (693862, 1900, 37, Month::leap(8), 9, 1),
+        (694216, 1901, 38, Month::new(8), 8, 1),
+    ] {
+        assert!(rt; -365242499 <= day && day <= 365242134);
+        let date = china.from_rata_die(RataDie::new(day));
+        assert_eq!(rt; china.extended_year(&date), year);
+        assert_eq!(rt; china.year_info(&date).year, cycle, "on {day}");
+        assert_eq!(rt; china.month(&date).to_input(), month, "on {day}");
+        assert_eq!(rt; china.month(&date).ordinal, ordinal, "on {day}");
+        assert_eq!(rt; china.day_of_month(&date).0, day_of_month, "on {day}");
+        let there = korea.from_rata_die(RataDie::new(day));
+        assert_eq!(rt; korea.month(&there).ordinal, ordinal, "on {day}");
+    }
+    assert_eq!(rt; china.debug_name(), "Chinese");
+    assert_eq!(rt; korea.debug_name(), "Korean");
+    assert_eq!(rt; china.check_date_compatibility(&china).is_ok(), true);
+}
+
+/// From the leap month 8 of 1900 to the month 8 of 1901 no year has passed, since its plain month stands in for the
+/// leap month.
+#[test]
+fn a_leap_month_counts_in_a_difference(rt: HostRuntime) {
+    let china = ChineseTraditional::new(EastAsianTable::none(Side::China));
+    let from = china.from_rata_die(RataDie::new(693862));
+    let to = china.from_rata_die(RataDie::new(694216));
+    let options = DateDifferenceOptions {
+        largest_unit: Some(DateDurationUnit::Years),
+    };
+    let passed = china.until(&from, &to, options);
+    assert_eq!(rt; passed.years, 0);
+    assert_eq!(rt; passed.months, 12);
+    assert_eq!(rt; passed.days, 0);
+}
+
+/// From the first valid day to the last one there are as many months as mean moons, by a program in Python that
+/// numbers the moons of the two days.
+#[test]
+fn months_are_counted_over_all_valid_days(rt: HostRuntime) {
+    let china = ChineseTraditional::new(EastAsianTable::none(Side::China));
+    let korea = KoreanTraditional::new(EastAsianTable::none(Side::Korea));
+    let options = DateDifferenceOptions {
+        largest_unit: Some(DateDurationUnit::Months),
+    };
+    let first = china.from_rata_die(RataDie::new(-365242499));
+    let last = china.from_rata_die(RataDie::new(365242134));
+    let passed = china.until(&first, &last, options);
+    assert_eq!(rt; passed.months, 24736541);
+    assert_eq!(rt; passed.days, 11);
+    let first = korea.from_rata_die(RataDie::new(-365242499));
+    let last = korea.from_rata_die(RataDie::new(365242134));
+    let passed = korea.until(&first, &last, options);
+    assert_eq!(rt; passed.months, 24736541);
+    assert_eq!(rt; passed.days, 11);
+}
+
+/// A leap month 1 has no reference year, and leaves its place to the month 1 under Constrain alone.
+#[test]
+fn a_leap_month_without_a_reference_year_is_constrained(rt: HostRuntime) {
+    let china = ChineseTraditional::new(EastAsianTable::none(Side::China));
+    for (month, overflow, year) in [
+        (Month::leap(1), Overflow::Constrain, 1972),
+        (Month::leap(8), Overflow::Constrain, 1957),
+        (Month::new(12), Overflow::Reject, 1971),
+    ] {
+        let fields = DateFields {
+            month: Some(month),
+            day: Some(1),
+            ..DateFields::default()
+        };
+        let options = DateFromFieldsOptions {
+            overflow: Some(overflow),
+            missing_fields_strategy: Some(MissingFieldsStrategy::Ecma),
+        };
+        let made = china.from_fields(fields, options);
+        let date = made.expect(&rt, "the date is there");
+        assert_eq!(rt; china.extended_year(&date), year);
+    }
+    let fields = DateFields {
+        month: Some(Month::leap(1)),
+        day: Some(1),
+        ..DateFields::default()
+    };
+    let options = DateFromFieldsOptions {
+        overflow: Some(Overflow::Reject),
+        missing_fields_strategy: Some(MissingFieldsStrategy::Ecma),
+    };
+    let refused = china.from_fields(fields, options).err();
+    assert_eq!(rt; refused, Some(DateFromFieldsError::MonthNotInYear));
+}
+
+/// The day so many days after another.
+fn day_after(first: i64, days: i64) -> RataDie
+    requires first { IsBetween (pos 0) (pos 4000000) first }
+    requires days { IsBetween (pos 0) (pos 400) days }
+{
+    RataDie::new(first + days)
+}
+
+/// A year without a leap month, whose months have 30 and 29 days in turn, but for the last one, which has so many.
+fn year_by_turns(related_iso: i32, first: i64, last: i64) -> Option<EastAsianTraditionalYear>
+    requires first { IsBetween (pos 0) (pos 4000000) first }
+    requires last { IsBetween (pos 29) (pos 30) last }
+{
+    let starts = [
+        day_after(first, 0),
+        day_after(first, 30),
+        day_after(first, 59),
+        day_after(first, 89),
+        day_after(first, 118),
+        day_after(first, 148),
+        day_after(first, 177),
+        day_after(first, 207),
+        day_after(first, 236),
+        day_after(first, 266),
+        day_after(first, 295),
+        day_after(first, 325),
+        day_after(first, 325 + last),
+        day_after(first, 355 + last),
+    ];
+    EastAsianTraditionalYear::try_new(related_iso, starts, None)
+}
+
+/// A year of twelve months of 30 days.
+fn year_of_thirties(related_iso: i32, first: i64) -> Option<EastAsianTraditionalYear>
+    requires { IsBetween (pos 0) (pos 4000000) first }
+{
+    let starts = [
+        day_after(first, 0),
+        day_after(first, 30),
+        day_after(first, 60),
+        day_after(first, 90),
+        day_after(first, 120),
+        day_after(first, 150),
+        day_after(first, 180),
+        day_after(first, 210),
+        day_after(first, 240),
+        day_after(first, 270),
+        day_after(first, 300),
+        day_after(first, 330),
+        day_after(first, 360),
+        day_after(first, 390),
+    ];
+    EastAsianTraditionalYear::try_new(related_iso, starts, None)
+}
+
+/// In the row's year of 1912 the first month has 30 days, and in the computed one 29.
+#[test]
+fn a_row_takes_the_place_of_a_computed_year(rt: HostRuntime) {
+    let rows = [year_by_turns(1912, 698026, 29).expect(&rt, "the year is there")];
+    let made = EastAsianTable::try_new(Side::China, &rows);
+    let china = ChineseTraditional::new(made.expect(&rt, "the table is accepted"));
+    let computed = ChineseTraditional::new(EastAsianTable::none(Side::China));
+    let last = RataDie::new(698055);
+    let date = china.from_rata_die(last);
+    assert_eq!(rt; china.month(&date).ordinal, 1);
+    assert_eq!(rt; china.day_of_month(&date).0, 30);
+    assert_eq!(rt; computed.month(&computed.from_rata_die(last)).ordinal, 2);
+    assert!(rt; china.check_date_compatibility(&china).is_ok());
+    assert!(rt; china.check_date_compatibility(&computed).is_err());
+    let korea = EastAsianTable::try_new(Side::Korea, &rows);
+    assert!(rt; korea.is_ok());
+}
+
+#[test]
+fn a_single_row_is_refused_for_its_first_fault(rt: HostRuntime) {
+    for (related_iso, first, last, part) in [
+        (1912, 698026, 30, TablePart::End),
+        (1912, 698027, 29, TablePart::Join),
+        (1912, 698027, 30, TablePart::Join),
+        (1911, 697642, 30, TablePart::Year),
+        (10000, 3652079, 29, TablePart::Year),
+    ] {
+        assert!(rt; 0 <= first && first <= 4000000);
+        assert!(rt; 29 <= last && last <= 30);
+        let row = year_by_turns(related_iso, first, last).expect(&rt, "the year is there");
+        let fault = EastAsianTable::try_new(Side::China, &[row]).err();
+        assert!(rt;
+            fault == Some(TableFault { row: 1, part }),
+            "at {related_iso}"
+        );
+    }
+}
+
+/// Four years without a leap month follow 1911, which has one. Where the third is the last row, it doesn't end where
+/// the computed 1915 starts, and this is found before its want of a leap month.
+#[test]
+fn rows_are_refused_for_the_first_fault(rt: HostRuntime) {
+    let y1912 = year_of_thirties(1912, 698026).expect(&rt, "the year is there");
+    let y1913 = year_of_thirties(1913, 698386).expect(&rt, "the year is there");
+    let y1914 = year_of_thirties(1914, 698746).expect(&rt, "the year is there");
+    let y1915 = year_of_thirties(1915, 699106).expect(&rt, "the year is there");
+    let four = [y1912, y1913, y1914, y1915];
+    let three = [y1912, y1913, y1914];
+    let gap = [y1912, y1914];
+    let twice = [y1912, y1912];
+    for (fault, row, part) in [
+        (
+            EastAsianTable::try_new(Side::China, &four).err(),
+            3,
+            TablePart::Leap,
+        ),
+        (
+            EastAsianTable::try_new(Side::China, &three).err(),
+            3,
+            TablePart::End,
+        ),
+        (
+            EastAsianTable::try_new(Side::China, &gap).err(),
+            2,
+            TablePart::Year,
+        ),
+        (
+            EastAsianTable::try_new(Side::China, &twice).err(),
+            2,
+            TablePart::Year,
+        ),
+    ] {
+        assert!(rt; fault == Some(TableFault { row, part }));
+    }
+}

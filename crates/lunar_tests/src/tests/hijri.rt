@@ -1,0 +1,194 @@
+//! Days that the Hijri calendars are known by, tables that are refused, and a calendar over rules of a caller.
+
+ghost use Rattle.std.specs.Prelude.{◌≡◌, IsTrue, pos};
+ghost use Rattle.cal_days.specs.Day.{IsBetween};
+ghost use Rattle.cal_model.specs.CalendarList.{day_number};
+ghost use Rattle.cal_hijri.specs.HijriSystem.{hijri_belongs, packed_date};
+ghost use Rattle.cal_hijri.specs.TableRules.{table_year, umm_al_qura_system};
+ghost use Rattle.cal_hijri.specs.TabularRules.{tabular_system, tabular_year};
+
+use crate::late_rules::Late;
+use cal_base::{Calendar, Iso};
+use cal_days::RataDie;
+use cal_hijri::{
+    AstronomicalSimulation, Hijri, HijriDateInner, HijriTable, HijriYear, TabularAlgorithm,
+    TabularAlgorithmEpoch, TabularAlgorithmLeapYears, UmmAlQura,
+};
+use cal_types::{Month, TableFault, TablePart, YearInput};
+
+#[test]
+fn late_years_are_found_before_year_1(rt: HostRuntime) {
+    let cases = [
+        (226311, -2, 12, 30),
+        (226312, -1, 1, 1),
+        (227019, 0, 12, 29),
+        (227020, 1, 1, 1),
+    ];
+    for (day, year, month, day_of_month) in cases {
+        assert!(rt; -365242499 <= day && day <= 365242134);
+        let hijri = Hijri(Late);
+        let date = hijri.from_rata_die(RataDie::new(day));
+        assert_eq!(rt; hijri.extended_year(&date), year, "at {day}");
+        assert_eq!(rt; hijri.month(&date).ordinal, month, "at {day}");
+        assert_eq!(rt; hijri.day_of_month(&date).0, day_of_month, "at {day}");
+        assert_eq!(rt; hijri.to_rata_die(&date).to_i64_date(), day, "at {day}");
+    }
+}
+
+/// 1 Muharram 1445 is 2023-07-19.
+#[test]
+fn a_tabular_new_year_is_on_its_iso_day(rt: HostRuntime) {
+    let hijri = Hijri::new_tabular(
+        TabularAlgorithmLeapYears::TypeII,
+        TabularAlgorithmEpoch::Friday,
+    );
+    let made = hijri.new_date(YearInput::Extended(1445), Month::new(1), 1);
+    let date = made.expect(&rt, "the date is there");
+    let iso = hijri.to_iso(&date);
+    assert_eq!(rt; Iso.extended_year(&iso), 2023);
+    assert_eq!(rt; Iso.month(&iso).ordinal, 7);
+    assert_eq!(rt; Iso.day_of_month(&iso).0, 19);
+    assert_eq!(rt; hijri.year_info(&date).era.as_str(), "ah");
+    assert!(rt; hijri.is_in_leap_year(&date));
+}
+
+/// The day before the first day of year 1 lies in the first year before the Hijra.
+#[test]
+fn a_date_belongs_to_its_own_epoch(rt: HostRuntime) {
+    let leap_years = TabularAlgorithmLeapYears::TypeII;
+    let friday = Hijri::new_tabular(leap_years, TabularAlgorithmEpoch::Friday);
+    let thursday = Hijri::new_tabular(leap_years, TabularAlgorithmEpoch::Thursday);
+    let date = friday.from_rata_die(RataDie::new(227014));
+    assert_eq!(rt; friday.extended_year(&date), 0);
+    assert_eq!(rt; friday.year_info(&date).year, 1);
+    assert_eq!(rt; friday.year_info(&date).era.as_str(), "bh");
+    assert!(rt; friday.owns(&date));
+    assert!(rt; !thursday.owns(&date));
+    assert_eq!(rt; day_of_tabular(friday, &date).to_i64_date(), 227014);
+    assert!(rt; friday.check_date_compatibility(&thursday).is_err());
+}
+
+/// The year 1445 of the Umm al-Qura calendar, if its last month ends where it is to.
+fn row_of_1445(end: i64) -> Option<HijriYear>
+    requires { IsBetween (pos 0) (pos 1000000) end }
+{
+    let starts = [
+        RataDie::new(738720),
+        RataDie::new(738749),
+        RataDie::new(738779),
+        RataDie::new(738809),
+        RataDie::new(738838),
+        RataDie::new(738868),
+        RataDie::new(738897),
+        RataDie::new(738927),
+        RataDie::new(738956),
+        RataDie::new(738986),
+        RataDie::new(739015),
+        RataDie::new(739045),
+        RataDie::new(end),
+    ];
+    HijriYear::try_new(1445, starts)
+}
+
+#[test]
+fn a_row_takes_the_place_of_a_tabular_year(rt: HostRuntime) {
+    let row = row_of_1445(739075).expect(&rt, "the year is there");
+    let rows = [row];
+    let table = HijriTable::try_new(&rows).expect(&rt, "the table is accepted");
+    let umm_al_qura = Hijri::new_umm_al_qura(table);
+    let simulated = Hijri::new_simulated_mecca(HijriTable::none());
+    let made = umm_al_qura.new_date(YearInput::Extended(1445), Month::new(2), 1);
+    let date = made.expect(&rt, "the date is there");
+    assert_eq!(rt; umm_al_qura.to_rata_die(&date).to_i64_date(), 738749);
+    assert!(rt; umm_al_qura.owns(&date));
+    assert_eq!(rt;
+        day_of_umm_al_qura(umm_al_qura, &date).to_i64_date(),
+        738749
+    );
+    let made = simulated.new_date(YearInput::Extended(1445), Month::new(2), 1);
+    let date = made.expect(&rt, "the date is there");
+    assert_eq!(rt; simulated.to_rata_die(&date).to_i64_date(), 738750);
+    let without = Hijri::new_umm_al_qura(HijriTable::none());
+    assert!(rt; umm_al_qura.check_date_compatibility(&without).is_err());
+    assert!(rt; umm_al_qura.check_date_compatibility(&umm_al_qura).is_ok());
+}
+
+#[test]
+fn a_table_is_refused_for_its_first_fault(rt: HostRuntime) {
+    let row = row_of_1445(739075).expect(&rt, "the year is there");
+    let short = row_of_1445(739074).expect(&rt, "the year is there");
+    assert!(rt; row_of_1445(739076).is_none());
+    for (rows, row, part) in [
+        ([short, short], 2, TablePart::Year),
+        ([row, short], 2, TablePart::Year),
+    ] {
+        let fault = HijriTable::try_new(&rows).err();
+        assert!(rt; fault == Some(TableFault { row, part }));
+    }
+    let fault = HijriTable::try_new(&[short]).err();
+    assert!(rt;
+        fault
+            == Some(TableFault {
+                row: 1,
+                part: TablePart::End
+            })
+    );
+}
+
+/// The day number of a date, by the definition of the tabular calendars.
+fn day_of_tabular(
+    hijri: Hijri<TabularAlgorithm>,
+    date: &HijriDateInner<TabularAlgorithm>,
+) -> RataDie
+    requires { IsTrue (hijri_belongs (tabular_year hijri.0) date.now.0.packed) }
+    ensures { result ≡ day_number (tabular_system hijri.0).list (packed_date date.now.0.packed) }
+{
+    hijri.to_rata_die(date)
+}
+
+/// The day number of a date, by the definition of the Umm al-Qura calendar with its rows.
+fn day_of_umm_al_qura<'t>(
+    hijri: Hijri<UmmAlQura<'t>>,
+    date: &HijriDateInner<UmmAlQura<'t>>,
+) -> RataDie
+    requires { IsTrue (hijri_belongs (table_year hijri.0.table.rows.now) date.now.0.packed) }
+    ensures { result ≡ day_number (umm_al_qura_system hijri.entry.0.table.rows.now).list
+        (packed_date date.now.0.packed) }
+{
+    hijri.to_rata_die(date)
+}
+
+/// A calendar under one of the rules.
+#[derive(Clone, Copy, Debug)]
+enum Held<'t> {
+    UmmAlQura(Hijri<UmmAlQura<'t>>),
+    Simulated(Hijri<AstronomicalSimulation<'t>>),
+    Tabular(Hijri<TabularAlgorithm>),
+}
+
+/// A calendar twice.
+fn twice<'t>(calendar: Held<'t>) -> (Held<'t>, Held<'t>)
+    ensures { (result.0 ≡ calendar.entry) × (result.1 ≡ calendar.entry) }
+{
+    (calendar, calendar)
+}
+
+#[test]
+fn a_calendar_is_passed_on_by_value(rt: HostRuntime) {
+    let table = HijriTable::none();
+    for calendar in [
+        Held::UmmAlQura(Hijri::new_umm_al_qura(table)),
+        Held::Simulated(Hijri::new_simulated_mecca(table)),
+        Held::Tabular(Hijri::new_tabular(
+            TabularAlgorithmLeapYears::TypeII,
+            TabularAlgorithmEpoch::Thursday,
+        )),
+    ] {
+        let name = match twice(calendar).0 {
+            Held::UmmAlQura(hijri) => hijri.debug_name(),
+            Held::Simulated(hijri) => hijri.debug_name(),
+            Held::Tabular(hijri) => hijri.debug_name(),
+        };
+        assert!(rt; name.len() > 0);
+    }
+}

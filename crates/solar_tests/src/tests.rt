@@ -1,0 +1,7 @@
+//! Dates of which the days are known, eras and corrections that may be given, and defaults.
+
+mod ethiopian;
+mod gregorian;
+mod julian;
+mod later_eras;
+mod persian_corrections;

@@ -1,0 +1,75 @@
+//! An era after Reiwa, listed and read.
+
+use cal_base::Calendar;
+use cal_days::RataDie;
+use cal_gregory::{EraStartDate, Japanese, JapaneseEras};
+use cal_types::{Month, TinyAsciiStr, YearInput};
+
+/// The start of an era on a day.
+fn start(year: i32, month: u8, day: u8) -> EraStartDate {
+    EraStartDate { year, month, day }
+}
+
+/// The eras with a last one that starts on a day, if it may be listed.
+fn eras_with(start: EraStartDate, code: &[u8], index: u8) -> Option<JapaneseEras> {
+    let code = TinyAsciiStr::try_from_utf8(code).ok()?;
+    JapaneseEras::with_last_era(start, code, index)
+}
+
+#[test]
+fn an_era_after_reiwa_is_listed_last(rt: HostRuntime) {
+    let made = eras_with(start(2086, 11, 1), b"fuzu", 8);
+    let eras = made.expect(&rt, "the era may be listed");
+    assert_eq!(rt; eras.eras().count(), 6);
+    let last = eras.eras().next_back().expect(&rt, "there is an era");
+    assert!(rt; last.0 == start(2086, 11, 1));
+    assert_eq!(rt; last.1.as_str(), "fuzu");
+    assert_eq!(rt; last.2, 8);
+}
+
+#[test]
+fn days_about_the_start_of_a_last_era_are_in_their_eras(rt: HostRuntime) {
+    let made = eras_with(start(2086, 11, 1), b"fuzu", 8);
+    let japanese = Japanese::with_eras(made.expect(&rt, "the era may be listed"));
+    for (day, era, year) in [(761835, "reiwa", 68), (761836, "fuzu", 1)] {
+        assert!(rt; -365242499 <= day && day <= 365242134);
+        let date = japanese.from_rata_die(RataDie::new(day));
+        let named = japanese.year_info(&date);
+        assert_eq!(rt; named.era.as_str(), era, "on {day}");
+        assert_eq!(rt; named.year, year, "on {day}");
+    }
+    let made = japanese.new_date(YearInput::EraYear("fuzu", 1), Month::new(11), 1);
+    let date = made.expect(&rt, "the date is there");
+    assert_eq!(rt; japanese.to_rata_die(&date).to_i64_date(), 761836);
+}
+
+#[test]
+fn an_era_before_2026_lists_those_up_to_reiwa(rt: HostRuntime) {
+    for (last, text, index) in [
+        (start(2025, 12, 31), b"fuzu".as_slice(), 7),
+        (start(2019, 5, 1), b"reiwa".as_slice(), 6),
+        (start(-1, 0, 99), b"".as_slice(), 0),
+    ] {
+        assert!(rt; eras_with(last, text, index) == Some(JapaneseEras::up_to_reiwa()));
+    }
+}
+
+#[test]
+fn an_era_that_cannot_be_the_last_is_refused(rt: HostRuntime) {
+    for (last, text, index) in [
+        (start(2030, 4, 1), b"abc".as_slice(), 9),
+        (start(2030, 4, 1), b"abc".as_slice(), 6),
+        (start(2030, 4, 0), b"abc".as_slice(), 7),
+        (start(2030, 4, 32), b"abc".as_slice(), 7),
+        (start(2030, 0, 1), b"abc".as_slice(), 7),
+        (start(2030, 16, 1), b"abc".as_slice(), 7),
+        (start(2090, 4, 1), b"abc".as_slice(), 7),
+        (start(2030, 4, 1), b"".as_slice(), 7),
+        (start(2030, 4, 1), b"aBc".as_slice(), 7),
+    ] {
+        assert!(rt; eras_with(last, text, index).is_none());
+    }
+    for last in [start(2026, 1, 1), start(2089, 15, 31)] {
+        assert!(rt; eras_with(last, b"abcdefgz", 7).is_some());
+    }
+}

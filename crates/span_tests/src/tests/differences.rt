@@ -1,0 +1,151 @@
+//! Differences of known days, that lead back.
+
+ghost use Rattle.std.specs.Prelude.{◌≡◌, ◌<◌};
+
+use icu_calendar::{
+    AnyCalendar, Date, DateAddOptions, DateDifferenceOptions, DateDuration, DateDurationUnit,
+    MismatchedCalendarError, Overflow, RataDie, Steps,
+};
+use known_dates::{GREGORIAN, IN_DAYS, ISO, JULIAN, day, duration};
+use std::marker::Brand;
+use std::process::Abort;
+use std::sync::ledger::{Blank, Ledger};
+
+#[test]
+fn dates_of_two_calendars_have_no_difference(rt: HostRuntime) {
+    for (first, second, is_same) in [
+        (ISO, GREGORIAN, false),
+        (GREGORIAN, ISO, false),
+        (JULIAN, GREGORIAN, false),
+        (ISO, JULIAN, false),
+        (ISO, ISO, true),
+        (GREGORIAN, GREGORIAN, true),
+        (JULIAN, JULIAN, true),
+    ] {
+        let from = Date::from_rata_die(RataDie::new(738156), first);
+        let to = Date::from_rata_die(RataDie::new(738157), second);
+        let want = if is_same {
+            Ok(duration(false, 0, 0, 0, 1))
+        } else {
+            Err(MismatchedCalendarError)
+        };
+        assert_eq!(rt; from.try_until_with_options(&to, IN_DAYS), want);
+    }
+}
+
+#[test]
+fn differences_are_known_durations(rt: HostRuntime) {
+    use DateDurationUnit::{Months, Years};
+    for (calendar, first, second, unit, want) in [
+        // 2020-02-29 to 2021-02-28, and back.
+        (ISO, 737484, 737849, Years, duration(false, 0, 11, 0, 30)),
+        (
+            GREGORIAN,
+            737849,
+            737484,
+            Years,
+            duration(true, 0, 11, 0, 28),
+        ),
+        (
+            JULIAN,
+            737497,
+            737862,
+            Months,
+            duration(false, 0, 11, 0, 30),
+        ),
+    ] {
+        let from = Date::from_rata_die(day(&rt, first), calendar);
+        let to = Date::from_rata_die(day(&rt, second), calendar);
+        let options = DateDifferenceOptions {
+            largest_unit: Some(unit),
+        };
+        assert_eq!(rt;
+            from.try_until_with_options(&to, options),
+            Ok(want),
+            "from {first}"
+        );
+    }
+}
+
+/// That the difference of two days, added to the first, gives the second.
+fn assert_leads_back(
+    rt: &impl Abort,
+    calendar: AnyCalendar<'static>,
+    first: i64,
+    second: i64,
+    largest_unit: Option<DateDurationUnit>,
+) {
+    let from = Date::from_rata_die(day(rt, first), calendar);
+    let to = Date::from_rata_die(day(rt, second), calendar);
+    let constrain = DateAddOptions {
+        overflow: Some(Overflow::Constrain),
+    };
+    match from.try_until_with_options(&to, DateDifferenceOptions { largest_unit }) {
+        Ok(between) => match from.try_added_with_options(between, constrain) {
+            Ok(sum) => assert_eq!(rt; sum.to_rata_die().to_i64_date(), second, "from {first}"),
+            Err(cause) => assert!(rt; false, "{cause} from {first} to {second}"),
+        },
+        Err(_) => assert!(rt; false, "from {first} to {second}"),
+    }
+}
+
+/// That the differences lead back in each unit and calendar.
+fn assert_all_lead_back(rt: &impl Abort, first: i64, second: i64) {
+    use DateDurationUnit::{Days, Months, Weeks, Years};
+    for calendar in [GREGORIAN, ISO, JULIAN] {
+        for unit in [None, Some(Years), Some(Months), Some(Weeks), Some(Days)] {
+            assert_leads_back(rt, calendar, first, second, unit);
+        }
+    }
+}
+
+#[test]
+fn differences_lead_back(rt: HostRuntime) {
+    for (first, second) in [
+        (-365242499, 365242134),
+        (365242134, -365242499),
+        (-368, 300000000),
+    ] {
+        assert_all_lead_back(&rt, first, second);
+    }
+    for place in 0u8..100 {
+        let place = i64::from(place);
+        // Over the whole range, and within some centuries of one another.
+        let first = place * 7300000 - 365142499;
+        assert_all_lead_back(&rt, first, first + place * 7919 % 200000 - 100000);
+        assert_all_lead_back(&rt, 737000 + place * 31, 738700 - place * 17);
+    }
+}
+
+/// The difference of two dates by a counter that starts at 0.
+fn counted<L: Ledger>(
+    from: &Date<AnyCalendar<'static>>,
+    to: &Date<AnyCalendar<'static>>,
+    options: DateDifferenceOptions,
+    blank: Blank,
+) -> Option<DateDuration>
+    requires name { blank.name ≡ L.name }
+    requires parts { blank.parts ≡ L.parts }
+    requires some { 0 < blank.parts }
+{
+    let mut steps = Steps::<L>::new(blank);
+    from.until_counted(to, options, &mut steps).ok()
+}
+
+#[test]
+fn counted_differences_are_the_same(rt: HostRuntime) {
+    use DateDurationUnit::{Days, Months, Weeks, Years};
+    for (unit, want) in [
+        (None, duration(false, 0, 0, 0, 365)),
+        (Some(Years), duration(false, 0, 11, 0, 30)),
+        (Some(Months), duration(false, 0, 11, 0, 30)),
+        (Some(Weeks), duration(false, 0, 0, 52, 1)),
+        (Some(Days), duration(false, 0, 0, 0, 365)),
+    ] {
+        let from = Date::from_rata_die(RataDie::new(737484), ISO);
+        let to = Date::from_rata_die(RataDie::new(737849), ISO);
+        let options = DateDifferenceOptions { largest_unit: unit };
+        let found = counted::<Brand>(&from, &to, options, Blank::new(1));
+        assert_eq!(rt; found, Some(want));
+    }
+}

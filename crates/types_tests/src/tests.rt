@@ -1,0 +1,14 @@
+//! Known days and years, texts that are read and written, and defaults.
+
+mod algorithms;
+mod bags;
+mod durations;
+mod easter;
+mod errors;
+mod hebrew_years;
+mod listed_years;
+mod months;
+mod rule_years;
+mod texts;
+mod weeks;
+mod years;

@@ -1,0 +1,233 @@
+//! The texts of errors, and errors that become others.
+
+use cal_types::{
+    CalendarAlgorithm, DateAddError, DateError, DateFromFieldsError, DateNewError,
+    EcmaReferenceYearError, LunisolarDateError, MismatchedCalendarError, MonthCodeParseError,
+    MonthError, ParseError, RangeError, TableFault, TablePart, UnknownEraError,
+};
+use std::test::Fail;
+
+#[test]
+fn fields_errors_print_their_texts(rt: HostRuntime) -> Result<(), Fail> {
+    for (error, want) in [
+        (DateFromFieldsError::NotEnoughFields, "Not enough fields"),
+        (DateFromFieldsError::TooManyFields, "Too many fields"),
+        (DateFromFieldsError::Overflow, "Result out of range"),
+        (
+            DateFromFieldsError::InvalidEra,
+            "Unknown era or invalid syntax",
+        ),
+        (DateFromFieldsError::InconsistentYear, "Inconsistent year"),
+        (
+            DateFromFieldsError::MonthCodeInvalidSyntax,
+            "Invalid month code syntax",
+        ),
+        (
+            DateFromFieldsError::MonthNotInCalendar,
+            "The specified month does not exist in this calendar",
+        ),
+        (
+            DateFromFieldsError::MonthNotInYear,
+            "The specified month exists in this calendar, but not for this year",
+        ),
+        (DateFromFieldsError::InconsistentMonth, "Inconsistent month"),
+        (
+            DateFromFieldsError::InvalidOrdinalMonth { max: 13 },
+            "Invalid ordinal month for year, max is 13",
+        ),
+        (
+            DateFromFieldsError::InvalidDay { max: 30 },
+            "Invalid day for month, max is 30",
+        ),
+    ] {
+        let text = format!(in rt.alloc(); "{error}")?;
+        assert_eq!(rt; text.as_str(), want);
+    }
+    Ok(())
+}
+
+#[test]
+fn add_errors_print_their_texts(rt: HostRuntime) -> Result<(), Fail> {
+    for (error, want) in [
+        (DateAddError::Overflow, "Result out of range"),
+        (
+            DateAddError::MonthNotInYear,
+            "The specified month exists in this calendar, but not for this year",
+        ),
+        (
+            DateAddError::InvalidDay { max: 29 },
+            "Invalid day for month, max is 29",
+        ),
+    ] {
+        let text = format!(in rt.alloc(); "{error}")?;
+        assert_eq!(rt; text.as_str(), want);
+    }
+    Ok(())
+}
+
+#[test]
+fn new_errors_print_their_texts(rt: HostRuntime) -> Result<(), Fail> {
+    for (error, want) in [
+        (
+            DateNewError::InvalidYear,
+            "Invalid year, must be within -9999..=9999",
+        ),
+        (DateNewError::InvalidEra, "Unknown era or invalid syntax"),
+        (
+            DateNewError::MonthNotInCalendar,
+            "The specified month does not exist in this calendar",
+        ),
+        (
+            DateNewError::MonthNotInYear,
+            "The specified month exists in this calendar, but not for this year",
+        ),
+        (
+            DateNewError::InvalidDay { max: 28 },
+            "Invalid day for month, max is 28",
+        ),
+    ] {
+        let text = format!(in rt.alloc(); "{error}")?;
+        assert_eq!(rt; text.as_str(), want);
+    }
+    Ok(())
+}
+
+#[test]
+fn lunisolar_errors_print_their_texts(rt: HostRuntime) -> Result<(), Fail> {
+    for (error, want) in [
+        (LunisolarDateError::InvalidYear, "Invalid year"),
+        (
+            LunisolarDateError::MonthNotInCalendar,
+            "The specified month does not exist in this calendar",
+        ),
+        (
+            LunisolarDateError::MonthNotInYear,
+            "The specified month exists in this calendar, but not for this year",
+        ),
+        (
+            LunisolarDateError::InvalidDay { max: 30 },
+            "Invalid day for month, max is 30",
+        ),
+    ] {
+        let text = format!(in rt.alloc(); "{error}")?;
+        assert_eq!(rt; text.as_str(), want);
+    }
+    Ok(())
+}
+
+#[test]
+fn range_errors_print_their_texts(rt: HostRuntime) -> Result<(), Fail> {
+    let range = RangeError {
+        field: "year",
+        value: -10000,
+        min: -9999,
+        max: 9999,
+    };
+    let want = "The year = -10000 argument is out of range -9999..=9999";
+    let text = format!(in rt.alloc(); "{range}")?;
+    assert_eq!(rt; text.as_str(), want);
+    let date = DateError::from(range);
+    let text = format!(in rt.alloc(); "{date}")?;
+    assert_eq!(rt; text.as_str(), want);
+    let era = DateError::from(UnknownEraError);
+    let text = format!(in rt.alloc(); "{era}")?;
+    assert_eq!(rt; text.as_str(), "Unknown era");
+    let text = format!(in rt.alloc(); "{MismatchedCalendarError}")?;
+    assert_eq!(rt;
+        text.as_str(),
+        "Attempted to interact two `Date`s with different calendars"
+    );
+    Ok(())
+}
+
+#[test]
+fn parse_errors_print_their_texts(rt: HostRuntime) -> Result<(), Fail> {
+    let range = RangeError {
+        field: "month",
+        value: 13,
+        min: 1,
+        max: 12,
+    };
+    for (error, want) in [
+        (ParseError::Syntax, "Syntax error in the RFC 9557 string"),
+        (ParseError::MissingFields, "Missing fields"),
+        (ParseError::UnknownCalendar, "Unknown calendar"),
+        (
+            ParseError::MismatchedCalendar(
+                CalendarAlgorithm::Gregory,
+                CalendarAlgorithm::Hijri(None),
+            ),
+            "Expected calendar gregory but found calendar islamic",
+        ),
+        (
+            ParseError::from(range),
+            "Value out of range: The month = 13 argument is out of range 1..=12",
+        ),
+    ] {
+        let text = format!(in rt.alloc(); "{error}")?;
+        assert_eq!(rt; text.as_str(), want);
+    }
+    Ok(())
+}
+
+#[test]
+fn table_faults_print_their_texts(rt: HostRuntime) -> Result<(), Fail> {
+    for (part, want) in [
+        (TablePart::Year, "year"),
+        (TablePart::Join, "join"),
+        (TablePart::End, "end"),
+        (TablePart::Leap, "leap"),
+        (TablePart::Rule, "rule"),
+    ] {
+        let text = format!(in rt.alloc(); "{part}")?;
+        assert_eq!(rt; text.as_str(), want);
+    }
+    let fault = TableFault {
+        row: 2,
+        part: TablePart::Join,
+    };
+    let text = format!(in rt.alloc(); "{fault}")?;
+    assert_eq!(rt; text.as_str(), "Row 2 of the table breaks its rule on join");
+    Ok(())
+}
+
+#[test]
+fn smaller_errors_become_larger_ones(rt: HostRuntime) {
+    assert_eq!(rt;
+        DateNewError::from(UnknownEraError),
+        DateNewError::InvalidEra
+    );
+    assert_eq!(rt;
+        DateFromFieldsError::from(UnknownEraError),
+        DateFromFieldsError::InvalidEra
+    );
+    assert_eq!(rt;
+        DateFromFieldsError::from(MonthCodeParseError::InvalidSyntax),
+        DateFromFieldsError::MonthCodeInvalidSyntax
+    );
+    for (error, want) in [
+        (
+            MonthError::NotInCalendar,
+            DateFromFieldsError::MonthNotInCalendar,
+        ),
+        (MonthError::NotInYear, DateFromFieldsError::MonthNotInYear),
+    ] {
+        assert_eq!(rt; DateFromFieldsError::from(error), want);
+    }
+    for (error, want) in [
+        (
+            EcmaReferenceYearError::Unimplemented,
+            DateFromFieldsError::NotEnoughFields,
+        ),
+        (
+            EcmaReferenceYearError::MonthNotInCalendar,
+            DateFromFieldsError::MonthNotInCalendar,
+        ),
+        (
+            EcmaReferenceYearError::UseRegularIfConstrain,
+            DateFromFieldsError::MonthNotInYear,
+        ),
+    ] {
+        assert_eq!(rt; DateFromFieldsError::from(error), want);
+    }
+}

@@ -1,0 +1,67 @@
+//! Days of the week, sets of them, weekends and weeks of a month.
+
+use cal_days::RataDie;
+use cal_types::{DayOfMonth, DayOfWeekInMonth, WeekInformation, Weekday, WeekdaySet};
+
+#[test]
+fn known_days_have_known_weekdays(rt: HostRuntime) {
+    for (number, want) in [
+        // 1992-09-02, 2000-01-01, 1969-12-31 and 0001-01-01.
+        (727443, Weekday::Wednesday),
+        (730120, Weekday::Saturday),
+        (719162, Weekday::Wednesday),
+        (1, Weekday::Monday),
+        (0, Weekday::Sunday),
+        (-1, Weekday::Saturday),
+        (-6, Weekday::Monday),
+    ] {
+        assert!(rt; -1000000 <= number && number <= 1000000);
+        assert_eq!(rt; Weekday::from(RataDie::new(number)), want, "on {number}");
+        assert_eq!(rt; Weekday::from_days_since_sunday(number as isize), want);
+    }
+    assert_eq!(rt; (Weekday::Monday as u8, Weekday::Sunday as u8), (1, 7));
+}
+
+#[test]
+fn a_set_has_its_days_in_any_order(rt: HostRuntime) {
+    let weekend = WeekdaySet::new(&[Weekday::Saturday, Weekday::Sunday]);
+    let turned = WeekdaySet::new(&[Weekday::Sunday, Weekday::Saturday, Weekday::Sunday]);
+    assert_eq!(rt; weekend, turned);
+    assert!(rt; weekend != WeekdaySet::new(&[Weekday::Saturday]));
+    assert!(rt; weekend.contains(Weekday::Saturday) && weekend.contains(Weekday::Sunday));
+    assert!(rt; !weekend.contains(Weekday::Monday) && !weekend.contains(Weekday::Friday));
+    assert!(rt; !WeekdaySet::new(&[]).contains(Weekday::Sunday));
+}
+
+#[test]
+fn a_weekend_begins_with_the_first_of_its_days_in_the_week(rt: HostRuntime) {
+    let weekend = WeekdaySet::new(&[Weekday::Saturday, Weekday::Sunday]);
+    for (first, days) in [
+        (Weekday::Sunday, [Weekday::Sunday, Weekday::Saturday]),
+        (Weekday::Monday, [Weekday::Saturday, Weekday::Sunday]),
+        (Weekday::Saturday, [Weekday::Saturday, Weekday::Sunday]),
+    ] {
+        let mut left = WeekInformation::new(first, weekend).weekend();
+        assert_eq!(rt; left.next(), Some(days[0]));
+        assert_eq!(rt; left.next(), Some(days[1]));
+        assert_eq!(rt; left.next(), None);
+        assert_eq!(rt; left.next(), None);
+    }
+}
+
+#[test]
+fn a_week_without_a_weekend_has_no_days_of_it(rt: HostRuntime) {
+    let none = WeekdaySet::new(&[]);
+    let mut left = WeekInformation::new(Weekday::Monday, none).weekend();
+    assert_eq!(rt; left.next(), None);
+}
+
+#[test]
+fn a_weekday_comes_again_after_seven_days(rt: HostRuntime) {
+    for (day, want) in [(0, 1), (1, 1), (7, 1), (8, 2), (31, 5), (255, 37)] {
+        assert_eq!(rt;
+            DayOfWeekInMonth::from(DayOfMonth(day)),
+            DayOfWeekInMonth(want)
+        );
+    }
+}
