@@ -9,10 +9,10 @@ use Rattle.cal_gregory.specs.JapaneseEraList.{ListedEra}
 use Rattle.cal_gregory.specs.LastEra.{eras_with_last}
 use Rattle.cal_model.specs.Difference.{largest_unit_of}
 use Rattle.icu_calendar.proofs.SpanLemmas.{span-exists, span-unique}
-use Rattle.calspan.specs.Lines.{Line, Nothing, GivesRow, Requests, RequestLine, Long, Asks, Malformed, line_of}
-use Rattle.calspan.proofs.LineLemmas.{line_says, line_is}
+use Rattle.request_lines.specs.Lines.{Line, Nothing, GivesRow, Requests, RequestLine, Long, Asks, Malformed, line_of}
+use Rattle.request_lines.proofs.LineLemmas.{line_says, line_is}
 use Rattle.calspan.specs.Replies.{reply_text, is_refusal, options_of}
-use Rattle.calspan.specs.Rows.{Row, China, Korea, Hijri, Persian, Era}
+use Rattle.request_lines.specs.Rows.{Row, China, Korea, Hijri, Persian, Era}
 use Rattle.calspan.specs.RowYears.{IsHijriYear, IsEastAsianYear}
 use Rattle.calspan.proofs.RowYearLemmas.{hijri_year-decided, hijri_year-unique, east_asian_year-decided, east_asian_year-unique}
 use Rattle.cal_errors.specs.declared.errors.TableFault.{TableFault}

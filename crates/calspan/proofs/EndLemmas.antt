@@ -9,7 +9,7 @@ use Rattle.line_reader.specs.Reader.{IsAt}
 use Rattle.line_reader.specs.declared.reader.Reader.{Reader}
 use Rattle.line_reader.proofs.PrefixLemmas.{given_within}
 use Rattle.calspan.specs.Answers.{Stage, Gathering, Answering, Ended, begin, IsAnswerTo, AreAnswers, IsAnswers, Closes}
-use Rattle.calspan.specs.Lines.{Line, Nothing, GivesRow, Requests, RequestLine, line_of}
+use Rattle.request_lines.specs.Lines.{Line, Nothing, GivesRow, Requests, RequestLine, line_of}
 use Rattle.calspan.specs.Run.{outside, RefusedTable, StoppedWriting, limit}
 use Rattle.calspan.specs.Stages.{Refuses}
 use Rattle.calspan.specs.TableRows.{TableRows, IsFirstRefused}

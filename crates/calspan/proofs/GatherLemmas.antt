@@ -12,8 +12,8 @@ use Rattle.line_reader.specs.declared.buffer.LineBuffer.{LineBuffer}
 use Rattle.line_reader.specs.declared.reader.Reader.{Reader}
 use Rattle.line_reader.proofs.PrefixLemmas.{given_within}
 use Rattle.calspan.specs.Answers.{Stage, Gathering, Answering, Ended, begin, IsAnswerTo, AreAnswers}
-use Rattle.calspan.specs.Lines.{Line, Nothing, GivesRow, Requests, RequestLine, IsLine, line_of}
-use Rattle.calspan.specs.Rows.{Row}
+use Rattle.request_lines.specs.Lines.{Line, Nothing, GivesRow, Requests, RequestLine, IsLine, line_of}
+use Rattle.request_lines.specs.Rows.{Row}
 use Rattle.calspan.specs.Run.{outside, RowComesFirst, StoppedReading, TookTooMuch, WantedMemory, limit}
 use Rattle.calspan.specs.Stages.{IsGathering, MetEnd, MetLast, MetRequest, Refuses}
 use Rattle.calspan.specs.TableRows.{TableRows, no_rows}
@@ -24,7 +24,7 @@ use Rattle.calspan.specs.declared.table.RowFault.{RowFault}
 use Rattle.calspan.proofs.AnswerLemmas.{AreAnswers-push}
 use Rattle.calspan.proofs.EndLemmas.{refused_at, refuses_at}
 use Rattle.calspan.proofs.KnownLemmas.{appends_none, consumes_keeps, consumes_then}
-use Rattle.calspan.proofs.LineLemmas.{line_says}
+use Rattle.request_lines.proofs.LineLemmas.{line_says}
 use Rattle.calspan.proofs.RunLemmas.{consumes_end, gathering_goes_on, lines_in-whole}
 
 -- behind the first request line, or behind a line that ended the run

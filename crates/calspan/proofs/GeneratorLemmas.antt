@@ -8,7 +8,7 @@ use Rattle.icu_calendar.proofs.SpanLemmas.{span-exists, span-unique}
 use Rattle.cal_any.specs.Kinds.{kind_system, no_contents}
 use Rattle.calspan.specs.Generator.{generated_request, with_answer, no_totals, totals_text, IsCounted, AreTotals, IsGenerated}
 use Rattle.calspan.specs.Replies.{options_of}
-use Rattle.calspan.specs.Requests.{Request}
+use Rattle.request_lines.specs.Requests.{Request}
 use Rattle.calspan.specs.declared.totals.Totals.{Totals}
 use Rattle.cal_any.proofs.KindLemmas.{kind_lawful}
 

@@ -1,12 +1,5 @@
 pub mod AnswerLemmas
-mod SplitLemmas
-mod TakingLemmas
-mod KeyLemmas
-mod FieldLemmas
-pub mod BagLemmas
-mod LineLemmas
 mod KnownLemmas
-pub mod FormLemmas
 mod RunLemmas
 mod EndLemmas
 mod HeadlineLemmas
@@ -18,5 +11,3 @@ mod TableOrderLemmas
 pub mod TableLemmas
 mod GeneratorLemmas
 pub mod RowYearLemmas
-mod RowLemmas
-mod RowFormLemmas

@@ -4,7 +4,7 @@ use Rattle.std.specs.Bool.{⊤}
 use Rattle.cal_gregory.specs.JapaneseEraList.{ListedEra}
 use Rattle.cal_gregory.specs.LastEra.{eras_with_last}
 use Rattle.calspan.specs.Answers.{Gathering, Ended, TakesEras, TakesYear}
-use Rattle.calspan.specs.Rows.{YearRow, EraRow, China, Korea, Hijri, Era}
+use Rattle.request_lines.specs.Rows.{YearRow, EraRow, China, Korea, Hijri, Era}
 use Rattle.calspan.specs.RowYears.{IsHijriYear, IsEastAsianYear}
 use Rattle.calspan.specs.RowsSaid.{AreErasKept, IsKept, IsTaken, IsYearKept}
 use Rattle.calspan.specs.TableRows.{TableRows}

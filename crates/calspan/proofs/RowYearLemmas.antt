@@ -19,7 +19,7 @@ use Rattle.cal_east_asian.specs.EastAsianYear.{IsNewYear, is_leap_place, months_
 use Rattle.cal_east_asian.specs.MonthStarts as east_asian
 use Rattle.cal_east_asian.specs.SameYears as same_years
 use Rattle.cal_east_asian.specs.declared.east_asian_traditional_year.EastAsianTraditionalYear.{EastAsianTraditionalYear}
-use Rattle.calspan.specs.Rows.{YearRow}
+use Rattle.request_lines.specs.Rows.{YearRow}
 use Rattle.calspan.specs.RowYears.{days_at, starts_of, IsHijriYear, IsEastAsianYear}
 
 -- 1 where the month at i has 30 days

@@ -13,7 +13,7 @@ use Rattle.line_reader.specs.Reader.{IsAt, GivesLine, GivesAll, GivesTooLong, li
 use Rattle.line_reader.proofs.PrefixLemmas.{given_in_all}
 use Rattle.calspan.specs.declared.status.Status.{Status}
 use Rattle.calspan.specs.declared.status.Status.TheVariants.{Done, Refused, WriteFault, TableRefused}
-use Rattle.calspan.specs.Lines.{line_of}
+use Rattle.request_lines.specs.Lines.{line_of}
 use Rattle.calspan.specs.Answers.{Stage, Gathering, Answering, Ended, begin, IsAnswerTo, AreAnswers, IsAnswers, Closes, status_of}
 use Rattle.calspan.specs.Stages.{Responded, stage_of, answered_status}
 use Rattle.calspan.specs.TableRows.{TableRows}

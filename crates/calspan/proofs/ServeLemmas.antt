@@ -12,7 +12,7 @@ use Rattle.byte_io.specs.Faults.{Rose}
 use Rattle.byte_io.specs.declared.Failed.{Failed}
 use Rattle.cal_errors.specs.declared.errors.TableFault.{TableFault}
 use Rattle.calspan.specs.Answers.{Gathering, Answering, Ended, begin, IsAnswerTo, AreAnswers, IsAnswers}
-use Rattle.calspan.specs.Lines.{Line, Nothing, Requests, RequestLine, line_of}
+use Rattle.request_lines.specs.Lines.{Line, Nothing, Requests, RequestLine, line_of}
 use Rattle.calspan.specs.Run.{Outside, outside, AnsweredAll, RefusedTable, Serves, limit}
 use Rattle.calspan.specs.Stages.{Follows, IsGathering, MetEnd, MetLast, MetRequest, Refuses}
 use Rattle.calspan.specs.TableRows.{TableRows, no_rows, AreAccepted, IsFirstRefused}

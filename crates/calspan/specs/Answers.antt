@@ -6,9 +6,9 @@ use Rattle.cal_any.specs.Kinds.{TableContents, kind_system}
 use Rattle.cal_gregory.specs.LastEra.{eras_with_last}
 use Rattle.cal_gregory.specs.JapaneseEraList.{ListedEra}
 use Rattle.calspan.specs.Texts.{about_line}
-use Rattle.calspan.specs.Lines.{Line, Nothing, GivesRow, Requests, RequestLine, Long, Asks, Malformed, IsLine}
+use Rattle.request_lines.specs.Lines.{Line, Nothing, GivesRow, Requests, RequestLine, Long, Asks, Malformed, IsLine}
 use Rattle.calspan.specs.Replies.{IsReply}
-use Rattle.calspan.specs.Rows.{Row, China, Korea, Hijri, Persian, Era}
+use Rattle.request_lines.specs.Rows.{Row, China, Korea, Hijri, Persian, Era}
 use Rattle.calspan.specs.RowYears.{IsHijriYear, IsEastAsianYear}
 use Rattle.calspan.specs.TableRows.{TableRows, no_rows, contents_of, with_china, with_korea, with_hijri, with_persian, with_eras, AreAccepted, IsFirstRefused}
 use Rattle.calspan.specs.TableTexts.{row_refusal, table_refusal}

@@ -1,14 +1,9 @@
 -- What the words after the program's name ask for.
-use Rattle.std.specs.Prelude.{ℕ, ◌≤◌, Bool, List, [], ◌∷◌, Option, Some, None, if◌then◌else◌, codes, nat_eq, nat_le, ⊤}
+use Rattle.std.specs.Prelude.{ℕ, ◌≤◌, List, [], ◌∷◌, Option, Some, None, if◌then◌else◌, codes, nat_le, ⊤}
 use Rattle.std.specs.Option.{option_map, option_and_then}
-use Rattle.calspan.specs.Words.{number_of}
+use Rattle.request_lines.specs.Words.{is_text, number_of}
 use Rattle.calspan.specs.declared.command.Command.{Command}
 use Rattle.calspan.specs.declared.command.Command.TheVariants.{Span, Generate}
-use lib.Pointwise.{pointwise}
-
--- whether two texts are the same
-abbrev pub is_text : List ℕ → List ℕ → Bool
-is_text a b = pointwise nat_eq a b
 
 -- a number of requests
 abbrev pub few_requests : ℕ → Option ℕ

@@ -3,8 +3,8 @@ use Rattle.std.specs.Prelude.{◌≡◌, ℕ, List, [], Option}
 use Rattle.line_reader.specs.declared.buffer.LineBuffer.{LineBuffer}
 use Rattle.line_reader.specs.declared.reader.Reader.{Reader}
 use Rattle.calspan.specs.Answers.{Gathering, Ended, IsAnswerTo}
-use Rattle.calspan.specs.Lines.{GivesRow, RequestLine, Requests, line_of}
-use Rattle.calspan.specs.Rows.{Row}
+use Rattle.request_lines.specs.Lines.{GivesRow, RequestLine, Requests, line_of}
+use Rattle.request_lines.specs.Rows.{Row}
 use Rattle.calspan.specs.Run.{outside, Serves}
 use Rattle.calspan.specs.Stages.{MetEnd, MetLast, MetRequest, Refuses}
 use Rattle.calspan.specs.TableRows.{TableRows}

@@ -16,7 +16,7 @@ use Rattle.icu_calendar.specs.Spans.{SpanDates, IsSpan}
 use Rattle.icu_calendar.specs.declared.span_parts.BagSide.{BagSide}
 use Rattle.icu_calendar.specs.declared.span_parts.BagSide.TheVariants.{From, To}
 use Rattle.icu_calendar.specs.declared.span_parts.SpanError.{SpanError}
-use Rattle.calspan.specs.Requests.{Request}
+use Rattle.request_lines.specs.Requests.{Request}
 use Rattle.calspan.specs.Texts.{two_digits}
 
 -- a year of an era, as `ce.2020`, or of a cycle, as `cycle.37`

@@ -4,7 +4,7 @@ use Rattle.std.specs.Option.{option_map}
 use Rattle.cal_gregory.specs.JapaneseEraList.{ListedEra}
 use Rattle.cal_gregory.specs.JapaneseEras.{listed_eras}
 use Rattle.calspan.specs.Answers.{Gathering, Ended, TakesRow}
-use Rattle.calspan.specs.Rows.{Row}
+use Rattle.request_lines.specs.Rows.{Row}
 use Rattle.calspan.specs.TableRows as rows
 use Rattle.calspan.specs.TableTexts.{row_refusal}
 use Rattle.calspan.specs.declared.table.RowFault.TheVariants.{Syntax, Range}

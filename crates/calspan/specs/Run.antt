@@ -5,8 +5,8 @@ use Rattle.byte_io.specs.Bytes.{IsPrefix}
 use Rattle.byte_io.specs.Faults.{Rose}
 use Rattle.calspan.specs.Answers.{IsAnswers}
 use Rattle.calspan.specs.Generator.{IsGenerated}
-use Rattle.calspan.specs.Lines.{IsLine, Nothing, GivesRow}
-use Rattle.calspan.specs.Rows.{Row}
+use Rattle.request_lines.specs.Lines.{IsLine, Nothing, GivesRow}
+use Rattle.request_lines.specs.Rows.{Row}
 use Rattle.line_reader.specs.Lines.{lines_in}
 use Rattle.calspan.specs.Written.{WrotePrefix}
 use Rattle.calspan.specs.declared.status.Status.{Status}

@@ -8,7 +8,7 @@ use Rattle.line_reader.specs.Reader.{IsAt, lines_given}
 use Rattle.line_reader.specs.declared.buffer.LineBuffer.{LineBuffer}
 use Rattle.line_reader.specs.declared.reader.Reader.{Reader}
 use Rattle.calspan.specs.Answers.{AreAnswers, Stage, Gathering, Answering, Ended, IsAnswerTo, IsAnswers, begin, status_of}
-use Rattle.calspan.specs.Lines.{RequestLine, Requests, line_of}
+use Rattle.request_lines.specs.Lines.{RequestLine, Requests, line_of}
 use Rattle.calspan.specs.Run.{limit}
 use Rattle.calspan.specs.TableRows.{TableRows}
 use Rattle.calspan.specs.Written.{Stands, StandsShort}

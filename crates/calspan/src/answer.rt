@@ -3,12 +3,12 @@ ghost use Rattle.std.specs.Prelude.{◌≡◌, ◌+◌, ◌≤◌, ◌++◌, ℕ
 ghost use Rattle.arrayvec.specs.ArrayVec.{array_vec_len};
 ghost use Rattle.line_reader.specs.Buffer.{Holds};
 ghost use Rattle.cal_any.specs.Kinds.{table_contents};
-ghost use Rattle.calspan.specs.Lines.{is_silent as line_is_silent, line_of};
+ghost use Rattle.request_lines.specs.Lines.{is_silent as line_is_silent, line_of};
 ghost use Rattle.calspan.specs.Answers.{Answering, IsAnswerTo, IsRequestAnswer, refusal};
-ghost use Rattle.calspan.specs.LineSaid.{request_line_said};
+ghost use Rattle.request_lines.specs.LineSaid.{request_line_said};
 ghost use Rattle.calspan.specs.TableRows.{TableRows, contents_of};
 
-use crate::line::{Line, RequestLine, is_silent, read_line};
+use request_lines::{Line, RequestLine, is_silent, read_line};
 use crate::reply::reply;
 use crate::status::Status;
 use crate::table::{RowFault, push_row_refusal};

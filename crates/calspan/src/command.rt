@@ -2,7 +2,7 @@
 ghost use Rattle.std.specs.Prelude.{◌≡◌, IfSome, string_bytes, map};
 ghost use Rattle.calspan.specs.Command.{command_of, is_command, count_of};
 
-use crate::words::number;
+use request_lines::number;
 
 /// The most requests that a number may ask for.
 const MOST_REQUESTS: u32 = 100_000;

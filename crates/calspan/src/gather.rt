@@ -8,7 +8,7 @@ ghost use Rattle.line_reader.specs.declared.reader.Reader.{Reader};
 ghost use Rattle.calspan.specs.RowsSaid.{rows_said};
 ghost use Rattle.calspan.specs.Stages.{IsGathering};
 
-use crate::line::{Line, is_silent, read_line};
+use request_lines::{Line, is_silent, read_line};
 use crate::status::Status;
 use crate::table::RowFault;
 use crate::table_rows::{TableRows, Taken};

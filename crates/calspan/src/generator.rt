@@ -2,9 +2,9 @@
 ghost use Rattle.std.specs.Prelude.{◌≡◌, ◌<◌, ◌≤◌, Some};
 ghost use Rattle.cal_types.specs.Bag.{bag_of};
 ghost use Rattle.calspan.specs.Generator.{calendar_of, generated_bag, generated_request, near_year, unit_of};
-ghost use Rattle.calspan.specs.RequestSaid.{request_said};
+ghost use Rattle.request_lines.specs.RequestSaid.{request_said};
 
-use crate::request::{Header, Request};
+use request_lines::{Header, Request};
 use cal_types::{
     DateDifferenceOptions, DateDurationUnit, DateFields, DateFromFieldsOptions,
     MissingFieldsStrategy, Overflow,

@@ -2,20 +2,14 @@
 #![tactic(auto)]
 
 mod answer;
-mod bag;
 mod command;
-mod era_row;
 mod gather;
 mod generator;
 mod laws;
-mod line;
 mod pending;
-mod reading;
 mod reply;
-mod request;
 #[cfg(test)]
 mod request_tests;
-mod row;
 #[cfg(test)]
 mod row_tests;
 mod row_years;
@@ -27,7 +21,6 @@ mod table_rows;
 mod tests;
 mod text;
 mod totals;
-mod words;
 
 ghost use Rattle.std.specs.Prelude.{◌≡◌, ◌≢◌};
 ghost use Rattle.std.specs.IoError.{error_kind};

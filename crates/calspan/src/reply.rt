@@ -9,9 +9,9 @@ ghost use Rattle.cal_any.specs.declared.any_calendar.AnyCalendar.{AnyCalendar};
 ghost use Rattle.cal_model.specs.CalendarList.{day_number};
 ghost use Rattle.calspan.specs.Replies.{year_text, numbered_text, day_text, part_text, parts_text, duration_text, cause_text, side_text, error_text, span_text, ShowsDays, IsReply};
 ghost use Rattle.cal_any.specs.Kinds.{kind_system, table_contents};
-ghost use Rattle.calspan.specs.RequestSaid.{request_said};
+ghost use Rattle.request_lines.specs.RequestSaid.{request_said};
 
-use crate::request::Request;
+use request_lines::Request;
 use crate::text::{Pending, push_all, push_few, push_number, push_signed, push_two_digits};
 use cal_types::{DateDuration, DateFromFieldsError, YearInfo};
 use icu_calendar::{AnyCalendar, BagSide, Date, Span, SpanError, Tables, span};

@@ -4,10 +4,10 @@ ghost use Rattle.cal_hijri.specs.declared.hijri_year.HijriYear.{HijriYear};
 ghost use Rattle.cal_east_asian.specs.declared.east_asian_traditional_year.EastAsianTraditionalYear.{EastAsianTraditionalYear};
 ghost use Rattle.cal_east_asian.specs.EastAsianYear.{is_leap_place};
 ghost use Rattle.cal_east_asian.specs.MonthStarts.{leap_place_read};
-ghost use Rattle.calspan.specs.RowSaid.{year_row_said};
+ghost use Rattle.request_lines.specs.RowSaid.{year_row_said};
 ghost use Rattle.calspan.specs.RowYears.{letter_days, days_at, starts_of, IsHijriYear, IsEastAsianYear};
 
-use crate::row::YearRow;
+use request_lines::YearRow;
 use cal_days::RataDie;
 use cal_east_asian::EastAsianTraditionalYear;
 use cal_hijri::HijriYear;

@@ -5,11 +5,10 @@ ghost use Rattle.cal_any.specs.Kinds.{table_contents};
 ghost use Rattle.cal_gregory.specs.JapaneseEraList.{eras_up_to_reiwa};
 ghost use Rattle.cal_gregory.specs.JapaneseEras.{listed_eras};
 ghost use Rattle.cal_gregory.specs.LastEra.{eras_with_last};
-ghost use Rattle.calspan.specs.RowSaid.{row_said};
+ghost use Rattle.request_lines.specs.RowSaid.{row_said};
 ghost use Rattle.calspan.specs.TableRows.{AreAccepted, IsFirstRefused, contents_of, no_rows};
 
-use crate::era_row::EraRow;
-use crate::row::Row;
+use request_lines::{EraRow, Row};
 use crate::row_years::{east_asian_year, hijri_year};
 use crate::table::{RowFault, Table, TableRefusal};
 use cal_types::TableFault;

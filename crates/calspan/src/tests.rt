@@ -1,7 +1,7 @@
 use crate::run::run;
 use crate::status::{Status, code};
 use crate::text::{Pending, push_signed, push_two_digits};
-use crate::words::{Words, byte, int};
+use request_lines::{Words, byte, int};
 use byte_io::{MemorySink, MemorySource, PlainSink, PlainSource, Source};
 use line_reader::LIMIT;
 use std::alloc::Global;

@@ -8,11 +8,11 @@ ghost use Rattle.cal_any.specs.declared.any_calendar.AnyCalendar.{AnyCalendar};
 ghost use Rattle.cal_model.specs.CalendarList.{day_number};
 ghost use Rattle.icu_calendar.specs.SpanAnswers.{span_dates, HasCalendars};
 ghost use Rattle.calspan.specs.Generator.{AreTotals, IsCounted, no_totals, parts_text, totals_text, with_answer};
-ghost use Rattle.calspan.specs.RequestSaid.{request_said};
+ghost use Rattle.request_lines.specs.RequestSaid.{request_said};
 ghost use Rattle.calspan.specs.TotalBounds.{AreBounded, counted};
 
 use crate::generator::generated_request;
-use crate::request::Request;
+use request_lines::Request;
 use crate::text::{Pending, push_all, push_number, push_signed};
 use icu_calendar::{AnyCalendar, AnyCalendarKind, Date, Span, Tables, span};
 

@@ -1,8 +1,8 @@
 use Rattle.std.proofs.Common.{◌≡◌, true, [], refl, sym, ◌∙◌, subst}
 use Rattle.std.proofs.lemmas.List.{append-nil}
-use Rattle.calspan.specs.Lines.{Line, is_silent}
+use Rattle.request_lines.specs.Lines.{Line, is_silent}
 use Rattle.calspan.specs.Answers.{Answering, IsAnswerTo}
-use Rattle.calspan.proofs.LineLemmas.{silent_is}
+use Rattle.request_lines.proofs.LineLemmas.{silent_is}
 use Rattle.calspan.proofs.answer.answer.Goals as goal
 
 pub returns-then-is_silent : goal.returns-then-is_silent

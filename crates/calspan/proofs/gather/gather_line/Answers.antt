@@ -1,6 +1,6 @@
 use Rattle.std.proofs.Common.{[], sym, subst, ◌∙◌}
 use Rattle.calspan.specs.Answers.{Gathering, Ended, IsAnswerTo}
-use Rattle.calspan.specs.Lines.{Line}
+use Rattle.request_lines.specs.Lines.{Line}
 use Rattle.calspan.specs.RowsSaid.{rows_said}
 use Rattle.calspan.specs.TableTexts.{row_refusal}
 use Rattle.calspan.proofs.gather.gather_line.Goals as goal

@@ -2,7 +2,7 @@ use Rattle.std.proofs.Common.{◌≡◌, ℕ, Bool, false, true, List, ◌++◌,
 use Rattle.cal_model.specs.CalendarSystem.{CalendarSystem}
 use Rattle.icu_calendar.specs.SpanAnswers.{span_dates}
 use Rattle.cal_any.specs.AnySystem.{any_system}
-use Rattle.calspan.specs.Requests.{Request}
+use Rattle.request_lines.specs.Requests.{Request}
 use Rattle.calspan.specs.Replies.{span_text, error_text, IsReply}
 use Rattle.calspan.proofs.reply.reply.Goals as goal
 

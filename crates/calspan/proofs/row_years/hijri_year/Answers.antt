@@ -1,6 +1,6 @@
 use Rattle.std.proofs.Common.{◌≡◌, ◌∙◌, ap, rules, arith, ℤ, FitsSigned, to_z, of_z, w32}
 use Rattle.cal_days.proofs.Signed.{signed}
-use Rattle.calspan.specs.RowSaid.{year_row_said}
+use Rattle.request_lines.specs.RowSaid.{year_row_said}
 use Rattle.calspan.specs.RowYears.{starts_of}
 use Rattle.calspan.proofs.RowYearLemmas.{hijri_year-made}
 use Rattle.calspan.proofs.row_years.hijri_year.Goals as goal

@@ -1,6 +1,6 @@
 use Rattle.std.proofs.Common.{◌≡◌, ℕ, suc, ◌+◌, rules, sym, ap, subst, ◌∙◌, arith}
 use Rattle.calspan.specs.Generator.{AreTotals, IsCounted}
-use Rattle.calspan.specs.Requests.{Request}
+use Rattle.request_lines.specs.Requests.{Request}
 use Rattle.calspan.proofs.totals.totals_over.Goals as goal
 
 pub requests-preserved : goal.requests-preserved

@@ -1,7 +1,7 @@
 use Rattle.std.proofs.Common.{Ok, Err}
 use Rattle.cal_any.specs.AnySystem.{any_system}
 use Rattle.icu_calendar.specs.SpanAnswers.{span_dates}
-use Rattle.calspan.specs.RequestSaid.{request_said}
+use Rattle.request_lines.specs.RequestSaid.{request_said}
 use Rattle.calspan.proofs.GeneratorLemmas.{is_counted}
 use Rattle.calspan.proofs.totals.with_request.Goals as goal
 

@@ -1,9 +1,9 @@
 use Rattle.std.proofs.Common.{Some, sym, subst}
 use Rattle.std.specs.Option.{option_map}
 use Rattle.cal_gregory.specs.JapaneseEras.{listed_eras}
-use Rattle.calspan.specs.RowSaid.{era_row_said, row_said, year_row_said}
+use Rattle.request_lines.specs.RowSaid.{era_row_said, row_said, year_row_said}
 use Rattle.calspan.specs.RowsSaid.{IsTaken, rows_said}
-use Rattle.calspan.specs.declared.row.Row.{Row}
+use Rattle.request_lines.specs.declared.row.Row.{Row}
 use Rattle.calspan.proofs.RowTakingLemmas.{china_taken, korea_taken, hijri_taken, era_taken, set_china, set_korea, set_hijri, set_eras}
 use Rattle.calspan.proofs.table_rows.TableRows.take_row.Goals as goal
 

@@ -1,8 +1,0 @@
-use Rattle.std.proofs.Common.{arith}
-use Rattle.calspan.proofs.RowLemmas.{code-fits, code-text}
-use Rattle.calspan.proofs.era_row.EraRow.code.Goals as goal
-
-pub of_text-requires : goal.of_text-requires
-of_text-requires c =
-    let era = c.args.self.now in
-    (omega arith, (code-fits era.letters.now era.coded, code-text era.letters.now era.coded))

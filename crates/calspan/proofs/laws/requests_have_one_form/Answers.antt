@@ -1,5 +1,0 @@
-use Rattle.calspan.proofs.FormLemmas.{one_form}
-use Rattle.calspan.proofs.laws.requests_have_one_form.Goals as goal
-
-pub returns : goal.returns
-returns c = one_form

@@ -1,0 +1,9 @@
+pub mod SplitLemmas
+pub mod TakingLemmas
+pub mod KeyLemmas
+pub mod FieldLemmas
+pub mod BagLemmas
+pub mod LineLemmas
+pub mod FormLemmas
+pub mod RowLemmas
+pub mod RowFormLemmas

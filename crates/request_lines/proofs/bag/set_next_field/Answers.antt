@@ -1,0 +1,67 @@
+use Rattle.std.proofs.Common.{◌≡◌, ℤ, Some, None, MatchOption, FitsSigned, w32, to_z, of_z, codes, sym, subst, ◌∙◌, rules, arith}
+use Rattle.std.specs.Option.{option_map}
+use Rattle.cal_days.proofs.Signed.{signed}
+use Rattle.cal_types.specs.Bag.{Bag, bag_of}
+use Rattle.cal_types.specs.Month.{month_read}
+use Rattle.cal_types.specs.MonthParts.{month_parts}
+use Rattle.request_lines.specs.Reading.{Read, IsReading}
+use Rattle.request_lines.specs.WordsLeft.{words_left}
+use Rattle.request_lines.specs.Words.{int_of, byte_of}
+use Rattle.request_lines.specs.Bags.{ExtendedYear, Month, Day, rarer_field_read, with_field}
+use Rattle.request_lines.proofs.FieldLemmas.{behind_year, behind_month, sets_nothing}
+use Rattle.request_lines.proofs.KeyLemmas.{key_missed, key_fails, key_sets, was_taken}
+use Rattle.request_lines.proofs.bag.set_next_field.Goals as goal
+
+pub returns-in_err-next_int : goal.returns-in_err-next_int
+returns-in_err-next_int c =
+    let bag = bag_of c.args.fields.now in
+    let taken = was_taken c.take_key.result _ (words_left c.args.words.now) (words_left c.take_key.new.self) c.take_key.ensures c.if-take_key.true in
+    sets_nothing _ _ _ _ c.from_residual.ensures
+    (key_fails (codes "year=") ExtendedYear int_of behind_year bag (words_left c.args.words.now) (words_left c.take_key.new.self) taken c.in_err-next_int.ensures)
+
+pub returns-then-take_key : goal.returns-then-take_key
+returns-then-take_key c =
+    let bag = bag_of c.args.fields.now in
+    let set = c.set_field in
+    let fits : FitsSigned w32 c.in_ok-next_int.field-0 = search rules in
+    let same : to_z w32 (of_z w32 c.in_ok-next_int.field-0) ≡ c.in_ok-next_int.field-0 = omega (arith, signed) in
+    let sets = subst (λ (z : ℤ). MatchOption set.result (with_field bag (ExtendedYear z) ≡ None) (λ _. with_field bag (ExtendedYear z) ≡ Some (bag_of set.new.fields))) same set.ensures in
+    let taken = was_taken c.take_key.result _ (words_left c.args.words.now) (words_left c.take_key.new.self) c.take_key.ensures c.if-take_key.true in
+    key_sets (codes "year=") ExtendedYear int_of behind_year bag (words_left c.args.words.now) (words_left c.take_key.new.self) (words_left c.next_int.new.words)
+    c.in_ok-next_int.field-0 set.result (bag_of set.new.fields) taken c.in_ok-next_int.ensures sets
+
+pub returns-in_err-next_month : goal.returns-in_err-next_month
+returns-in_err-next_month c =
+    let bag = bag_of c.args.fields.now in
+    let miss = key_missed (codes "year=") ExtendedYear int_of behind_year bag c.take_key.result (words_left c.args.words.now) (words_left c.take_key.new.self) c.take_key.ensures c.if-take_key.false in
+    let taken = was_taken c.take_key-2.result _ (words_left c.take_key.new.self) (words_left c.take_key-2.new.self) c.take_key-2.ensures c.if-take_key-2.true in
+    let fails = key_fails (codes "month=") Month month_read behind_month bag (words_left c.take_key.new.self) (words_left c.take_key-2.new.self) taken c.in_err-next_month.ensures in
+    sets_nothing _ _ _ _ c.from_residual-in_err-next_month.ensures (miss ∙ fails)
+
+pub returns-then-take_key-2 : goal.returns-then-take_key-2
+returns-then-take_key-2 c =
+    let bag = bag_of c.args.fields.now in
+    let set = c.set_field-then-take_key-2 in
+    let miss = key_missed (codes "year=") ExtendedYear int_of behind_year bag c.take_key.result (words_left c.args.words.now) (words_left c.take_key.new.self) c.take_key.ensures c.if-take_key.false in
+    let taken = was_taken c.take_key-2.result _ (words_left c.take_key.new.self) (words_left c.take_key-2.new.self) c.take_key-2.ensures c.if-take_key-2.true in
+    subst (λ (r : Read Bag). IsReading r (option_map (λ _. bag_of set.new.fields) set.result) (words_left c.next_month.new.words)) (sym miss)
+    (key_sets (codes "month=") Month month_read behind_month bag (words_left c.take_key.new.self) (words_left c.take_key-2.new.self) (words_left c.next_month.new.words)
+    (month_parts c.in_ok-next_month.field-0) set.result (bag_of set.new.fields) taken c.in_ok-next_month.ensures set.ensures)
+
+pub returns-in_err-next_byte : goal.returns-in_err-next_byte
+returns-in_err-next_byte c =
+    let bag = bag_of c.args.fields.now in
+    let miss = key_missed (codes "year=") ExtendedYear int_of behind_year bag c.take_key.result (words_left c.args.words.now) (words_left c.take_key.new.self) c.take_key.ensures c.if-take_key.false in
+    let miss2 = key_missed (codes "month=") Month month_read behind_month bag c.take_key-2.result (words_left c.take_key.new.self) (words_left c.take_key-2.new.self) c.take_key-2.ensures c.if-take_key-2.false in
+    let taken = was_taken c.take_key-3.result _ (words_left c.take_key-2.new.self) (words_left c.take_key-3.new.self) c.take_key-3.ensures c.if-take_key-3.true in
+    let fails = key_fails (codes "day=") Day byte_of rarer_field_read bag (words_left c.take_key-2.new.self) (words_left c.take_key-3.new.self) taken c.in_err-next_byte.ensures in
+    sets_nothing _ _ _ _ c.from_residual-in_err-next_byte.ensures (miss ∙ (miss2 ∙ fails))
+
+pub returns : goal.returns
+returns c =
+    let bag = bag_of c.args.fields.now in
+    let set = c.set_next_rarer_field in
+    let miss = key_missed (codes "year=") ExtendedYear int_of behind_year bag c.take_key.result (words_left c.args.words.now) (words_left c.take_key.new.self) c.take_key.ensures c.if-take_key.false in
+    let miss2 = key_missed (codes "month=") Month month_read behind_month bag c.take_key-2.result (words_left c.take_key.new.self) (words_left c.take_key-2.new.self) c.take_key-2.ensures c.if-take_key-2.false in
+    let miss3 = key_missed (codes "day=") Day byte_of rarer_field_read bag c.take_key-3.result (words_left c.take_key-2.new.self) (words_left c.take_key-3.new.self) c.take_key-3.ensures c.if-take_key-3.false in
+    subst (λ (r : Read Bag). IsReading r (option_map (λ _. bag_of set.new.fields) set.result) (words_left set.new.words)) (sym (miss ∙ (miss2 ∙ miss3))) set.ensures

@@ -1,0 +1,15 @@
+pub mod Words
+pub mod WordsLeft
+pub mod Taking
+pub mod RequestSaid
+pub mod LineSaid
+pub mod Reading
+pub mod Bags
+pub mod FieldSaid
+pub mod Requests
+pub mod BagForms
+pub mod Forms
+pub mod Rows
+pub mod RowSaid
+pub mod RowForms
+pub mod Lines

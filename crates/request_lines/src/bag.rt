@@ -1,0 +1,120 @@
+//! The words of a bag of fields.
+ghost use Rattle.std.specs.Prelude.{◌≡◌, Some, None, MatchOption};
+ghost use Rattle.std.specs.Option.{option_map};
+ghost use Rattle.cal_types.specs.Bag.{bag_of};
+ghost use Rattle.cal_types.specs.Month.{month_read};
+ghost use Rattle.cal_types.specs.MonthParts.{month_parts};
+ghost use Rattle.request_lines.specs.Bags.{with_field, with_word, with_rarer_word, no_fields, bag_before_to, bag_of_all};
+ghost use Rattle.request_lines.specs.Reading.{IsReading, next_word};
+ghost use Rattle.request_lines.specs.WordsLeft.{words_left};
+
+use crate::reading::{next_byte, next_int};
+use crate::words::Words;
+use cal_types::{DateFields, Month};
+
+// A field of a bag, and its value.
+#[derive(Clone, Copy, Debug)]
+enum Field<'a> {
+    Era(&'a [u8]),
+    EraYear(i32),
+    ExtendedYear(i32),
+    Month(Month),
+    MonthCode(&'a [u8]),
+    OrdinalMonth(u8),
+    Day(u8),
+}
+
+ghost use Rattle.request_lines.specs.FieldSaid.{field_said};
+
+// Sets a field that isn't set. None where it is, since a key stands at most once in a bag.
+fn set_field<'a>(fields: &mut DateFields<'a>, field: Field<'a>) -> Option<()>
+    ensures { let with = with_field (bag_of fields.old) (field_said field.entry) in
+        MatchOption result (with ≡ None) (λ _. with ≡ Some (bag_of fields.new)) }
+{
+    match field {
+        Field::Era(era) if fields.era.is_none() => fields.era = Some(era),
+        Field::EraYear(year) if fields.era_year.is_none() => fields.era_year = Some(year),
+        Field::ExtendedYear(year) if fields.extended_year.is_none() => {
+            fields.extended_year = Some(year);
+        }
+        Field::Month(month) if fields.month.is_none() => fields.month = Some(month),
+        Field::MonthCode(code) if fields.month_code.is_none() => fields.month_code = Some(code),
+        Field::OrdinalMonth(ordinal) if fields.ordinal_month.is_none() => {
+            fields.ordinal_month = Some(ordinal);
+        }
+        Field::Day(day) if fields.day.is_none() => fields.day = Some(day),
+        _ => return None,
+    }
+    Some(())
+}
+// The month whose code the next word is.
+fn next_month(words: &mut Words) -> Option<Month>
+    ensures { let reading = next_word month_read (words_left words.old) in
+        IsReading reading (option_map month_parts result) (words_left words.new) }
+{
+    Month::try_from_utf8(words.next()?).ok()
+}
+
+// Sets the field that the next word KEY=VALUE names, of those that name a date beside an extended year, a month
+// and a day.
+fn set_next_rarer_field<'a>(fields: &mut DateFields<'a>, words: &mut Words<'a>) -> Option<()>
+    ensures { let reading = next_word (with_rarer_word (bag_of fields.old)) (words_left words.old) in
+        IsReading reading (option_map (λ _. bag_of fields.new) result) (words_left words.new) }
+{
+    if words.take_key(b"era=") {
+        return set_field(fields, Field::Era(words.next()?));
+    }
+    if words.take_key(b"era-year=") {
+        return set_field(fields, Field::EraYear(next_int(words)?));
+    }
+    if words.take_key(b"month-code=") {
+        return set_field(fields, Field::MonthCode(words.next()?));
+    }
+    if words.take_key(b"ordinal=") {
+        return set_field(fields, Field::OrdinalMonth(next_byte(words)?));
+    }
+    None
+}
+
+// Sets the field that the next word KEY=VALUE names. None where the key isn't known, the value isn't one of it,
+// or the field is set.
+fn set_next_field<'a>(fields: &mut DateFields<'a>, words: &mut Words<'a>) -> Option<()>
+    ensures { let reading = next_word (with_word (bag_of fields.old)) (words_left words.old) in
+        IsReading reading (option_map (λ _. bag_of fields.new) result) (words_left words.new) }
+{
+    if words.take_key(b"year=") {
+        return set_field(fields, Field::ExtendedYear(next_int(words)?));
+    }
+    if words.take_key(b"month=") {
+        return set_field(fields, Field::Month(next_month(words)?));
+    }
+    if words.take_key(b"day=") {
+        return set_field(fields, Field::Day(next_byte(words)?));
+    }
+    set_next_rarer_field(fields, words)
+}
+
+/// The fields that the words before `to` name; that word is taken too. None where there is no such word,
+/// a word before it isn't `KEY=VALUE` of a known key and a value of it, or a key stands twice.
+pub fn read_bag_to<'a>(words: &mut Words<'a>) -> Option<DateFields<'a>>
+    ensures { let reading = bag_before_to (Some no_fields) (words_left words.old) in
+        IsReading reading (option_map bag_of result) (words_left words.new) }
+{
+    let mut fields = DateFields::default();
+    while !words.take(b"to") {
+        set_next_field(&mut fields, words)?;
+    }
+    Some(fields)
+}
+
+/// The fields that all words that are left name. None where one of them isn't `KEY=VALUE` of a known key
+/// and a value of it, or a key stands twice.
+pub fn read_bag<'a>(words: &mut Words<'a>) -> Option<DateFields<'a>>
+    ensures { option_map bag_of result ≡ bag_of_all (Some no_fields) (words_left words.old) }
+{
+    let mut fields = DateFields::default();
+    while !words.is_done() {
+        set_next_field(&mut fields, words)?;
+    }
+    Some(fields)
+}

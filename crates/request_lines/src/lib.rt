@@ -1,0 +1,20 @@
+//! What a line of the input of `calspan` says: nothing, a request, or a row of a table.
+//!
+//! A request line has two dates by their fields, two calendars and a unit; a row line has a year of a table. Each is
+//! read word after word, and its form is proved to be the only one.
+#![tactic(auto)]
+
+mod bag;
+mod era_row;
+pub mod laws;
+mod line;
+mod reading;
+mod request;
+mod row;
+mod words;
+
+pub use era_row::EraRow;
+pub use line::{Line, RequestLine, is_silent, read_line};
+pub use request::{Header, Request, read_request};
+pub use row::{Row, RowKind, YearRow, read_row};
+pub use words::{Words, byte, int, number};

@@ -1,0 +1,89 @@
+//! What a line says.
+ghost use Rattle.std.specs.Prelude.{◌≡◌, ℕ, List, false};
+ghost use Rattle.std.specs.Str.Lines.{strip_carriage_return};
+ghost use Rattle.line_reader.specs.Buffer.{Holds};
+ghost use Rattle.request_lines.specs.Lines.{is_row as text_is_row, is_silent as line_is_silent, said_by, line_of};
+
+use crate::request::{Request, read_request};
+use crate::row::{Row, read_row};
+use line_reader::LineBuffer;
+
+/// What a request line says.
+#[derive(Clone, Copy, Debug)]
+pub enum RequestLine<'a> {
+    /// It has more than 512 bytes.
+    Long,
+    /// It is a request.
+    Asks(Request<'a>),
+    /// It is no request.
+    Malformed,
+}
+
+/// What a line says that isn't silent.
+#[derive(Clone, Copy, Debug)]
+pub enum Line<'a> {
+    /// It is a row line, with its row, if it says one.
+    GivesRow(Option<Row<'a>>),
+    /// It is a request line.
+    Requests(RequestLine<'a>),
+}
+
+ghost use Rattle.request_lines.specs.LineSaid.{line_said};
+
+// Without the one carriage return at its end.
+fn without_return(line: &[u8]) -> &[u8]
+    ensures { result.now ≡ strip_carriage_return line.now }
+{
+    match line.split_last() {
+        Some((b'\r', rest)) => rest,
+        _ => line,
+    }
+}
+
+// Whether a line is a row line: `row`, alone or before a space.
+fn is_row(text: &[u8]) -> bool
+    ensures { result ≡ text_is_row text.now }
+{
+    text == b"row".as_slice() || text.starts_with(b"row ")
+}
+
+// A line of at most 512 bytes, without the carriage return at its end.
+fn read_short<'a>(text: &'a [u8]) -> Line<'a>
+    ensures { line_said result ≡ said_by text.now }
+{
+    if is_row(text) {
+        return Line::GivesRow(read_row(text));
+    }
+    match read_request(text) {
+        Some(request) => Line::Requests(RequestLine::Asks(request)),
+        None => Line::Requests(RequestLine::Malformed),
+    }
+}
+
+// Whether bytes, as a line, give nothing.
+fn gives_nothing(line: &[u8]) -> bool
+    ensures { result ≡ line_is_silent line.now }
+{
+    without_return(line).is_empty() || line[0] == b'#'
+}
+
+/// Whether a line gives nothing: without the carriage return at its end it is empty, or it begins with `#`.
+pub fn is_silent(line: &LineBuffer) -> bool
+    ensures { (whole : List ℕ) → Holds line.now whole → result ≡ line_is_silent whole }
+{
+    gives_nothing(&line.prefix)
+}
+
+/// What a line says that isn't silent. One of more than 512 bytes, with a carriage return at its end, is too
+/// long; of the others, one that is `row` or begins with `row ` is a row line, and each other one is a request
+/// or malformed.
+pub fn read_line<'a>(line: &'a LineBuffer) -> Line<'a>
+    ensures { (whole : List ℕ) → Holds line.now whole → line_is_silent whole ≡ false
+        → line_said result ≡ line_of whole }
+{
+    if line.over {
+        Line::Requests(RequestLine::Long)
+    } else {
+        read_short(without_return(&line.prefix))
+    }
+}

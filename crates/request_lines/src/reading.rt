@@ -1,0 +1,32 @@
+//! Words that are read one after another.
+ghost use Rattle.std.specs.Prelude.{◌≡◌, true};
+ghost use Rattle.std.specs.List.{list_all};
+ghost use Rattle.request_lines.specs.Words.{byte_of, int_of};
+ghost use Rattle.request_lines.specs.WordsLeft.{words_left};
+ghost use Rattle.request_lines.specs.Taking.{is_no_space};
+ghost use Rattle.request_lines.specs.Reading.{IsReading, next_word};
+ghost use Rattle.request_lines.specs.Requests.{fixed_word};
+
+use crate::words::{Words, byte, int};
+
+/// A word that says nothing of its own: None where the next word isn't this one, which holds no space.
+pub fn next_is(words: &mut Words, name: &[u8]) -> Option<()>
+    requires { list_all is_no_space name.now ≡ true }
+    ensures { IsReading (next_word (fixed_word name.now) (words_left words.old)) result (words_left words.new) }
+{
+    if words.take(name) { Some(()) } else { None }
+}
+
+/// The number that the next word spells, with a sign or without one.
+pub fn next_int(words: &mut Words) -> Option<i32>
+    ensures { IsReading (next_word int_of (words_left words.old)) result (words_left words.new) }
+{
+    int(words.next()?)
+}
+
+/// The number up to 255 that the next word spells.
+pub fn next_byte(words: &mut Words) -> Option<u8>
+    ensures { IsReading (next_word byte_of (words_left words.old)) result (words_left words.new) }
+{
+    byte(words.next()?)
+}

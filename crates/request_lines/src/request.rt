@@ -1,0 +1,141 @@
+//! What a request line asks.
+ghost use Rattle.std.specs.Prelude.{◌≡◌};
+ghost use Rattle.std.specs.Option.{option_map};
+ghost use Rattle.cal_any.specs.Kinds.{kind_named};
+ghost use Rattle.request_lines.specs.Words.{words_of};
+ghost use Rattle.request_lines.specs.WordsLeft.{words_left};
+ghost use Rattle.request_lines.specs.Reading.{IsReading, next_word};
+ghost use Rattle.request_lines.specs.Requests.{unit_named, overflow_named, missing_fields_named, header_read, request_read};
+
+use crate::bag::{read_bag, read_bag_to};
+use crate::reading::next_is;
+use crate::words::Words;
+use cal_any::AnyCalendarKind;
+use cal_types::{
+    DateDifferenceOptions, DateDurationUnit, DateFields, DateFromFieldsOptions,
+    MissingFieldsStrategy, Overflow,
+};
+
+/// What stands before a request's bags.
+#[derive(Clone, Copy, Debug)]
+pub struct Header {
+    /// The calendar of both bags.
+    pub calendar: AnyCalendarKind,
+    /// The calendar in which their days are shown.
+    pub shown: AnyCalendarKind,
+    /// The largest unit of the difference.
+    pub difference: DateDifferenceOptions,
+    /// How the bags name their dates.
+    pub options: DateFromFieldsOptions,
+}
+
+/// A request for two dates, the same days in a second calendar, and the difference.
+#[derive(Clone, Copy, Debug)]
+pub struct Request<'a> {
+    /// The calendars, the largest unit and the options.
+    pub header: Header,
+    /// The fields of the first date.
+    pub from: DateFields<'a>,
+    /// The fields of the second date.
+    pub to: DateFields<'a>,
+}
+
+ghost use Rattle.request_lines.specs.RequestSaid.{header_said, request_said};
+
+fn next_calendar(words: &mut Words) -> Option<AnyCalendarKind>
+    ensures { IsReading (next_word kind_named (words_left words.old)) result (words_left words.new) }
+{
+    AnyCalendarKind::from_program_name(words.next()?)
+}
+
+fn next_unit(words: &mut Words) -> Option<Option<DateDurationUnit>>
+    ensures { IsReading (next_word unit_named (words_left words.old)) result (words_left words.new) }
+{
+    if words.take(b"years") {
+        return Some(Some(DateDurationUnit::Years));
+    }
+    if words.take(b"months") {
+        return Some(Some(DateDurationUnit::Months));
+    }
+    if words.take(b"weeks") {
+        return Some(Some(DateDurationUnit::Weeks));
+    }
+    if words.take(b"days") {
+        return Some(Some(DateDurationUnit::Days));
+    }
+    if words.take(b"none") {
+        Some(None)
+    } else {
+        None
+    }
+}
+
+fn next_overflow(words: &mut Words) -> Option<Option<Overflow>>
+    ensures { IsReading (next_word overflow_named (words_left words.old)) result (words_left words.new) }
+{
+    if words.take(b"constrain") {
+        return Some(Some(Overflow::Constrain));
+    }
+    if words.take(b"reject") {
+        return Some(Some(Overflow::Reject));
+    }
+    if words.take(b"none") {
+        Some(None)
+    } else {
+        None
+    }
+}
+
+fn next_missing_fields(words: &mut Words) -> Option<Option<MissingFieldsStrategy>>
+    ensures { IsReading (next_word missing_fields_named (words_left words.old)) result (words_left words.new) }
+{
+    if words.take(b"reject") {
+        return Some(Some(MissingFieldsStrategy::Reject));
+    }
+    if words.take(b"ecma") {
+        return Some(Some(MissingFieldsStrategy::Ecma));
+    }
+    if words.take(b"none") {
+        Some(None)
+    } else {
+        None
+    }
+}
+
+#[tactic(auto, unfolding(crate::specs::Requests::header_read))]
+fn read_header(words: &mut Words) -> Option<Header>
+    ensures { IsReading (header_read (words_left words.old)) (option_map header_said result) (words_left words.new) }
+{
+    next_is(words, b"span")?;
+    let calendar = next_calendar(words)?;
+    let shown = next_calendar(words)?;
+    let largest_unit = next_unit(words)?;
+    let overflow = next_overflow(words)?;
+    let missing_fields_strategy = next_missing_fields(words)?;
+    next_is(words, b"from")?;
+    Some(Header {
+        calendar,
+        shown,
+        difference: DateDifferenceOptions { largest_unit },
+        options: DateFromFieldsOptions {
+            overflow,
+            missing_fields_strategy,
+        },
+    })
+}
+
+/// The request that a line's words say, all of them. None exactly where they say no request:
+/// `span CAL SHOWN UNIT OVERFLOW MISSING from FIELDS to FIELDS`, with CAL and SHOWN names of calendars,
+/// UNIT `years`, `months`, `weeks`, `days` or `none`, OVERFLOW `constrain`, `reject` or `none`, MISSING
+/// `reject`, `ecma` or `none`, and FIELDS zero or more words, each key at most once and in any order:
+/// `era=BYTES era-year=INT year=INT month=CODE month-code=BYTES ordinal=BYTE day=BYTE`.
+#[tactic(auto, unfolding(crate::specs::Requests::request_read))]
+pub fn read_request<'a>(line: &'a [u8]) -> Option<Request<'a>>
+    ensures { option_map request_said result ≡ request_read (words_of line.now) }
+{
+    let mut words = Words::new(line);
+    let header = read_header(&mut words)?;
+    let from = read_bag_to(&mut words)?;
+    let to = read_bag(&mut words)?;
+    Some(Request { header, from, to })
+}

@@ -1,0 +1,150 @@
+//! The words of a line, and the numbers that words spell.
+ghost use Rattle.std.specs.Prelude.{◌≡◌, ◌≤◌, ◌<◌, ◌==◌, IfSome, position, length, ◌∷◌};
+ghost use Rattle.request_lines.specs.WordsLeft.{words_from};
+ghost use Rattle.request_lines.specs.Words.{number_of, int_of, byte_of, words_of};
+
+/// The number that a word of one to `most` decimal digits spells, where leading zeros are allowed.
+/// None exactly where the word isn't of that form.
+pub fn number(word: &[u8], most: usize) -> Option<u32>
+    requires { most ≤ 9 }
+    ensures value { result ≡ number_of most word.now }
+    ensures small { IfSome result (λ n. n < 1000000000) }
+{
+    if word.is_empty() || word.len() > most {
+        return None;
+    }
+    let mut value = 0u32;
+    for byte in word {
+        if !byte.is_ascii_digit() {
+            return None;
+        }
+        value = value * 10 + u32::from(*byte - b'0');
+    }
+    Some(value)
+}
+
+/// The number that a word spells: an optional `-`, and one to nine decimal digits. None exactly where
+/// the word isn't of that form.
+pub fn int(word: &[u8]) -> Option<i32>
+    ensures { result ≡ int_of word.now }
+{
+    if !word.is_empty() && word[0] == b'-' {
+        let size = number(&word[1..], 9)?;
+        return Some(-(size as i32));
+    }
+    let size = number(word, 9)?;
+    Some(size as i32)
+}
+
+/// The number that a word of one to three decimal digits spells, up to 255. None exactly where the
+/// word isn't of that form or the number is greater.
+pub fn byte(word: &[u8]) -> Option<u8>
+    ensures { result ≡ byte_of word.now }
+{
+    let value = number(word, 3)?;
+    if value <= 255 {
+        Some(value as u8)
+    } else {
+        None
+    }
+}
+
+fn first_space(text: &[u8]) -> Option<usize>
+    ensures value { result ≡ position (λ b. b == 32) text.now }
+    ensures within { IfSome result (λ i. i < length text.now) }
+{
+    text.iter().position(|b| *b == b' ')
+}
+
+// The first word, and the text of the others, if there are others.
+fn cut(text: &[u8]) -> (&[u8], Option<&[u8]>)
+    ensures { words_of text.now ≡ result.0.now ∷ words_from result.1 }
+{
+    match first_space(text) {
+        Some(i) => (&text[..i], Some(&text[i + 1..])),
+        None => (text, None),
+    }
+}
+
+/// The words of a line that are still to come. Words are parted by one space, so that between two
+/// spaces, and at a line's end behind a space, stands an empty word; an empty line is one empty word.
+#[derive(Drop)]
+pub struct Words<'a> {
+    rest: Option<&'a [u8]>,
+}
+
+impl<'a> Words<'a> {
+    ghost use Rattle.std.specs.Prelude.{[], MatchOption, IsTrue, ◌↔◌, true};
+    ghost use Rattle.std.specs.List.{list_all};
+    ghost use Rattle.request_lines.specs.WordsLeft.{words_left};
+    ghost use Rattle.request_lines.specs.Taking.{is_no_space, after_key, after_word, IsTaken};
+
+    /// The words of a line.
+    pub fn new(line: &'a [u8]) -> Self
+        ensures { words_left result ≡ words_of line.now }
+    {
+        Words { rest: Some(line) }
+    }
+
+    /// The next word. None exactly behind the last.
+    pub fn next(&mut self) -> Option<&'a [u8]>
+        ensures { MatchOption result (words_left self.old ≡ [])
+            (λ word. words_left self.old ≡ word.now ∷ words_left self.new) }
+    {
+        let (word, others) = cut(self.rest?);
+        self.rest = others;
+        Some(word)
+    }
+
+    /// Whether no word is left.
+    pub fn is_done(&self) -> bool
+        ensures { IsTrue result ↔ (words_left self.now ≡ []) }
+    {
+        self.rest.is_none()
+    }
+
+    /// Whether the next word begins with this key, which holds no space. It is taken off the word then.
+    pub fn take_key(&mut self, key: &[u8]) -> bool
+        requires { list_all is_no_space key.now ≡ true }
+        ensures { let old = words_left self.old in
+            IsTaken result (after_key key.now old) old (words_left self.new) }
+    {
+        let Some(text) = self.rest else {
+            return false;
+        };
+        match text.strip_prefix(key) {
+            Some(value) => {
+                self.rest = Some(value);
+                true
+            }
+            None => false,
+        }
+    }
+
+    /// Whether the next word is this one, which holds no space. It is taken then.
+    pub fn take(&mut self, word: &[u8]) -> bool
+        requires { list_all is_no_space word.now ≡ true }
+        ensures { let old = words_left self.old in
+            IsTaken result (after_word word.now old) old (words_left self.new) }
+    {
+        let Some(text) = self.rest else {
+            return false;
+        };
+        let Some(behind) = text.strip_prefix(word) else {
+            return false;
+        };
+        match behind.split_first() {
+            None => {
+                self.rest = None;
+                true
+            }
+            Some((first, others)) => {
+                if *first != b' ' {
+                    return false;
+                }
+                self.rest = Some(others);
+                true
+            }
+        }
+    }
+}
