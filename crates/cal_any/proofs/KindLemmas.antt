@@ -22,8 +22,8 @@ use Rattle.cal_julian.specs.IndianLaws.{indian_list-lawful}
 use Rattle.cal_julian.specs.JulianLaws.{julian_list-lawful}
 use Rattle.cal_julian.specs.PersianLaws.{persian_list-lawful}
 use Rattle.cal_any.specs.Kinds.{TableContents, kind_system}
-use Rattle.cal_any.specs.declared.any_calendar_kind.AnyCalendarKind.{AnyCalendarKind}
-use Rattle.cal_any.specs.declared.any_calendar_kind.AnyCalendarKind.TheVariants as kind
+use Rattle.cal_kinds.specs.declared.any_calendar_kind.AnyCalendarKind.{AnyCalendarKind}
+use Rattle.cal_kinds.specs.declared.any_calendar_kind.AnyCalendarKind.TheVariants as kind
 
 pub kind_lawful : (t : TableContents) (k : AnyCalendarKind) → IsLawful (kind_system t k).list
 kind_lawful t kind.Buddhist = offset_list-lawful buddhist_offset

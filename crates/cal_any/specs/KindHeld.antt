@@ -6,8 +6,8 @@ use Rattle.cal_hijri.specs.declared.tabular_algorithm.TabularAlgorithmEpoch.{Tab
 use Rattle.cal_hijri.specs.declared.tabular_algorithm.TabularAlgorithmEpoch.TheVariants.{Friday, Thursday}
 use Rattle.cal_any.specs.declared.any_calendar.AnyCalendar.{AnyCalendar}
 use Rattle.cal_any.specs.declared.any_calendar.AnyCalendar.TheVariants as calendar
-use Rattle.cal_any.specs.declared.any_calendar_kind.AnyCalendarKind.{AnyCalendarKind}
-use Rattle.cal_any.specs.declared.any_calendar_kind.AnyCalendarKind.TheVariants as kind
+use Rattle.cal_kinds.specs.declared.any_calendar_kind.AnyCalendarKind.{AnyCalendarKind}
+use Rattle.cal_kinds.specs.declared.any_calendar_kind.AnyCalendarKind.TheVariants as kind
 
 abbrev pub kind_of_style : EthiopianEraStyle → AnyCalendarKind
 kind_of_style AmeteMihret = kind.Ethiopian

@@ -1,10 +1,6 @@
--- The kinds of calendars: their names, and the calendar of each kind over tables.
-use Rattle.std.specs.Prelude.{ℕ, ℤ, pos, List, [], ◌∷◌, Option, Some, None, if◌then◌else◌, codes}
-use Rattle.cal_algorithms.specs.declared.algorithm.CalendarAlgorithm.{CalendarAlgorithm}
-use Rattle.cal_algorithms.specs.declared.algorithm.CalendarAlgorithm.TheVariants as algorithm
-use Rattle.cal_algorithms.specs.declared.algorithm.HijriCalendarAlgorithm.TheVariants.{Civil, Rgsa, Tbla, Umalqura}
+-- The calendar of each kind, over tables.
+use Rattle.std.specs.Prelude.{ℤ, pos, List, []}
 use Rattle.cal_model.specs.CalendarSystem.{CalendarSystem}
-use Rattle.cal_model.specs.YearNames.{is_code}
 use Rattle.cal_base.specs.IsoSystem.{iso_system}
 use Rattle.cal_base.specs.OffsetSystem.{offset_system}
 use Rattle.cal_coptic.specs.CopticSystem.{coptic_system}
@@ -35,83 +31,9 @@ use Rattle.cal_julian.specs.IndianSystem.{indian_system}
 use Rattle.cal_julian.specs.JulianSystem.{julian_system}
 use Rattle.cal_julian.specs.PersianSystem.{corrected_system}
 use Rattle.cal_julian.specs.declared.persian_corrections.PersianCorrections.{PersianCorrections}
-use Rattle.cal_any.specs.declared.any_calendar_kind.AnyCalendarKind.{AnyCalendarKind}
-use Rattle.cal_any.specs.declared.any_calendar_kind.AnyCalendarKind.TheVariants as kind
+use Rattle.cal_kinds.specs.declared.any_calendar_kind.AnyCalendarKind.{AnyCalendarKind}
+use Rattle.cal_kinds.specs.declared.any_calendar_kind.AnyCalendarKind.TheVariants as kind
 use Rattle.cal_any.specs.declared.tables.Tables.{Tables}
-
--- the program's names
-abbrev pub program_names : List (List ℕ × AnyCalendarKind)
-program_names =
-    (codes "iso", kind.Iso)
-    ∷ (codes "gregorian", kind.Gregorian)
-    ∷ (codes "julian", kind.Julian)
-    ∷ (codes "buddhist", kind.Buddhist)
-    ∷ (codes "chinese", kind.Chinese)
-    ∷ (codes "coptic", kind.Coptic)
-    ∷ (codes "dangi", kind.Dangi)
-    ∷ (codes "ethiopic", kind.Ethiopian)
-    ∷ (codes "ethioaa", kind.EthiopianAmeteAlem)
-    ∷ (codes "hebrew", kind.Hebrew)
-    ∷ (codes "indian", kind.Indian)
-    ∷ (codes "islamic-civil", kind.HijriTabularTypeIIFriday)
-    ∷ (codes "islamic-simulated", kind.HijriSimulatedMecca)
-    ∷ (codes "islamic-tbla", kind.HijriTabularTypeIIThursday)
-    ∷ (codes "islamic-umalqura", kind.HijriUmmAlQura)
-    ∷ (codes "japanese", kind.Japanese)
-    ∷ (codes "persian", kind.Persian)
-    ∷ (codes "roc", kind.Roc)
-    ∷ []
-
--- the kind of the first of the names that is the word
-abbrev pub kind_among : List ℕ → List (List ℕ × AnyCalendarKind) → Option AnyCalendarKind
-kind_among word [] = None
-kind_among word (named ∷ others) = if is_code word named.0 then Some named.1 else kind_among word others
-
-abbrev pub kind_named : List ℕ → Option AnyCalendarKind
-kind_named word = kind_among word program_names
-
--- a kind's text is the name of its variant
-abbrev pub variant_name : AnyCalendarKind → List ℕ
-variant_name kind.Buddhist = codes "Buddhist"
-variant_name kind.Chinese = codes "Chinese"
-variant_name kind.Coptic = codes "Coptic"
-variant_name kind.Dangi = codes "Dangi"
-variant_name kind.Ethiopian = codes "Ethiopian"
-variant_name kind.EthiopianAmeteAlem = codes "EthiopianAmeteAlem"
-variant_name kind.Gregorian = codes "Gregorian"
-variant_name kind.Hebrew = codes "Hebrew"
-variant_name kind.Indian = codes "Indian"
-variant_name kind.HijriTabularTypeIIFriday = codes "HijriTabularTypeIIFriday"
-variant_name kind.HijriSimulatedMecca = codes "HijriSimulatedMecca"
-variant_name kind.HijriTabularTypeIIThursday = codes "HijriTabularTypeIIThursday"
-variant_name kind.HijriUmmAlQura = codes "HijriUmmAlQura"
-variant_name kind.Iso = codes "Iso"
-variant_name kind.Japanese = codes "Japanese"
-variant_name kind.JapaneseExtended = codes "JapaneseExtended"
-variant_name kind.Julian = codes "Julian"
-variant_name kind.Persian = codes "Persian"
-variant_name kind.Roc = codes "Roc"
-
--- the kind of calendar that CLDR's name stands for; `islamic` and `islamic-rgsa` stand for none
-abbrev pub kind_of_algorithm : CalendarAlgorithm → Option AnyCalendarKind
-kind_of_algorithm algorithm.Buddhist = Some kind.Buddhist
-kind_of_algorithm algorithm.Chinese = Some kind.Chinese
-kind_of_algorithm algorithm.Coptic = Some kind.Coptic
-kind_of_algorithm algorithm.Dangi = Some kind.Dangi
-kind_of_algorithm algorithm.Ethioaa = Some kind.EthiopianAmeteAlem
-kind_of_algorithm algorithm.Ethiopic = Some kind.Ethiopian
-kind_of_algorithm algorithm.Gregory = Some kind.Gregorian
-kind_of_algorithm algorithm.Hebrew = Some kind.Hebrew
-kind_of_algorithm (algorithm.Hijri None) = None
-kind_of_algorithm (algorithm.Hijri (Some Civil)) = Some kind.HijriTabularTypeIIFriday
-kind_of_algorithm (algorithm.Hijri (Some Rgsa)) = None
-kind_of_algorithm (algorithm.Hijri (Some Tbla)) = Some kind.HijriTabularTypeIIThursday
-kind_of_algorithm (algorithm.Hijri (Some Umalqura)) = Some kind.HijriUmmAlQura
-kind_of_algorithm algorithm.Indian = Some kind.Indian
-kind_of_algorithm algorithm.Iso8601 = Some kind.Iso
-kind_of_algorithm algorithm.Japanese = Some kind.Japanese
-kind_of_algorithm algorithm.Persian = Some kind.Persian
-kind_of_algorithm algorithm.Roc = Some kind.Roc
 
 -- the rows of each table, the corrected Persian years, and the listed eras of Japan
 pub record TableContents : Type 0 where

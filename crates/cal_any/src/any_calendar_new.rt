@@ -9,7 +9,7 @@ ghost use Rattle.cal_any.specs.KindHeld.{is_extended, kind_held, kind_made, kind
 ghost use Rattle.cal_any.specs.Kinds.{kind_system, table_contents};
 
 use crate::any_calendar::AnyCalendar;
-use crate::any_calendar_kind::AnyCalendarKind;
+use cal_kinds::AnyCalendarKind;
 use crate::tables::Tables;
 use cal_base::Iso;
 use cal_coptic::{Coptic, Ethiopian, EthiopianEraStyle};

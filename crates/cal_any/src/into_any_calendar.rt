@@ -9,7 +9,7 @@ ghost use Rattle.cal_any.specs.declared.any_calendar.AnyDateInner.{AnyDateInner 
 ghost use Rattle.cal_any.specs.declared.any_calendar.AnyDateInner.TheVariants as inner;
 
 use crate::any_calendar::{AnyCalendar, AnyDateInner};
-use crate::any_calendar_kind::AnyCalendarKind;
+use cal_kinds::AnyCalendarKind;
 use cal_base::{AsCalendar, Calendar, Iso, IsoDateInner};
 use cal_coptic::{Coptic, CopticDateInner, Ethiopian, EthiopianDateInner};
 use cal_east_asian::{China, ChineseDateInner, EastAsianTraditional, Korea};

@@ -28,7 +28,8 @@ pub fn date_of_form<'t>(
     calendar: AnyCalendar<'t>,
 ) -> Result<Date<AnyCalendar<'t>>, DateFromFieldsError>
     ensures named { let fields = form_fields extended_year month day in
-        answer_by (λ d. any_date calendar.entry d.inner) result ≡ resolve_fields (any_system calendar.entry) fields strictly }
+        answer_by (λ d. any_date calendar.entry d.inner) result
+        ≡ resolve_fields (any_system calendar.entry) fields strictly }
     ensures calendar { IfOk result (λ d. d.calendar ≡ calendar.entry) }
 {
     let fields = DateFields::from_year_month_day(extended_year, Month::new(month), day);

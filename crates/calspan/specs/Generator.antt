@@ -14,8 +14,8 @@ use Rattle.icu_calendar.specs.declared.span_parts.SpanError.{SpanError}
 use Rattle.cal_any.specs.Kinds.{kind_system, no_contents}
 use Rattle.calspan.specs.Replies.{options_of}
 use Rattle.request_lines.specs.Requests.{Request}
-use Rattle.cal_any.specs.declared.any_calendar_kind.AnyCalendarKind.{AnyCalendarKind}
-use Rattle.cal_any.specs.declared.any_calendar_kind.AnyCalendarKind.TheVariants as calendar
+use Rattle.cal_kinds.specs.declared.any_calendar_kind.AnyCalendarKind.{AnyCalendarKind}
+use Rattle.cal_kinds.specs.declared.any_calendar_kind.AnyCalendarKind.TheVariants as calendar
 use Rattle.calspan.specs.declared.totals.Totals.{Totals}
 
 -- the calendars in the order of their program names, but for `ethiopic`, which stands before `ethioaa`

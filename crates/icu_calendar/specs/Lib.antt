@@ -89,3 +89,4 @@ pub use Rattle.cal_any.specs.AnySystem
 pub use Rattle.cal_any.specs.AnyOrder
 pub use Rattle.cal_any.specs.AnyLaws
 pub use Rattle.cal_any.specs.Kinds
+pub use Rattle.cal_kinds.specs.KindNames

@@ -5,7 +5,7 @@ use Rattle.request_lines.specs.Words.{is_text}
 use Rattle.request_lines.specs.Reading.{Read, next_word, and_then}
 use Rattle.request_lines.specs.Bags.{no_fields, bag_before_to, bag_of_all}
 use Rattle.request_lines.specs.BagForms.{SaysBag}
-use Rattle.cal_any.specs.Kinds.{kind_named}
+use Rattle.cal_kinds.specs.KindNames.{kind_named}
 use Rattle.request_lines.specs.Requests.{Request, Header, unit_named, overflow_named, missing_fields_named, fixed_word, header_read, request_read, request_of}
 use Rattle.request_lines.specs.Forms.{RequestWords, all_words, Says, IsRequest, RequestsHaveOneForm}
 use Rattle.request_lines.proofs.BagLemmas.{same_text, is_same_text, some_pair, bag_is, bag_reads, before_is, before_reads}

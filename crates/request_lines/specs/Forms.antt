@@ -1,6 +1,6 @@
 -- The form of a request line, as one statement of all its words.
 use Rattle.std.specs.Prelude.{◌≡◌, ℕ, List, ◌∷◌, ◌++◌, Some, codes}
-use Rattle.cal_any.specs.Kinds.{kind_named}
+use Rattle.cal_kinds.specs.KindNames.{kind_named}
 use Rattle.request_lines.specs.BagForms.{SaysBag}
 use Rattle.request_lines.specs.Requests.{Request, unit_named, overflow_named, missing_fields_named, request_read}
 

@@ -10,8 +10,8 @@ use Rattle.cal_types.specs.declared.duration.DateDurationUnit.TheVariants.{Years
 use Rattle.request_lines.specs.Words.{is_text}
 use Rattle.request_lines.specs.Reading.{Read, next_word, and_then}
 use Rattle.request_lines.specs.Bags.{no_fields, bag_before_to, bag_of_all}
-use Rattle.cal_any.specs.Kinds.{kind_named}
-use Rattle.cal_any.specs.declared.any_calendar_kind.AnyCalendarKind.{AnyCalendarKind}
+use Rattle.cal_kinds.specs.KindNames.{kind_named}
+use Rattle.cal_kinds.specs.declared.any_calendar_kind.AnyCalendarKind.{AnyCalendarKind}
 
 pub record Request : Type 0 where
   pub calendar : AnyCalendarKind

@@ -1,7 +1,7 @@
 //! What a request line asks.
 ghost use Rattle.std.specs.Prelude.{◌≡◌};
 ghost use Rattle.std.specs.Option.{option_map};
-ghost use Rattle.cal_any.specs.Kinds.{kind_named};
+ghost use Rattle.cal_kinds.specs.KindNames.{kind_named};
 ghost use Rattle.request_lines.specs.Words.{words_of};
 ghost use Rattle.request_lines.specs.WordsLeft.{words_left};
 ghost use Rattle.request_lines.specs.Reading.{IsReading, next_word};
@@ -10,7 +10,7 @@ ghost use Rattle.request_lines.specs.Requests.{unit_named, overflow_named, missi
 use crate::bag::{read_bag, read_bag_to};
 use crate::reading::next_is;
 use crate::words::Words;
-use cal_any::AnyCalendarKind;
+use cal_kinds::AnyCalendarKind;
 use cal_types::{
     DateDifferenceOptions, DateDurationUnit, DateFields, DateFromFieldsOptions,
     MissingFieldsStrategy, Overflow,

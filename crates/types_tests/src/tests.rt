@@ -6,6 +6,7 @@ mod durations;
 mod easter;
 mod errors;
 mod hebrew_years;
+mod kinds;
 mod listed_years;
 mod months;
 mod rule_years;

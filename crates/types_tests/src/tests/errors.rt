@@ -129,6 +129,11 @@ fn range_errors_print_their_texts(rt: HostRuntime) -> Result<(), Fail> {
     let date = DateError::from(range);
     let text = format!(in rt.alloc(); "{date}")?;
     assert_eq!(rt; text.as_str(), want);
+    Ok(())
+}
+
+#[test]
+fn errors_without_a_number_print_their_texts(rt: HostRuntime) -> Result<(), Fail> {
     let era = DateError::from(UnknownEraError);
     let text = format!(in rt.alloc(); "{era}")?;
     assert_eq!(rt; text.as_str(), "Unknown era");
@@ -171,7 +176,7 @@ fn parse_errors_print_their_texts(rt: HostRuntime) -> Result<(), Fail> {
 }
 
 #[test]
-fn table_faults_print_their_texts(rt: HostRuntime) -> Result<(), Fail> {
+fn table_parts_print_their_texts(rt: HostRuntime) -> Result<(), Fail> {
     for (part, want) in [
         (TablePart::Year, "year"),
         (TablePart::Join, "join"),
@@ -182,6 +187,11 @@ fn table_faults_print_their_texts(rt: HostRuntime) -> Result<(), Fail> {
         let text = format!(in rt.alloc(); "{part}")?;
         assert_eq!(rt; text.as_str(), want);
     }
+    Ok(())
+}
+
+#[test]
+fn a_table_fault_prints_its_row_and_part(rt: HostRuntime) -> Result<(), Fail> {
     let fault = TableFault {
         row: 2,
         part: TablePart::Join,
@@ -192,42 +202,28 @@ fn table_faults_print_their_texts(rt: HostRuntime) -> Result<(), Fail> {
 }
 
 #[test]
-fn smaller_errors_become_larger_ones(rt: HostRuntime) {
-    assert_eq!(rt;
-        DateNewError::from(UnknownEraError),
-        DateNewError::InvalidEra
-    );
-    assert_eq!(rt;
-        DateFromFieldsError::from(UnknownEraError),
-        DateFromFieldsError::InvalidEra
-    );
-    assert_eq!(rt;
-        DateFromFieldsError::from(MonthCodeParseError::InvalidSyntax),
-        DateFromFieldsError::MonthCodeInvalidSyntax
-    );
-    for (error, want) in [
-        (
-            MonthError::NotInCalendar,
-            DateFromFieldsError::MonthNotInCalendar,
-        ),
-        (MonthError::NotInYear, DateFromFieldsError::MonthNotInYear),
-    ] {
-        assert_eq!(rt; DateFromFieldsError::from(error), want);
-    }
-    for (error, want) in [
-        (
-            EcmaReferenceYearError::Unimplemented,
-            DateFromFieldsError::NotEnoughFields,
-        ),
-        (
-            EcmaReferenceYearError::MonthNotInCalendar,
-            DateFromFieldsError::MonthNotInCalendar,
-        ),
-        (
-            EcmaReferenceYearError::UseRegularIfConstrain,
-            DateFromFieldsError::MonthNotInYear,
-        ),
-    ] {
-        assert_eq!(rt; DateFromFieldsError::from(error), want);
-    }
+fn an_unknown_era_or_a_malformed_code_is_an_error_of_fields(rt: HostRuntime) {
+    assert!(rt; DateNewError::from(UnknownEraError) == DateNewError::InvalidEra);
+    let era = DateFromFieldsError::from(UnknownEraError);
+    assert!(rt; era == DateFromFieldsError::InvalidEra);
+    let code = DateFromFieldsError::from(MonthCodeParseError::InvalidSyntax);
+    assert!(rt; code == DateFromFieldsError::MonthCodeInvalidSyntax);
+}
+
+#[test]
+fn a_month_that_is_not_there_is_an_error_of_fields(rt: HostRuntime) {
+    let in_calendar = DateFromFieldsError::from(MonthError::NotInCalendar);
+    assert!(rt; in_calendar == DateFromFieldsError::MonthNotInCalendar);
+    let in_year = DateFromFieldsError::from(MonthError::NotInYear);
+    assert!(rt; in_year == DateFromFieldsError::MonthNotInYear);
+}
+
+#[test]
+fn a_missing_reference_year_is_an_error_of_fields(rt: HostRuntime) {
+    let unimplemented = DateFromFieldsError::from(EcmaReferenceYearError::Unimplemented);
+    assert!(rt; unimplemented == DateFromFieldsError::NotEnoughFields);
+    let month = DateFromFieldsError::from(EcmaReferenceYearError::MonthNotInCalendar);
+    assert!(rt; month == DateFromFieldsError::MonthNotInCalendar);
+    let regular = DateFromFieldsError::from(EcmaReferenceYearError::UseRegularIfConstrain);
+    assert!(rt; regular == DateFromFieldsError::MonthNotInYear);
 }

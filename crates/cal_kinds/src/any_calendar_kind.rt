@@ -3,7 +3,7 @@
 ghost use Rattle.std.specs.Prelude.{◌≡◌, ok_or};
 ghost use Rattle.cal_model.specs.YearNames.{is_code};
 ghost use Rattle.cal_algorithms.specs.declared.algorithm.CalendarAlgorithm.TheVariants.{Hijri};
-ghost use Rattle.cal_any.specs.Kinds.{kind_named, kind_of_algorithm};
+ghost use Rattle.cal_kinds.specs.KindNames.{kind_named, kind_of_algorithm};
 
 use cal_types::{CalendarAlgorithm, HijriCalendarAlgorithm};
 use std::fmt;
@@ -116,7 +116,7 @@ macro_rules! variant_name {
 /// The name of the variant, as `HijriUmmAlQura`.
 impl fmt::Display for AnyCalendarKind {
     ghost use Rattle.std.specs.Prelude.{Some};
-    ghost use Rattle.cal_any.specs.Kinds.{variant_name};
+    ghost use Rattle.cal_kinds.specs.KindNames.{variant_name};
 
     ghost output = { λ k. Some (variant_name k) };
 

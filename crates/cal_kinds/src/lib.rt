@@ -1,0 +1,6 @@
+//! The kinds of calendars, by their names.
+#![tactic(auto)]
+
+mod any_calendar_kind;
+
+pub use any_calendar_kind::AnyCalendarKind;
