@@ -9,7 +9,6 @@ ghost use Rattle.cal_any.specs.KindHeld.{is_extended, kind_held, kind_made, kind
 ghost use Rattle.cal_any.specs.Kinds.{kind_system, table_contents};
 
 use crate::any_calendar::AnyCalendar;
-use cal_kinds::AnyCalendarKind;
 use crate::tables::Tables;
 use cal_base::Iso;
 use cal_coptic::{Coptic, Ethiopian, EthiopianEraStyle};
@@ -18,6 +17,7 @@ use cal_gregory::{Buddhist, Gregorian, Japanese, Roc};
 use cal_hebrew::Hebrew;
 use cal_hijri::{Hijri, HijriTable, TabularAlgorithmEpoch, TabularAlgorithmLeapYears};
 use cal_julian::{Indian, Julian, Persian};
+use cal_kinds::AnyCalendarKind;
 
 /// The Ethiopian calendar in a style.
 fn ethiopian<'t>(style: EthiopianEraStyle) -> AnyCalendar<'t>

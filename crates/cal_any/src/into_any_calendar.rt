@@ -9,7 +9,6 @@ ghost use Rattle.cal_any.specs.declared.any_calendar.AnyDateInner.{AnyDateInner 
 ghost use Rattle.cal_any.specs.declared.any_calendar.AnyDateInner.TheVariants as inner;
 
 use crate::any_calendar::{AnyCalendar, AnyDateInner};
-use cal_kinds::AnyCalendarKind;
 use cal_base::{AsCalendar, Calendar, Iso, IsoDateInner};
 use cal_coptic::{Coptic, CopticDateInner, Ethiopian, EthiopianDateInner};
 use cal_east_asian::{China, ChineseDateInner, EastAsianTraditional, Korea};
@@ -20,6 +19,7 @@ use cal_gregory::{
 use cal_hebrew::{Hebrew, HebrewDateInner};
 use cal_hijri::{AstronomicalSimulation, Hijri, HijriDateInner, TabularAlgorithm, UmmAlQura};
 use cal_julian::{Indian, IndianDateInner, Julian, JulianDateInner, Persian, PersianDateInner};
+use cal_kinds::AnyCalendarKind;
 
 /// A calendar that [`AnyCalendar`] holds in a variant of its own, or [`AnyCalendar`] itself.
 ///

@@ -4,10 +4,10 @@ ghost use Rattle.std.specs.Prelude.{◌≡◌};
 ghost use Rattle.cal_any.specs.KindHeld.{kind_held, kind_of_epoch, kind_of_style};
 
 use crate::any_calendar::AnyCalendar;
-use cal_kinds::AnyCalendarKind;
 use cal_base::Calendar;
 use cal_coptic::EthiopianEraStyle;
 use cal_hijri::{Hijri, TabularAlgorithm};
+use cal_kinds::AnyCalendarKind;
 use cal_types::{CalendarAlgorithm, HijriCalendarAlgorithm};
 
 /// The kind of the Ethiopian calendar in a style.

@@ -3,6 +3,3 @@ pub mod MoonLemmas
 pub mod PlaceLemmas
 pub mod PartLemmas
 pub mod TableMonthLemmas
-pub mod YearLemmas
-pub mod RowLemmas
-pub mod FaultLemmas

@@ -7,15 +7,17 @@ use Rattle.cal_days.proofs.Signed.{signed}
 use Rattle.cal_days.proofs.SumLemmas.{span-up}
 use Rattle.cal_model.specs.CalendarList.{month_number}
 use Rattle.cal_model.proofs.ListLemmas.{month_number-next}
+use Rattle.cal_rows.specs.Rows.{AreConsecutive}
+use Rattle.cal_rows.specs.RowLaws.{number-at, row_below}
+use Rattle.cal_rows.specs.RowPlaces.{by_year}
 use Rattle.cal_east_asian.specs.EastAsianYear.{months_of_year}
 use Rattle.cal_east_asian.specs.EastAsianYears.{rule_year-same}
 use Rattle.cal_east_asian.specs.EastAsianListLaws.{count-small}
 use Rattle.cal_east_asian.specs.EastAsianStartLaws.{count-rule}
 use Rattle.cal_east_asian.specs.ComputedYears.{computed_parts, computed_month_count}
 use Rattle.cal_east_asian.specs.ComputedLaws.{computed_year}
-use Rattle.cal_east_asian.specs.TableYears.{IsRow}
-use Rattle.cal_east_asian.specs.TableRows.{number-at, row_below}
-use Rattle.cal_east_asian.specs.TablePlaces.{by_year}
+use Rattle.cal_east_asian.specs.TableYears.{IsRow, number_of}
+use Rattle.cal_east_asian.specs.TableYearLaws.{accepted-consecutive}
 use Rattle.cal_east_asian.specs.TableRules.{table_year, table_rows, table-years}
 use Rattle.cal_east_asian.specs.TableMonths.{AreComputed, table_list}
 use Rattle.cal_east_asian.specs.declared.sides.Side.{Side}
@@ -99,10 +101,13 @@ module _ (t : EastAsianTable) where
   pub between : (a y b : ℤ) → a ≤ℤ y → y ≤ℤ b → (before a ≤ℤ before y) × (before y ≤ℤ before b)
   between a y b h k = ((run-bound (years_up (y -ℤ a)) a y (omega (arith, signed, h))).0, (run-bound (years_up (b -ℤ y)) y b (omega (arith, signed, k))).0)
 
+  pub consecutive_rows : AreConsecutive number_of (table_rows t)
+  consecutive_rows = accepted-consecutive (computed_year t.side) (table_rows t) t.accepted
+
   -- without a first row every year is computed
   pub no-rows : slice_get (table_rows t) 0 ≡ None → (y : ℤ) → table_year t y ≡ computed_year t.side y
   no-rows none y =
-      by_year (computed_year t.side) (table_rows t) t.accepted {P = table_year t y ≡ computed_year t.side y} y
+      by_year number_of (computed_year t.side) (table_rows t) consecutive_rows {P = table_year t y ≡ computed_year t.side y} y
       (λ i row h e c. row_below {P = table_year t y ≡ computed_year t.side y} (table_rows t) 0 i row h (omega arith) (λ below first. let off : None ≡ Some below = sym none ∙ first in absurd cc))
       (λ other c. c)
 
@@ -110,15 +115,15 @@ module _ (t : EastAsianTable) where
     -- a year before the first row's is computed
     pub before-first : (y : ℤ) → y <ℤ first.related_iso → table_year t y ≡ computed_year t.side y
     before-first y lt =
-        by_year (computed_year t.side) (table_rows t) t.accepted {P = table_year t y ≡ computed_year t.side y} y
-        (λ i row here e c. absurd (omega (arith, signed, lt, e, number-at (computed_year t.side) (table_rows t) t.accepted first h i row here)))
+        by_year number_of (computed_year t.side) (table_rows t) consecutive_rows {P = table_year t y ≡ computed_year t.side y} y
+        (λ i row here e c. absurd (omega (arith, signed, lt, e, number-at number_of (table_rows t) consecutive_rows first h i row here)))
         (λ other c. c)
 
     -- and a year after the last row's
     pub after-last : (y : ℤ) → (last.related_iso +ℤ pos 1) ≤ℤ y → table_year t y ≡ computed_year t.side y
     after-last y le =
-        by_year (computed_year t.side) (table_rows t) t.accepted {P = table_year t y ≡ computed_year t.side y} y
+        by_year number_of (computed_year t.side) (table_rows t) consecutive_rows {P = table_year t y ≡ computed_year t.side y} y
         (λ i row here e c.
         let within : i < length (table_rows t) = slice_get_within (table_rows t) i row here in
-        absurd (omega (arith, signed, le, e, within, number-at (computed_year t.side) (table_rows t) t.accepted first h i row here, number-at (computed_year t.side) (table_rows t) t.accepted first h (length (table_rows t) - 1) last k)))
+        absurd (omega (arith, signed, le, e, within, number-at number_of (table_rows t) consecutive_rows first h i row here, number-at number_of (table_rows t) consecutive_rows first h (length (table_rows t) - 1) last k)))
         (λ other c. c)

@@ -27,8 +27,6 @@ pub mod QingSeams
 pub mod ComputedLaws
 pub mod TableYears
 pub mod TableAccepted
-pub mod TableRows
-pub mod TablePlaces
 pub mod TableYearLaws
 pub mod MonthStarts
 pub mod EastAsianReferences

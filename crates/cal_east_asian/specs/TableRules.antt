@@ -16,7 +16,8 @@ use Rattle.cal_east_asian.specs.EastAsianReferences.{ReferenceRow, both, short, 
 use Rattle.cal_east_asian.specs.SameYears.{same_year}
 use Rattle.cal_east_asian.specs.SameYearLaws.{same_year-same, same_year-own}
 use Rattle.cal_east_asian.specs.ComputedLaws.{computed_year, computed-years}
-use Rattle.cal_east_asian.specs.TableYears.{chosen_year}
+use Rattle.cal_east_asian.specs.TableYears.{number_of, chosen_year}
+use Rattle.cal_east_asian.specs.TableAccepted.{start_of}
 use Rattle.cal_east_asian.specs.TableYearLaws.{chosen-years}
 use Rattle.cal_east_asian.specs.declared.east_asian_traditional_year.EastAsianTraditionalYear.{EastAsianTraditionalYear}
 use Rattle.cal_east_asian.specs.declared.east_asian_table.EastAsianTable.{EastAsianTable}
@@ -36,12 +37,6 @@ have_same_rows s t = pointwise same_year (table_rows s) (table_rows t)
 
 pub table-years : (t : EastAsianTable) → AreYears (table_year t)
 table-years t = chosen-years (computed_year t.side) t.rows.now t.accepted (computed-years t.side)
-
-abbrev number_of : EastAsianTraditionalYear → ℤ
-number_of y = y.related_iso
-
-abbrev start_of : EastAsianTraditionalYear → ℤ
-start_of y = y.new_year
 
 abbrev lengths_of : EastAsianTraditionalYear → ℕ
 lengths_of y = y.long_months

@@ -1,5 +1,2 @@
 pub mod Finding
 pub mod LengthBits
-pub mod FaultLemmas
-pub mod RowLemmas
-pub mod YearLemmas

@@ -13,8 +13,6 @@ pub mod TabularRules
 pub mod TableFriday
 pub mod TableYears
 pub mod TableAccepted
-pub mod TableRows
-pub mod TablePlaces
 pub mod TableLaws
 pub mod SameRows
 pub mod TableRules

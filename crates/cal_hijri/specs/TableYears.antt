@@ -1,13 +1,15 @@
 -- The years that a table of rows gives.
-use Rattle.std.specs.Prelude.{if◌then◌else◌, int_lt, List, [], ◌∷◌, Option, None, slice_get, unsigned_abs, ℤ, ◌-ℤ◌}
-use Rattle.std.specs.Option.{unwrap_or}
+use Rattle.std.specs.Prelude.{List, Option, ℤ}
+use Rattle.cal_rows.specs.Rows as rows
 use Rattle.cal_hijri.specs.declared.hijri_year.HijriYear.{HijriYear}
 
--- the row of a year. Rows follow one another, so it stands as far after the first row as the year is after the first row's year
+abbrev pub number_of : HijriYear → ℤ
+number_of y = y.extended_year
+
+-- the row of a year
 abbrev pub row_of : List HijriYear → ℤ → Option HijriYear
-row_of [] y = None
-row_of (first ∷ rest) y = if int_lt y first.extended_year then None else slice_get (first ∷ rest) (unsigned_abs (y -ℤ first.extended_year))
+row_of = rows.row_of number_of
 
 -- the row of a year where there is one, and otherwise the computed year
 abbrev pub chosen : (ℤ → HijriYear) → List HijriYear → ℤ → HijriYear
-chosen year_of rows y = unwrap_or (row_of rows y) (year_of y)
+chosen = rows.chosen number_of

@@ -6,7 +6,6 @@ mod HeadlineLemmas
 mod RowTakingLemmas
 mod GatherLemmas
 mod ServeLemmas
-mod FaultLemmas
 mod TableOrderLemmas
 pub mod TableLemmas
 mod GeneratorLemmas

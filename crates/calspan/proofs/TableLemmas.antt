@@ -1,8 +1,7 @@
 -- The rows of all tables are accepted, or there is a first table that isn't, and its fault.
 use Rattle.std.proofs.Common.{◌≡◌, ℤ, List, ◌<◌, ◌⊎◌, inl, inr, refl, sym, subst}
 use Rattle.cal_errors.specs.declared.errors.TableFault.{TableFault}
-use Rattle.cal_errors.specs.declared.errors.TablePart.{TablePart}
-use Rattle.cal_errors.specs.declared.errors.TablePart.TheVariants.{Year, Join, End, Leap, Rule}
+use Rattle.cal_rows.specs.FaultLaws.{faults_decided, fault_refuses, one_fault}
 use Rattle.cal_any.specs.Kinds.{TableContents}
 use Rattle.cal_east_asian.specs.ComputedLaws.{computed_year}
 use Rattle.cal_east_asian.specs.TableAccepted as lunisolar
@@ -16,48 +15,26 @@ use Rattle.cal_julian.specs.PersianAccepted as persian
 use Rattle.calspan.specs.TableRows.{TableRows, rank, AreAccepted, IsFirstRefused, IsTableAccepted, IsTableFault}
 use Rattle.calspan.specs.declared.table.Table.{Table}
 use Rattle.calspan.specs.declared.table.Table.TheVariants.{China, Korea, Hijri, Persian}
-use Rattle.calspan.proofs.FaultLemmas.{place, faults_decided, fault_refuses, one_fault}
 use Rattle.calspan.proofs.TableOrderLemmas.{all_accepted, before_china, before_korea, before_hijri, before_persian, first_decided, first_refuses, one_first}
-
-lunisolar_ranked : (p : TablePart) → lunisolar.rank p ≡ place p
-lunisolar_ranked Year = refl
-lunisolar_ranked Join = refl
-lunisolar_ranked End = refl
-lunisolar_ranked Leap = refl
-lunisolar_ranked Rule = refl
-
-hijri_ranked : (p : TablePart) → hijri.rank p ≡ place p
-hijri_ranked Year = refl
-hijri_ranked Join = refl
-hijri_ranked End = refl
-hijri_ranked Leap = refl
-hijri_ranked Rule = refl
-
-persian_ranked : (p : TablePart) → persian.rank p ≡ place p
-persian_ranked Year = refl
-persian_ranked Join = refl
-persian_ranked End = refl
-persian_ranked Leap = refl
-persian_ranked Rule = refl
 
 module _ (rows : TableRows) where
   table_decided : (t : Table) → IsTableAccepted rows t ⊎ ((f : TableFault) × IsTableFault rows t f)
-  table_decided China = faults_decided rows.china (lunisolar.meets (computed_year side.China) rows.china) lunisolar.rank lunisolar_ranked
-  table_decided Korea = faults_decided rows.korea (lunisolar.meets (computed_year side.Korea) rows.korea) lunisolar.rank lunisolar_ranked
-  table_decided Hijri = faults_decided rows.hijri (hijri.meets friday_year rows.hijri) hijri.rank hijri_ranked
-  table_decided Persian = faults_decided rows.persian (λ i y. persian.meets (persian.year_before rows.persian i) y) persian.rank persian_ranked
+  table_decided China = faults_decided (lunisolar.meets (computed_year side.China) rows.china) rows.china
+  table_decided Korea = faults_decided (lunisolar.meets (computed_year side.Korea) rows.korea) rows.korea
+  table_decided Hijri = faults_decided (hijri.meets friday_year rows.hijri) rows.hijri
+  table_decided Persian = faults_decided (persian.meets_at rows.persian) rows.persian
 
   table_refuses : (t : Table) (f : TableFault) → IsTableFault rows t f → IsTableAccepted rows t → ⊥
-  table_refuses China f h accepted = fault_refuses rows.china (lunisolar.meets (computed_year side.China) rows.china) lunisolar.rank lunisolar_ranked f h accepted
-  table_refuses Korea f h accepted = fault_refuses rows.korea (lunisolar.meets (computed_year side.Korea) rows.korea) lunisolar.rank lunisolar_ranked f h accepted
-  table_refuses Hijri f h accepted = fault_refuses rows.hijri (hijri.meets friday_year rows.hijri) hijri.rank hijri_ranked f h accepted
-  table_refuses Persian f h accepted = fault_refuses rows.persian (λ i y. persian.meets (persian.year_before rows.persian i) y) persian.rank persian_ranked f h accepted
+  table_refuses China f h accepted = fault_refuses (lunisolar.meets (computed_year side.China) rows.china) rows.china f h accepted
+  table_refuses Korea f h accepted = fault_refuses (lunisolar.meets (computed_year side.Korea) rows.korea) rows.korea f h accepted
+  table_refuses Hijri f h accepted = fault_refuses (hijri.meets friday_year rows.hijri) rows.hijri f h accepted
+  table_refuses Persian f h accepted = fault_refuses (persian.meets_at rows.persian) rows.persian f h accepted
 
   table_unique : (t : Table) (f g : TableFault) → IsTableFault rows t f → IsTableFault rows t g → f ≡ g
-  table_unique China f g h k = one_fault rows.china (lunisolar.meets (computed_year side.China) rows.china) lunisolar.rank lunisolar_ranked f g h k
-  table_unique Korea f g h k = one_fault rows.korea (lunisolar.meets (computed_year side.Korea) rows.korea) lunisolar.rank lunisolar_ranked f g h k
-  table_unique Hijri f g h k = one_fault rows.hijri (hijri.meets friday_year rows.hijri) hijri.rank hijri_ranked f g h k
-  table_unique Persian f g h k = one_fault rows.persian (λ i y. persian.meets (persian.year_before rows.persian i) y) persian.rank persian_ranked f g h k
+  table_unique China f g h k = one_fault (lunisolar.meets (computed_year side.China) rows.china) rows.china f g h k
+  table_unique Korea f g h k = one_fault (lunisolar.meets (computed_year side.Korea) rows.korea) rows.korea f g h k
+  table_unique Hijri f g h k = one_fault (hijri.meets friday_year rows.hijri) rows.hijri f g h k
+  table_unique Persian f g h k = one_fault (persian.meets_at rows.persian) rows.persian f g h k
 
   made : AreAccepted rows ⊎ ((t : Table) × (f : TableFault) × (IsTableFault rows t f × ((before : Table) → rank before < rank t → IsTableAccepted rows before))) → AreAccepted rows ⊎ ((t : Table) × (f : TableFault) × IsFirstRefused rows t f)
   made (inl accepted) = inl accepted

@@ -8,13 +8,13 @@ ghost use Rattle.calspan.specs.Answers.{Answering, IsAnswerTo, IsRequestAnswer, 
 ghost use Rattle.request_lines.specs.LineSaid.{request_line_said};
 ghost use Rattle.calspan.specs.TableRows.{TableRows, contents_of};
 
-use request_lines::{Line, RequestLine, is_silent, read_line};
 use crate::reply::reply;
 use crate::status::Status;
 use crate::table::{RowFault, push_row_refusal};
 use crate::text::{Pending, push_about};
 use icu_calendar::Tables;
 use line_reader::LineBuffer;
+use request_lines::{Line, RequestLine, is_silent, read_line};
 
 /// Where a run stands behind the rows of tables, and the request lines that it has answered.
 #[derive(Clone, Copy, Debug, PartialEq, Eq)]

@@ -8,12 +8,12 @@ ghost use Rattle.line_reader.specs.declared.reader.Reader.{Reader};
 ghost use Rattle.calspan.specs.RowsSaid.{rows_said};
 ghost use Rattle.calspan.specs.Stages.{IsGathering};
 
-use request_lines::{Line, is_silent, read_line};
 use crate::status::Status;
 use crate::table::RowFault;
 use crate::table_rows::{TableRows, Taken};
 use byte_io::Source;
 use line_reader::{Filled, LineBuffer, Next, Reader};
+use request_lines::{Line, is_silent, read_line};
 
 /// Where the row lines came to an end.
 #[derive(Clone, Copy, Debug, PartialEq, Eq)]

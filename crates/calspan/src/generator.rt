@@ -4,12 +4,12 @@ ghost use Rattle.cal_types.specs.Bag.{bag_of};
 ghost use Rattle.calspan.specs.Generator.{calendar_of, generated_bag, generated_request, near_year, unit_of};
 ghost use Rattle.request_lines.specs.RequestSaid.{request_said};
 
-use request_lines::{Header, Request};
 use cal_types::{
     DateDifferenceOptions, DateDurationUnit, DateFields, DateFromFieldsOptions,
     MissingFieldsStrategy, Overflow,
 };
 use icu_calendar::AnyCalendarKind;
+use request_lines::{Header, Request};
 
 // The calendars in turn.
 fn calendar_of(number: u32) -> AnyCalendarKind

@@ -11,10 +11,10 @@ ghost use Rattle.calspan.specs.Replies.{year_text, numbered_text, day_text, part
 ghost use Rattle.cal_any.specs.Kinds.{kind_system, table_contents};
 ghost use Rattle.request_lines.specs.RequestSaid.{request_said};
 
-use request_lines::Request;
 use crate::text::{Pending, push_all, push_few, push_number, push_signed, push_two_digits};
 use cal_types::{DateDuration, DateFromFieldsError, YearInfo};
 use icu_calendar::{AnyCalendar, BagSide, Date, Span, SpanError, Tables, span};
+use request_lines::Request;
 
 // A year of an era, or of a cycle.
 fn push_year(text: &mut Pending, year: &YearInfo)

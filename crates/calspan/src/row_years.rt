@@ -7,10 +7,10 @@ ghost use Rattle.cal_east_asian.specs.MonthStarts.{leap_place_read};
 ghost use Rattle.request_lines.specs.RowSaid.{year_row_said};
 ghost use Rattle.calspan.specs.RowYears.{letter_days, days_at, starts_of, IsHijriYear, IsEastAsianYear};
 
-use request_lines::YearRow;
 use cal_days::RataDie;
 use cal_east_asian::EastAsianTraditionalYear;
 use cal_hijri::HijriYear;
+use request_lines::YearRow;
 
 // The days of a month by its letter.
 fn letter_len(letter: u8) -> i64

@@ -8,7 +8,6 @@ ghost use Rattle.cal_gregory.specs.LastEra.{eras_with_last};
 ghost use Rattle.request_lines.specs.RowSaid.{row_said};
 ghost use Rattle.calspan.specs.TableRows.{AreAccepted, IsFirstRefused, contents_of, no_rows};
 
-use request_lines::{EraRow, Row};
 use crate::row_years::{east_asian_year, hijri_year};
 use crate::table::{RowFault, Table, TableRefusal};
 use cal_types::TableFault;
@@ -16,6 +15,7 @@ use icu_calendar::{
     EastAsianTable, EastAsianTraditionalYear, HijriTable, HijriYear, JapaneseEras,
     PersianCorrections, Side, Tables,
 };
+use request_lines::{EraRow, Row};
 use std::alloc::Global;
 
 /// The rows that came, table by table, and the eras of Japan where a row named them.

@@ -1,9 +1,9 @@
 use crate::run::run;
 use crate::status::{Status, code};
 use crate::text::{Pending, push_signed, push_two_digits};
-use request_lines::{Words, byte, int};
 use byte_io::{MemorySink, MemorySource, PlainSink, PlainSource, Source};
 use line_reader::LIMIT;
+use request_lines::{Words, byte, int};
 use std::alloc::Global;
 use std::test::Fail;
 

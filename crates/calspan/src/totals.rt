@@ -12,9 +12,9 @@ ghost use Rattle.request_lines.specs.RequestSaid.{request_said};
 ghost use Rattle.calspan.specs.TotalBounds.{AreBounded, counted};
 
 use crate::generator::generated_request;
-use request_lines::Request;
 use crate::text::{Pending, push_all, push_number, push_signed};
 use icu_calendar::{AnyCalendar, AnyCalendarKind, Date, Span, Tables, span};
+use request_lines::Request;
 
 /// How many requests have an answer and how many are refused; the sum of the day numbers of all dates; and the sums
 /// of the parts of all durations, without their signs.

@@ -79,7 +79,7 @@ impl YearShapes for CountedLookUps {
 
     ghost ordered = { λ a b. refl };
 
-    ghost stored_from = { λ s y h. stored-year y };
+    ghost stored_from = { λ s y h. stored-year y.number };
 
     ghost near = { λ s t. alternating-near t };
 

@@ -1,10 +1,11 @@
 use Rattle.std.proofs.Common.{ℕ, ◌<◌, refl, arith, length}
 use Rattle.std.proofs.lemmas.Option.{slice_get_read, slice_get_within}
+use Rattle.cal_rows.specs.FaultLaws.{fault_refuses}
+use Rattle.cal_rows.specs.RowLaws.{rows_before_next}
 use Rattle.cal_east_asian.specs.ComputedLaws.{computed_year}
 use Rattle.cal_east_asian.specs.TableYears.{IsRow}
-use Rattle.cal_east_asian.specs.TableAccepted.{IsTableYear, MeetsAll}
+use Rattle.cal_east_asian.specs.TableAccepted.{IsTableYear, meets, MeetsAll}
 use Rattle.cal_east_asian.specs.declared.east_asian_traditional_year.EastAsianTraditionalYear.{EastAsianTraditionalYear}
-use Rattle.cal_east_asian.proofs.RowLemmas.{rows_before_next}
 use Rattle.cal_east_asian.proofs.table_check.check.Goals as goal
 
 pub returns-in-Some-clause-first : goal.returns-in-Some-clause-first
@@ -28,3 +29,10 @@ pub returns-clause-first : goal.returns-clause-first
 returns-clause-first c i row h =
     let within : i < length c.args.rows.now = slice_get_within c.args.rows.now i row h in
     c.loop-index.invariant.met i row (omega (arith, c.loop-index-test.false)) h
+
+pub returns-in-Some-clause-exact : goal.returns-in-Some-clause-exact
+returns-in-Some-clause-exact c =
+    (λ ok. absurd cc, λ accepted. absurd (fault_refuses (meets (computed_year c.args.side) c.args.rows.now) c.args.rows.now _ (returns-in-Some-clause-first c) accepted))
+
+pub returns-clause-exact : goal.returns-clause-exact
+returns-clause-exact c = (λ ok. returns-clause-first c, λ accepted. refl)

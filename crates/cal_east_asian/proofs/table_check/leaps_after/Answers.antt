@@ -1,9 +1,9 @@
 use Rattle.std.proofs.Common.{◌≡◌, ◌∙◌, sym, arith, pos, ◌+ℤ◌, Bool, true, false, ◌&&◌}
 use Rattle.cal_days.proofs.Signed.{signed}
+use Rattle.cal_rows.specs.YearArguments.{IsAsked, year_after}
 use Rattle.cal_east_asian.specs.ComputedLaws.{computed_year}
 use Rattle.cal_east_asian.specs.TableAccepted.{leap_by_years}
 use Rattle.cal_east_asian.specs.TableYears as table
-use Rattle.cal_east_asian.proofs.YearLemmas.{IsAsked, year_after}
 use Rattle.cal_east_asian.proofs.table_check.leaps_after.Goals as goal
 
 both : (a b d : Bool) → a ≡ true → b ≡ d → b ≡ (a && d)

@@ -2,12 +2,11 @@ use Rattle.std.proofs.Common.{◌≡◌, ◌∙◌, ◌-◌, List, length, slice
 use Rattle.std.proofs.lemmas.Int.{by_lt_z}
 use Rattle.std.proofs.lemmas.Option.{slice_get_within}
 use Rattle.cal_days.proofs.Signed.{signed}
-use Rattle.cal_east_asian.specs.ComputedLaws.{computed_year}
-use Rattle.cal_east_asian.specs.TableYears.{IsRow}
-use Rattle.cal_east_asian.specs.TableRows.{number-at}
+use Rattle.cal_rows.specs.RowLaws.{number-at}
+use Rattle.cal_east_asian.specs.TableYears.{IsRow, number_of}
 use Rattle.cal_east_asian.specs.TableRules.{table_rows}
 use Rattle.cal_east_asian.specs.declared.east_asian_traditional_year.EastAsianTraditionalYear.{EastAsianTraditionalYear}
-use Rattle.cal_east_asian.proofs.TableMonthLemmas.{before-first, after-last}
+use Rattle.cal_east_asian.proofs.TableMonthLemmas.{consecutive_rows, before-first, after-last}
 use Rattle.cal_east_asian.proofs.table_months.years_with_rows.Goals.{After-nearest_year}
 use Rattle.cal_east_asian.proofs.table_months.years_with_rows.Goals as goal
 
@@ -52,7 +51,7 @@ returns-in-Some-row_at-clause-few c =
     let end_kept : to_z w32 (of_z w32 end) ≡ end = omega (arith, signed, end_fits) in
     let first_kept : to_z w32 (of_z w32 first.related_iso) ≡ first.related_iso = omega (arith, signed, first.valid.0) in
     let last_kept : to_z w32 (of_z w32 (to_z w32 (of_z w32 last.related_iso) +ℤ pos 1)) ≡ last.related_iso +ℤ pos 1 = omega (arith, signed, last.valid.0) in
-    let far = number-at (computed_year t.side) rows t.accepted first (first-row c) (length rows - 1) last (last-row c) in
+    let far = number-at number_of rows (consecutive_rows t) first (first-row c) (length rows - 1) last (last-row c) in
     let some = slice_get_within rows 0 first (first-row c) in
     by_lt_z {P = (to_z w32 (of_z w32 end) -ℤ to_z w32 (of_z w32 start)) ≤ℤ pos (length rows)} start end
     (λ lt.

@@ -1,9 +1,9 @@
 use Rattle.std.proofs.Common.{ℕ, ◌<◌, refl, arith, length}
 use Rattle.std.proofs.lemmas.Option.{slice_get_read, slice_get_within}
+use Rattle.cal_rows.specs.RowLaws.{rows_before_next}
 use Rattle.cal_hijri.specs.TableAccepted.{IsRow, IsTableYear, MeetsAll}
 use Rattle.cal_hijri.specs.TableFriday.{friday_year}
 use Rattle.cal_hijri.specs.declared.hijri_year.HijriYear.{HijriYear}
-use Rattle.cal_hijri.proofs.RowLemmas.{rows_before_next}
 use Rattle.cal_hijri.proofs.hijri_table.check.Goals as goal
 
 pub returns-in-Some-clause-first : goal.returns-in-Some-clause-first

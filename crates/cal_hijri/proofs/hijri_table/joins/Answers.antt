@@ -1,9 +1,9 @@
 use Rattle.std.proofs.Common.{◌∙◌, ap, arith}
 use Rattle.cal_days.proofs.Signed.{signed}
+use Rattle.cal_rows.specs.YearArguments.{IsAsked, year_before}
 use Rattle.cal_hijri.specs.TableAccepted.{follows}
 use Rattle.cal_hijri.specs.TableFriday.{friday_year}
 use Rattle.cal_hijri.specs.declared.hijri_year.HijriYear.{HijriYear}
-use Rattle.cal_hijri.proofs.YearLemmas.{IsAsked, year_before}
 use Rattle.cal_hijri.proofs.hijri_table.joins.Goals as goal
 
 pub returns-in-None : goal.returns-in-None

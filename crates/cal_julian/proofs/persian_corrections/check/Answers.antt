@@ -1,8 +1,8 @@
 use Rattle.std.proofs.Common.{◌≡◌, ℕ, suc, ◌+◌, ◌<◌, Option, Some, ℤ, pos, FitsSigned, to_z, of_z, w32, rules, refl, sym, ap, subst, ◌∙◌, arith, length, get_or}
 use Rattle.cal_days.proofs.Signed.{signed}
 use Rattle.std.proofs.lemmas.Option.{slice_get-get_or, slice_get_within}
+use Rattle.cal_rows.specs.RowLaws.{row_before-next, rows_before_next}
 use Rattle.cal_julian.specs.PersianAccepted.{IsListed, MeetsAll, year_before}
-use Rattle.cal_julian.proofs.CorrectionLemmas.{year_before-next, years_before_next}
 use Rattle.cal_julian.proofs.persian_corrections.check.Goals as goal
 
 pub loop-index-preserved : goal.loop-index-preserved
@@ -17,8 +17,8 @@ loop-index-preserved c =
     let all : MeetsAll (year_before years i) y = subst (λ (b : Option ℤ). MeetsAll b y) c.loop-index.invariant.last met in
     let next : suc i ≡ i + 1 = omega arith in
     record {
-      met = years_before_next (λ (j : ℕ) (z : ℤ). MeetsAll (year_before years j) z) years i y here all c.loop-index.invariant.met;
-      last = ap (λ (z : ℤ). Some z) kept ∙ (sym (year_before-next years i y here) ∙ ap (year_before years) next);
+      met = rows_before_next (λ (j : ℕ) (z : ℤ). MeetsAll (year_before years j) z) years i y here all c.loop-index.invariant.met;
+      last = ap (λ (z : ℤ). Some z) kept ∙ (sym (row_before-next years i y here) ∙ ap (year_before years) next);
     }
 
 pub returns-clause-first : goal.returns-clause-first

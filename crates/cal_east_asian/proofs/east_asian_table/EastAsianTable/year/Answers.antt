@@ -1,10 +1,10 @@
 use Rattle.std.proofs.Common.{◌≡◌, ◌∙◌, ap, subst, arith, ℤ, to_z, of_z, w32}
 use Rattle.cal_days.specs.Day.{IsRuleYear}
 use Rattle.cal_days.proofs.Signed.{signed}
+use Rattle.cal_rows.specs.RowPlaces.{chosen-row, chosen-other}
 use Rattle.cal_east_asian.specs.ComputedLaws.{computed_year, computed-years}
-use Rattle.cal_east_asian.specs.TableYears.{chosen_year}
-use Rattle.cal_east_asian.specs.TablePlaces.{chosen_year-row, chosen_year-other}
-use Rattle.cal_east_asian.specs.TableYearLaws.{chosen-years}
+use Rattle.cal_east_asian.specs.TableYears.{number_of, chosen_year}
+use Rattle.cal_east_asian.specs.TableYearLaws.{accepted-consecutive, chosen-years}
 use Rattle.cal_east_asian.specs.declared.east_asian_traditional_year.EastAsianTraditionalYear.{EastAsianTraditionalYear}
 use Rattle.cal_east_asian.proofs.east_asian_table.EastAsianTable.year.Goals as goal
 
@@ -19,12 +19,12 @@ returns-clause-exact c =
 pub returns-clause-row : goal.returns-clause-row
 returns-clause-row c row is =
     let s = c.args.self.now in
-    returns-clause-exact c ∙ subst (λ (y : ℤ). chosen_year (computed_year s.side) s.rows.now y ≡ row) is.2 (chosen_year-row (computed_year s.side) s.rows.now s.accepted is.0 row is.1)
+    returns-clause-exact c ∙ subst (λ (y : ℤ). chosen_year (computed_year s.side) s.rows.now y ≡ row) is.2 (chosen-row number_of (computed_year s.side) s.rows.now (accepted-consecutive (computed_year s.side) s.rows.now s.accepted) is.0 row is.1)
 
 pub returns-clause-other : goal.returns-clause-other
 returns-clause-other c none =
     let s = c.args.self.now in
-    returns-clause-exact c ∙ chosen_year-other (computed_year s.side) s.rows.now s.accepted c.args.related_iso none
+    returns-clause-exact c ∙ chosen-other number_of (computed_year s.side) s.rows.now (accepted-consecutive (computed_year s.side) s.rows.now s.accepted) c.args.related_iso none
 
 pub returns-clause-number : goal.returns-clause-number
 returns-clause-number c =

@@ -5,7 +5,7 @@ use Rattle.cal_days.proofs.Signed.{signed}
 
 -- the years that a table's test asks for
 abbrev pub IsAsked : ℤ → Type 0
-IsAsked y = IsBetween (pos 1) (pos 9999) y
+IsAsked y = IsBetween (pos 1) (pos 10001) y
 
 pub year_same : {X : Type 0} (f : ℤ → X) (y : ℤ) → IsAsked y → f (to_z w32 (of_z w32 y)) ≡ f y
 year_same f y asked = let same : to_z w32 (of_z w32 y) ≡ y = omega (arith, signed) in ap f same

@@ -1,0 +1,7 @@
+pub mod Rows
+pub mod RowLaws
+pub mod RowPlaces
+pub mod RowJoins
+pub mod Faults
+pub mod FaultLaws
+pub mod YearArguments
