@@ -8,10 +8,10 @@ mod reference_years;
 mod subsets;
 
 use icu_calendar::{
-    AnyCalendar, Date, DateFields, DateFromFieldsError, DateFromFieldsOptions, Gregorian, Iso,
+    AnyCalendarKind, Date, DateFields, DateFromFieldsError, DateFromFieldsOptions, Gregorian, Iso,
     Julian, MissingFieldsStrategy, Month, Overflow,
 };
-use known_dates::{GREGORIAN, ISO, JULIAN};
+use known_dates::{GREGORIAN, ISO, JULIAN, calendar_of};
 use std::process::Abort;
 
 /// The fields of a bag that speak of the year: era, era year and extended year.
@@ -84,9 +84,9 @@ const LENIENT: DateFromFieldsOptions = DateFromFieldsOptions {
 fn day_of(
     fields: DateFields<'_>,
     options: DateFromFieldsOptions,
-    calendar: AnyCalendar<'static>,
+    calendar: AnyCalendarKind,
 ) -> Result<i64, DateFromFieldsError> {
-    match Date::try_from_fields(fields, options, calendar) {
+    match Date::try_from_fields(fields, options, calendar_of(calendar)) {
         Ok(date) => Ok(date.to_rata_die().to_i64_date()),
         Err(cause) => Err(cause),
     }

@@ -3,7 +3,6 @@ use crate::status::{Status, code};
 use crate::text::{Pending, push_signed, push_two_digits};
 use byte_io::{MemorySink, MemorySource, PlainSink, PlainSource, Source};
 use line_reader::LIMIT;
-use request_lines::{Words, byte, int};
 use std::alloc::Global;
 use std::test::Fail;
 
@@ -239,23 +238,6 @@ fn numbers_as_texts(rt: HostRuntime) {
     push_two_digits(&mut text, 5);
     push_two_digits(&mut text, 31);
     assert_eq!(rt; text.as_slice(), b"-9223372036854775808 20 0531".as_slice());
-}
-
-#[test]
-fn words_and_their_numbers(rt: HostRuntime) {
-    let mut words = Words::new(b"-007  255 ");
-    assert_eq!(rt; words.next().and_then(int), Some(-7));
-    assert_eq!(rt; words.next(), Some(b"".as_slice()));
-    assert_eq!(rt; words.next().and_then(byte), Some(255));
-    assert_eq!(rt; words.next(), Some(b"".as_slice()));
-    assert_eq!(rt; words.next(), None);
-    assert_eq!(rt; int(b"999999999"), Some(999999999));
-    assert_eq!(rt; int(b"-"), None);
-    assert_eq!(rt; int(b"1234567890"), None);
-    assert_eq!(rt; int(b"+1"), None);
-    assert_eq!(rt; byte(b"256"), None);
-    assert_eq!(rt; byte(b"0255"), None);
-    assert_eq!(rt; byte(b"007"), Some(7));
 }
 
 // The lines were computed by two programs, each written from the rule of the requests alone.

@@ -1,23 +1,22 @@
-//! What the tests of dates share: calendars, bags, durations, and a test of what a date says.
+//! What the tests of dates share: calendars, bags, durations, and what a date says.
 #![tactic(auto)]
 
 ghost use Rattle.cal_days.specs.Day.{IsValidDay};
 
 use icu_calendar::{
-    AnyCalendar, Date, DateDifferenceOptions, DateDuration, DateDurationUnit, DateFields,
-    DateFromFieldsOptions, Gregorian, Iso, Julian, MissingFieldsStrategy, Month, Overflow, RataDie,
+    AnyCalendar, AnyCalendarKind, Date, DateDifferenceOptions, DateDuration, DateDurationUnit,
+    DateFields, DateFromFieldsOptions, MissingFieldsStrategy, Month, Overflow, RataDie, Tables,
     YearInfo,
 };
-use std::process::Abort;
 
 /// The Gregorian calendar.
-pub const GREGORIAN: AnyCalendar<'static> = AnyCalendar::Gregorian(Gregorian);
+pub const GREGORIAN: AnyCalendarKind = AnyCalendarKind::Gregorian;
 
 /// The ISO calendar.
-pub const ISO: AnyCalendar<'static> = AnyCalendar::Iso(Iso);
+pub const ISO: AnyCalendarKind = AnyCalendarKind::Iso;
 
 /// The Julian calendar.
-pub const JULIAN: AnyCalendar<'static> = AnyCalendar::Julian(Julian);
+pub const JULIAN: AnyCalendarKind = AnyCalendarKind::Julian;
 
 /// The options under which a fault is an error.
 pub const REJECT: DateFromFieldsOptions = DateFromFieldsOptions {
@@ -46,12 +45,21 @@ pub fn duration(is_negative: bool, years: u32, months: u32, weeks: u32, days: u3
     }
 }
 
-/// The day of a number, which is in the valid range.
-pub fn day(rt: &impl Abort, number: i64) -> RataDie
+/// The day of a number, which is brought to the valid range.
+pub fn day(number: i64) -> RataDie
     ensures { IsValidDay result }
 {
-    assert!(rt; -365242499 <= number && number <= 365242134);
-    RataDie::new(number)
+    RataDie::new(number.clamp(-365242499, 365242134))
+}
+
+/// The calendar of a kind, without tables.
+pub fn calendar_of(kind: AnyCalendarKind) -> AnyCalendar<'static> {
+    AnyCalendar::new(kind, Tables::none())
+}
+
+/// The date of a day number in the calendar of a kind.
+pub fn date_on(number: i64, kind: AnyCalendarKind) -> Date<AnyCalendar<'static>> {
+    Date::from_rata_die(day(number), calendar_of(kind))
 }
 
 /// Whether a year is this one of an era, and has this extended year.
@@ -66,17 +74,16 @@ pub fn is_named(year: YearInfo, extended_year: i32, era: &str, number: i32) -> b
     }
 }
 
-/// That a date has this day number, extended year, month and day.
-pub fn assert_date(
-    rt: &impl Abort,
+/// Whether a date has this day number, extended year, ordinal month and day.
+pub fn has_parts(
     date: &Date<AnyCalendar<'static>>,
     number: i64,
     extended_year: i32,
     month: u8,
     day_of_month: u8,
-) {
-    assert_eq!(rt; date.to_rata_die().to_i64_date(), number);
-    assert_eq!(rt; date.year().extended_year(), extended_year, "on {number}");
-    assert_eq!(rt; date.month().ordinal, month, "on {number}");
-    assert_eq!(rt; date.day_of_month().0, day_of_month, "on {number}");
+) -> bool {
+    date.to_rata_die().to_i64_date() == number
+        && date.year().extended_year() == extended_year
+        && date.month().ordinal == month
+        && date.day_of_month().0 == day_of_month
 }

@@ -46,7 +46,7 @@ fn constructors_name_known_days(rt: HostRuntime) {
             Err(DateNewError::InvalidDay { max: 28 }),
         ),
     ] {
-        let found = match Date::try_new(year, Month::new(month), day, calendar) {
+        let found = match Date::try_new(year, Month::new(month), day, calendar_of(calendar)) {
             Ok(date) => Ok(date.to_rata_die().to_i64_date()),
             Err(cause) => Err(cause),
         };

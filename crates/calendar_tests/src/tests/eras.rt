@@ -29,7 +29,7 @@ fn eras_name_extended_years(rt: HostRuntime) {
         (JULIAN, "", 1992, Err(InvalidEra)),
     ] {
         let fields = bag(of_era(era, year), month(12), Some(31));
-        let found = match Date::try_from_fields(fields, STRICT, calendar) {
+        let found = match Date::try_from_fields(fields, STRICT, calendar_of(calendar)) {
             Ok(date) => Ok(date.year().extended_year()),
             Err(cause) => Err(cause),
         };

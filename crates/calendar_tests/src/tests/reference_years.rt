@@ -25,7 +25,7 @@ fn a_month_and_a_day_are_in_the_reference_year(rt: HostRuntime) {
         let answer = Date::try_from_fields(
             bag(NO_YEAR, month(number), Some(day)),
             options,
-            calendar,
+            calendar_of(calendar),
         );
         let found = match answer {
             Ok(date) => Ok((date.year().extended_year(), date.day_of_month().0)),

@@ -3,10 +3,10 @@
 use icu_calendar::{
     AnyCalendar, AnyCalendarKind, Buddhist, ChineseTraditional, Coptic, Date, EastAsianTable,
     Ethiopian, EthiopianEraStyle, Gregorian, Hebrew, Hijri, HijriTable, Indian, IntoAnyCalendar,
-    Iso, Japanese, Julian, KoreanTraditional, Persian, PersianCorrections, Roc, Side, Tables,
+    Iso, Japanese, Julian, KoreanTraditional, Persian, PersianCorrections, Roc, Side,
     TabularAlgorithmEpoch, TabularAlgorithmLeapYears,
 };
-use known_dates::{JULIAN, assert_date, day};
+use known_dates::{JULIAN, calendar_of, date_on, day, has_parts};
 use std::process::Abort;
 
 /// That a date of a calendar is the same one as a date of any calendar, that the calendar comes back from its variant,
@@ -17,7 +17,7 @@ fn assert_any<'t, C: IntoAnyCalendar<'t> + Copy>(
     kind: AnyCalendarKind,
     extended_year: i32,
 ) {
-    let date = Date::from_rata_die(day(rt, 730120), calendar);
+    let date = Date::from_rata_die(day(730120), calendar);
     let (month, day_of_month) = (date.month().ordinal, date.day_of_month());
     let any = date.to_any();
     assert_eq!(rt; any.to_rata_die().to_i64_date(), 730120);
@@ -96,11 +96,11 @@ fn dates_of_hijri_calendars_are_dates_of_any(rt: HostRuntime) {
 
 #[test]
 fn any_calendar_is_itself(rt: HostRuntime) {
-    let date = Date::from_rata_die(day(&rt, 738156), JULIAN);
-    assert_date(&rt, &date.to_any(), 738156, 2021, 12, 19);
-    assert!(rt; IntoAnyCalendar::kind(&JULIAN) == AnyCalendarKind::Julian);
-    assert!(rt; matches!(AnyCalendar::from_any(JULIAN), Ok(AnyCalendar::Julian(_))));
-    assert!(rt; AnyCalendar::from_any_ref(&JULIAN).is_some());
+    let julian = calendar_of(JULIAN);
+    assert!(rt; has_parts(&date_on(738156, JULIAN).to_any(), 738156, 2021, 12, 19));
+    assert!(rt; IntoAnyCalendar::kind(&julian) == AnyCalendarKind::Julian);
+    assert!(rt; AnyCalendar::from_any_ref(&julian).is_some());
+    assert!(rt; AnyCalendar::from_any(julian).is_ok());
 }
 
 /// Days of the ISO calendar in others, and a date that is kept in another style of its calendar.
@@ -117,8 +117,8 @@ fn dates_are_converted_to_any_calendar(rt: HostRuntime) {
         (Ethiopian, 719164, EthiopianAmeteAlem, 7462, 4, 24),
         (EthiopianAmeteAlem, 738774, Ethiopian, 2015, 13, 6),
     ] {
-        let date = Date::from_rata_die(day(&rt, number), AnyCalendar::new(from, Tables::none()));
-        let shown = AnyCalendar::new(to, Tables::none());
+        let date = date_on(number, from);
+        let shown = calendar_of(to);
         let there = date.convert_any(&shown);
         assert_eq!(rt; there.to_rata_die().to_i64_date(), number);
         assert_eq!(rt; there.year().extended_year(), extended_year, "on {number}");

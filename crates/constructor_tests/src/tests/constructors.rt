@@ -5,9 +5,9 @@ use icu_calendar::{
     AnyCalendar, AnyCalendarKind, AsCalendar, Calendar, ChineseTraditional, Date, DateError,
     EastAsianTable, EraStartDate, EthiopianEraStyle, Hijri, Japanese, JapaneseEras,
     KoreanTraditional, LunisolarDateError, Month, Persian, PersianCorrections, RangeError, Ref,
-    Side, Tables, TabularAlgorithmEpoch, TabularAlgorithmLeapYears, TinyAsciiStr, YearInfo,
+    Side, TabularAlgorithmEpoch, TabularAlgorithmLeapYears, TinyAsciiStr, YearInfo,
 };
-use known_dates::day;
+use known_dates::date_on;
 use std::cmp::Ordering;
 use std::process::Abort;
 
@@ -281,11 +281,10 @@ fn constructed(date: &Date<AnyCalendar<'static>>) -> Option<i64> {
 #[test]
 fn constructors_give_each_date_back_and_days_give_its_order(rt: HostRuntime) {
     for kind in KINDS {
-        let calendar = AnyCalendar::new(kind, Tables::none());
         for (first, count) in [(-1000, 2001), (738000, 1001)] {
-            let mut before = Date::from_rata_die(day(&rt, first - 1), calendar);
+            let mut before = date_on(first - 1, kind);
             for number in first..first + count {
-                let date = Date::from_rata_die(day(&rt, number), calendar);
+                let date = date_on(number, kind);
                 assert_eq!(rt; constructed(&date), Some(number));
                 assert_eq!(rt; before.date_cmp(&date), Some(Ordering::Less), "on {number}");
                 before = date;

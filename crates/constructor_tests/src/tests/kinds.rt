@@ -1,7 +1,7 @@
 //! Dates in the calendar of each kind.
 
-use icu_calendar::{AnyCalendar, AnyCalendarKind, Date, Tables};
-use known_dates::day;
+use icu_calendar::AnyCalendarKind;
+use known_dates::date_on;
 
 /// The year that each kind gives to January 1, 2000 of the ISO calendar (day 730120).
 #[test]
@@ -28,7 +28,7 @@ fn year_2000_by_kind(rt: HostRuntime) {
         (AnyCalendarKind::Roc, 89),
     ];
     for (kind, year) in years {
-        let date = Date::from_rata_die(day(&rt, 730120), AnyCalendar::new(kind, Tables::none()));
+        let date = date_on(730120, kind);
         assert!(rt; date.year().extended_year() == year);
     }
 }

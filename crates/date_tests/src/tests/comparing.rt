@@ -1,7 +1,7 @@
 //! Which dates are equal, and which are ordered.
 
-use icu_calendar::{AnyCalendar, Calendar};
-use known_dates::{GREGORIAN, ISO, JULIAN, day};
+use icu_calendar::{AnyCalendarKind, Calendar};
+use known_dates::{GREGORIAN, ISO, JULIAN, calendar_of, day};
 use std::cmp::Ordering;
 use std::process::Abort;
 
@@ -10,11 +10,11 @@ use std::process::Abort;
 fn assert_order(
     rt: &impl Abort,
     days: (i64, i64),
-    calendars: (AnyCalendar<'static>, AnyCalendar<'static>),
+    calendars: (AnyCalendarKind, AnyCalendarKind),
     is_same: bool,
 ) {
-    let first = calendars.0.from_rata_die(day(rt, days.0));
-    let second = calendars.1.from_rata_die(day(rt, days.1));
+    let first = calendar_of(calendars.0).from_rata_die(day(days.0));
+    let second = calendar_of(calendars.1).from_rata_die(day(days.1));
     let order = if is_same {
         Some(days.0.cmp(&days.1))
     } else {

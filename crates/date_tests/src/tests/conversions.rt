@@ -1,8 +1,9 @@
 //! Days of known dates, there and back.
 
-use icu_calendar::{AnyCalendar, Date, DateFromFieldsError, Iso, Julian, RataDie, Ref};
+use icu_calendar::{AnyCalendarKind, Date, DateFromFieldsError, Iso, Julian, RataDie, Ref};
 use known_dates::{
-    GREGORIAN, IN_DAYS, ISO, JULIAN, REJECT, assert_date, day, duration, fields, is_named,
+    GREGORIAN, IN_DAYS, ISO, JULIAN, REJECT, calendar_of, date_on, duration, fields, has_parts,
+    is_named,
 };
 use std::process::Abort;
 
@@ -15,7 +16,7 @@ fn date_says_its_year_month_and_day(rt: HostRuntime) {
             assert_eq!(rt; date.month().ordinal, 2);
             assert_eq!(rt; date.month().standard_code.0.as_str(), "M02");
             assert_eq!(rt; date.day_of_month().0, 29);
-            let shown = date.to_calendar(ISO);
+            let shown = date.to_calendar(calendar_of(ISO));
             assert_eq!(rt; shown.to_rata_die().to_i64_date(), 737484);
             assert_eq!(rt; shown.day_of_month().0, 29);
         }
@@ -33,8 +34,8 @@ fn known_days_have_known_dates(rt: HostRuntime) {
         (GREGORIAN, 1155, "ce", 4, 4, 2, 29),
         (JULIAN, -368, "bce", 2, -1, 12, 31),
     ] {
-        let date = Date::from_rata_die(day(&rt, number), calendar);
-        assert_date(&rt, &date, number, extended_year, month, day_of_month);
+        let date = date_on(number, calendar);
+        assert!(rt; has_parts(&date, number, extended_year, month, day_of_month));
         assert!(rt;
             is_named(date.year(), extended_year, era, year),
             "on {number}"
@@ -46,16 +47,16 @@ fn known_days_have_known_dates(rt: HostRuntime) {
 fn assert_there_and_back(
     rt: &impl Abort,
     number: i64,
-    first: AnyCalendar<'static>,
-    second: AnyCalendar<'static>,
+    first: AnyCalendarKind,
+    second: AnyCalendarKind,
 ) {
-    let date = Date::from_rata_die(day(rt, number), first);
-    let there = date.to_calendar(second);
-    let back = there.to_calendar(first);
+    let date = date_on(number, first);
+    let there = date.to_calendar(calendar_of(second));
+    let back = there.to_calendar(calendar_of(first));
     assert_eq!(rt; there.to_rata_die().to_i64_date(), number);
     let extended_year = date.year().extended_year();
     let (month, day_of_month) = (date.month().ordinal, date.day_of_month().0);
-    assert_date(rt, &back, number, extended_year, month, day_of_month);
+    assert!(rt; has_parts(&back, number, extended_year, month, day_of_month));
 }
 
 #[test]

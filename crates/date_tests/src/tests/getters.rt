@@ -1,7 +1,7 @@
 //! What dates say of their year, month and day, and how they are written.
 
 use icu_calendar::{AsCalendar, Calendar, Date, Iso, RataDie, Weekday};
-use known_dates::{GREGORIAN, ISO, JULIAN, day};
+use known_dates::{GREGORIAN, ISO, JULIAN, date_on, day};
 use std::alloc::{AllocError, Global};
 
 #[test]
@@ -17,7 +17,7 @@ fn dates_say_their_place_in_year_month_and_week(rt: HostRuntime) {
         (JULIAN, 693667, Tuesday, 60, 29, 366, true),
         (JULIAN, 639796, Wednesday, 246, 30, 366, true),
     ] {
-        let date = Date::from_rata_die(day(&rt, number), calendar);
+        let date = date_on(number, calendar);
         assert_eq!(rt; date.weekday(), weekday, "on {number}");
         assert_eq!(rt; date.day_of_year().0, day_of_year, "on {number}");
         assert_eq!(rt; date.days_in_month(), days_in_month, "on {number}");
@@ -54,7 +54,7 @@ fn dates_are_written_with_era_and_calendar(rt: HostRuntime) -> Result<(), AllocE
             "Date(1752-9-2, ce era, for calendar AnyCalendar (Julian))",
         ),
     ] {
-        let date = Date::from_rata_die(day(&rt, number), calendar);
+        let date = date_on(number, calendar);
         let text = written(rt.alloc(), &date)?;
         assert_eq!(rt; text.as_str(), want);
     }

@@ -3,10 +3,10 @@
 ghost use Rattle.std.specs.Prelude.{◌≡◌, ◌<◌};
 
 use icu_calendar::{
-    AnyCalendar, Date, DateAddOptions, DateDifferenceOptions, DateDuration, DateDurationUnit,
-    MismatchedCalendarError, Overflow, RataDie, Steps,
+    AnyCalendar, AnyCalendarKind, Date, DateAddOptions, DateDifferenceOptions, DateDuration,
+    DateDurationUnit, MismatchedCalendarError, Overflow, Steps,
 };
-use known_dates::{GREGORIAN, IN_DAYS, ISO, JULIAN, day, duration};
+use known_dates::{GREGORIAN, IN_DAYS, ISO, JULIAN, date_on, duration};
 use std::marker::Brand;
 use std::process::Abort;
 use std::sync::ledger::{Blank, Ledger};
@@ -22,8 +22,8 @@ fn dates_of_two_calendars_have_no_difference(rt: HostRuntime) {
         (GREGORIAN, GREGORIAN, true),
         (JULIAN, JULIAN, true),
     ] {
-        let from = Date::from_rata_die(RataDie::new(738156), first);
-        let to = Date::from_rata_die(RataDie::new(738157), second);
+        let from = date_on(738156, first);
+        let to = date_on(738157, second);
         let want = if is_same {
             Ok(duration(false, 0, 0, 0, 1))
         } else {
@@ -54,8 +54,8 @@ fn differences_are_known_durations(rt: HostRuntime) {
             duration(false, 0, 11, 0, 30),
         ),
     ] {
-        let from = Date::from_rata_die(day(&rt, first), calendar);
-        let to = Date::from_rata_die(day(&rt, second), calendar);
+        let from = date_on(first, calendar);
+        let to = date_on(second, calendar);
         let options = DateDifferenceOptions {
             largest_unit: Some(unit),
         };
@@ -70,13 +70,13 @@ fn differences_are_known_durations(rt: HostRuntime) {
 /// That the difference of two days, added to the first, gives the second.
 fn assert_leads_back(
     rt: &impl Abort,
-    calendar: AnyCalendar<'static>,
+    calendar: AnyCalendarKind,
     first: i64,
     second: i64,
     largest_unit: Option<DateDurationUnit>,
 ) {
-    let from = Date::from_rata_die(day(rt, first), calendar);
-    let to = Date::from_rata_die(day(rt, second), calendar);
+    let from = date_on(first, calendar);
+    let to = date_on(second, calendar);
     let constrain = DateAddOptions {
         overflow: Some(Overflow::Constrain),
     };
@@ -142,8 +142,8 @@ fn counted_differences_are_the_same(rt: HostRuntime) {
         (Some(Weeks), duration(false, 0, 0, 52, 1)),
         (Some(Days), duration(false, 0, 0, 0, 365)),
     ] {
-        let from = Date::from_rata_die(RataDie::new(737484), ISO);
-        let to = Date::from_rata_die(RataDie::new(737849), ISO);
+        let from = date_on(737484, ISO);
+        let to = date_on(737849, ISO);
         let options = DateDifferenceOptions { largest_unit: unit };
         let found = counted::<Brand>(&from, &to, options, Blank::new(1));
         assert_eq!(rt; found, Some(want));

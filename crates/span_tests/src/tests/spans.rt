@@ -5,7 +5,7 @@ use icu_calendar::{
     DateFromFieldsOptions, Overflow, SpanError, span,
 };
 use known_dates::{
-    GREGORIAN, IN_DAYS, ISO, JULIAN, REJECT, assert_date, duration, fields, is_named,
+    GREGORIAN, IN_DAYS, ISO, JULIAN, REJECT, calendar_of, duration, fields, has_parts, is_named,
 };
 
 #[test]
@@ -18,7 +18,14 @@ fn span_has_the_days_and_both_dates(rt: HostRuntime) {
     ] {
         let first = fields(from.0, from.1, from.2);
         let second = fields(to.0, to.1, to.2);
-        match span(first, second, REJECT, IN_DAYS, ISO, ISO) {
+        match span(
+            first,
+            second,
+            REJECT,
+            IN_DAYS,
+            calendar_of(ISO),
+            calendar_of(ISO),
+        ) {
             Ok(found) => {
                 assert_eq!(rt; found.duration, duration(is_negative, 0, 0, 0, days));
                 assert_eq!(rt; found.from.to_rata_die(), found.from_shown.to_rata_die());
@@ -63,7 +70,14 @@ fn spans_are_counted_in_each_unit(rt: HostRuntime) {
         let options = DateDifferenceOptions { largest_unit };
         let want = duration(is_negative, years, months, weeks, days);
         let (first, second) = (fields(from.0, from.1, from.2), fields(to.0, to.1, to.2));
-        match span(first, second, REJECT, options, ISO, ISO) {
+        match span(
+            first,
+            second,
+            REJECT,
+            options,
+            calendar_of(ISO),
+            calendar_of(ISO),
+        ) {
             Ok(found) => assert_eq!(rt; found.duration, want),
             Err(fault) => assert!(rt; false, "{}", fault.cause),
         }
@@ -77,11 +91,18 @@ fn a_day_past_its_month_is_constrained(rt: HostRuntime) {
         missing_fields_strategy: None,
     };
     let (first, second) = (fields(2021, 2, 31), fields(2021, 1, 31));
-    match span(first, second, constrain, IN_DAYS, ISO, JULIAN) {
+    match span(
+        first,
+        second,
+        constrain,
+        IN_DAYS,
+        calendar_of(ISO),
+        calendar_of(JULIAN),
+    ) {
         Ok(found) => {
-            assert_date(&rt, &found.from, 737849, 2021, 2, 28);
-            assert_date(&rt, &found.from_shown, 737849, 2021, 2, 15);
-            assert_date(&rt, &found.to, 737821, 2021, 1, 31);
+            assert!(rt; has_parts(&found.from, 737849, 2021, 2, 28));
+            assert!(rt; has_parts(&found.from_shown, 737849, 2021, 2, 15));
+            assert!(rt; has_parts(&found.to, 737821, 2021, 1, 31));
             assert_eq!(rt; found.duration, duration(true, 0, 0, 0, 28));
         }
         Err(fault) => assert!(rt; false, "{}", fault.cause),
@@ -113,7 +134,14 @@ fn first_bag_at_fault_is_named(rt: HostRuntime) {
     ] {
         let first = fields(from.0, from.1, from.2);
         let second = fields(to.0, to.1, to.2);
-        let answer = span(first, second, REJECT, IN_DAYS, ISO, ISO);
+        let answer = span(
+            first,
+            second,
+            REJECT,
+            IN_DAYS,
+            calendar_of(ISO),
+            calendar_of(ISO),
+        );
         assert_eq!(rt; answer.err(), Some(SpanError { side, cause }));
     }
 }
@@ -135,8 +163,8 @@ fn each_calendar_names_the_year(rt: HostRuntime) {
             fields(-4, 12, 31),
             REJECT,
             IN_DAYS,
-            calendar,
-            shown,
+            calendar_of(calendar),
+            calendar_of(shown),
         ) {
             Ok(found) => {
                 assert!(rt; is_named(found.from.year(), 2020, from.0, from.1));
@@ -151,7 +179,7 @@ fn each_calendar_names_the_year(rt: HostRuntime) {
             Err(fault) => assert!(rt; false, "{}", fault.cause),
         }
     }
-    match Date::try_from_fields(fields(0, 1, 1), REJECT, GREGORIAN) {
+    match Date::try_from_fields(fields(0, 1, 1), REJECT, calendar_of(GREGORIAN)) {
         Ok(date) => assert!(rt; is_named(date.year(), 0, "bce", 1)),
         Err(cause) => assert!(rt; false, "{cause}"),
     }

@@ -1,4 +1,4 @@
-use Rattle.std.proofs.Common.{List, ℤ, refl, subst}
+use Rattle.std.proofs.Common.{rules, List, ℤ, refl, subst}
 use Rattle.cal_east_asian.specs.ComputedLaws.{computed_year}
 use Rattle.cal_east_asian.specs.TableAccepted as lunisolar
 use Rattle.cal_east_asian.specs.declared.east_asian_traditional_year.EastAsianTraditionalYear.{EastAsianTraditionalYear}
@@ -9,7 +9,7 @@ use Rattle.cal_hijri.specs.declared.hijri_year.HijriYear.{HijriYear}
 use Rattle.cal_julian.specs.PersianAccepted as persian
 use Rattle.calspan.specs.RowsSaid.{rows_said}
 use Rattle.calspan.specs.declared.table.Table.TheVariants.{China, Korea, Hijri, Persian}
-use Rattle.calspan.proofs.TableLemmas.{china_refused, korea_refused, hijri_refused, persian_refused, refused_as}
+use Rattle.calspan.proofs.TableLemmas.{china_refused, korea_refused, hijri_refused, persian_refused, refused_as, tables_accepted}
 use Rattle.calspan.proofs.table_rows.TableRows.tables.Goals as goal
 
 pub returns-in-Err : goal.returns-in-Err
@@ -41,3 +41,12 @@ returns-in-Err-try_new-3 c =
     let years = subst (λ (xs : List HijriYear). hijri.IsAccepted friday_year xs) c.deref-3.ensures.value (c.in-Ok-try_new-2.ensures.exact.0 refl) in
     let breaks = subst (λ (xs : List ℤ). persian.IsFirstFault xs c.in-Err-try_new-3.fault) c.deref-4.ensures.value c.in-Err-try_new-3.ensures.first in
     refused_as rows _ Persian _ c.in-Err-try_new-3.fault c.refusal-in-Err-try_new-3.ensures.table c.refusal-in-Err-try_new-3.ensures.fault (persian_refused rows c.in-Err-try_new-3.fault china korea years breaks)
+
+pub returns : goal.returns
+returns c =
+    let rows = rows_said c.args.self.now in
+    let china = subst (λ (xs : List EastAsianTraditionalYear). lunisolar.IsAccepted (computed_year side.China) xs) c.deref.ensures.value (c.in-Ok.ensures.exact.0 refl) in
+    let korea = subst (λ (xs : List EastAsianTraditionalYear). lunisolar.IsAccepted (computed_year side.Korea) xs) c.deref-2.ensures.value (c.in-Ok-try_new.ensures.exact.0 refl) in
+    let years = subst (λ (xs : List HijriYear). hijri.IsAccepted friday_year xs) c.deref-3.ensures.value (c.in-Ok-try_new-2.ensures.exact.0 refl) in
+    let corrected = subst persian.AreCorrections c.deref-4.ensures.value (c.in-Ok-try_new-3.ensures.exact.0 refl) in
+    (tables_accepted rows china korea years corrected, search rules)

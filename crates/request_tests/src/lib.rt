@@ -1,0 +1,7 @@
+//! Tests of the words of a line by their public calls.
+//!
+//! What a contract says is proved where it stands; here are values that come from outside.
+#![tactic(auto)]
+
+#[cfg(test)]
+mod tests;
