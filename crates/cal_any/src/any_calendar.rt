@@ -192,19 +192,22 @@ macro_rules! answer_of_date_arm {
     }};
 }
 
-/// The inner date that the calendar that is held answers of an inner date, all in the same variant.
-macro_rules! date_with_date {
+/// The inner date that the calendar that is held answers of an inner date, all in the same variant, or its refusal.
+macro_rules! date_with_date_or_refusal {
     ($any:expr, $date:ident, $calendar:ident => $answer:expr) => {
-        match_variant!($any, AnyCalendar, $calendar, date_of_date_arm($date, $answer))
+        match_variant!($any, AnyCalendar, $calendar, date_of_date_or_refusal_arm($date, $answer))
     };
 }
 
-macro_rules! date_of_date_arm {
+macro_rules! date_of_date_or_refusal_arm {
     ($variant:ident, $calendar:ident, ($date:ident, $answer:expr)) => {{
         let AnyDateInner::$variant($date) = $date else {
             unreachable!()
         };
-        AnyDateInner::$variant($answer)
+        match $answer {
+            Ok(date) => Ok(AnyDateInner::$variant(date)),
+            Err(cause) => Err(cause),
+        }
     }};
 }
 
@@ -392,7 +395,7 @@ impl<'t> Calendar for AnyCalendar<'t> {
         duration: DateDuration,
         options: DateAddOptions,
     ) -> Result<AnyDateInner<'t>, DateAddError> {
-        Ok(date_with_date!(self, date, calendar => calendar.add(date, duration, options)?))
+        date_with_date_or_refusal!(self, date, calendar => calendar.add(date, duration, options))
     }
 
     fn until(

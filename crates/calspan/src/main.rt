@@ -1,33 +1,12 @@
 //! Reads request lines from standard input, and writes an answer to each.
 #![tactic(auto)]
 
-mod answer;
-mod command;
-mod gather;
-mod generator;
-mod laws;
-mod pending;
-mod reply;
-#[cfg(test)]
-mod request_tests;
-#[cfg(test)]
-mod row_tests;
-mod row_years;
-mod run;
-mod status;
-mod table;
-mod table_rows;
-#[cfg(test)]
-mod tests;
-mod text;
-mod totals;
-
 ghost use Rattle.std.specs.Prelude.{◌≡◌, ◌≢◌};
 ghost use Rattle.std.specs.IoError.{error_kind};
 
 use byte_io::{StdSink, StdSource};
-use run::run;
-use status::{Status, code};
+use line_answers::{Status, code};
+use span_run::run;
 use std::io::ErrorKind;
 use std::process::ExitCode;
 use std::{env, io};

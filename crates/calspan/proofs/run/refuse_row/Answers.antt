@@ -1,9 +1,0 @@
-use Rattle.std.proofs.Common.{◌++◌, List, ℕ, ap, subst, sym, ◌∙◌}
-use Rattle.calspan.specs.Stages.{Refuses}
-use Rattle.calspan.specs.TableTexts.{row_refusal}
-use Rattle.calspan.proofs.run.refuse_row.Goals as goal
-
-pub returns : goal.returns
-returns g c before left faults reads h =
-    let is = c.push_row_refusal.ensures ∙ ap (λ (t : List ℕ). t ++ row_refusal c.args.number c.args.why) c.new-text.ensures in
-    c.refuse.ensures before left faults reads (subst (λ (t : List ℕ). Refuses before left t) (sym is) h)

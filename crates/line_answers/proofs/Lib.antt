@@ -1,0 +1,5 @@
+pub mod AnswerLemmas
+mod RowTakingLemmas
+mod TableOrderLemmas
+pub mod TableLemmas
+pub mod RowYearLemmas

@@ -1,0 +1,3 @@
+pub mod Generator
+pub mod TotalBounds
+pub mod Laws

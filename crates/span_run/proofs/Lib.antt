@@ -1,0 +1,6 @@
+mod KnownLemmas
+mod RunLemmas
+mod EndLemmas
+mod HeadlineLemmas
+mod GatherLemmas
+mod ServeLemmas
