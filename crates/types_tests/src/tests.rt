@@ -5,6 +5,7 @@ mod bags;
 mod durations;
 mod easter;
 mod errors;
+mod expected;
 mod hebrew_years;
 mod kinds;
 mod listed_years;

@@ -1,15 +1,14 @@
 //! CLDR's names of calendars, and the calendar that a preference resolves to.
 
+use crate::tests::expected::{assert_at, assert_holds, assert_same};
 use cal_types::{CalendarAlgorithm, CalendarPreference, HijriCalendarAlgorithm};
 use std::process::Abort;
 
 /// That an algorithm has a name, and is found by it.
 fn assert_named(rt: &impl Abort, algorithm: CalendarAlgorithm, name: &str) {
-    assert_eq!(rt; algorithm.as_str(), name);
-    assert!(rt;
-        CalendarAlgorithm::from_name(name.as_bytes()) == Some(algorithm),
-        "{name}"
-    );
+    assert_same(rt, algorithm.as_str(), name);
+    let found = CalendarAlgorithm::from_name(name.as_bytes());
+    assert_at(rt, name, found, Some(algorithm));
 }
 
 #[test]
@@ -33,9 +32,10 @@ fn other_texts_name_no_algorithm(rt: HostRuntime) {
         "islamicc",
         "iso",
     ] {
-        assert!(rt;
+        assert_holds(
+            &rt,
+            name,
             CalendarAlgorithm::from_name(name.as_bytes()).is_none(),
-            "{name}"
         );
     }
 }
@@ -54,6 +54,6 @@ fn what_is_left_open_is_the_default(rt: HostRuntime) {
         (Some(civil), civil),
         (Some(CalendarAlgorithm::Roc), CalendarAlgorithm::Roc),
     ] {
-        assert_eq!(rt; preference.resolve(unresolved), want);
+        assert_same(&rt, preference.resolve(unresolved), want);
     }
 }

@@ -1,6 +1,8 @@
 //! Durations that are read from texts.
 
+use crate::tests::expected::{assert_at, assert_same};
 use cal_types::{DateDuration, DateDurationParseError};
+use std::process::Abort;
 
 /// Years, months, weeks and days, with a sign.
 fn duration(is_negative: bool, parts: [u32; 4]) -> DateDuration {
@@ -15,7 +17,7 @@ fn duration(is_negative: bool, parts: [u32; 4]) -> DateDuration {
 
 #[test]
 fn the_default_is_zero(rt: HostRuntime) {
-    assert_eq!(rt; DateDuration::default(), duration(false, [0, 0, 0, 0]));
+    assert_same(&rt, DateDuration::default(), duration(false, [0, 0, 0, 0]));
 }
 
 #[test]
@@ -28,34 +30,47 @@ fn durations_are_read(rt: HostRuntime) {
         ("P004294967295Y", false, [4294967295, 0, 0, 0]),
     ] {
         let want = Ok(duration(is_negative, parts));
-        assert_eq!(rt; DateDuration::try_from_str(text), want, "at {text}");
-        assert_eq!(rt; DateDuration::try_from_utf8(text.as_bytes()), want);
+        assert_at(&rt, text, DateDuration::try_from_str(text), want);
+        assert_at(
+            &rt,
+            text,
+            DateDuration::try_from_utf8(text.as_bytes()),
+            want,
+        );
+    }
+}
+
+/// That each text has one fault.
+fn assert_fault(rt: &impl Abort, texts: &[&str], fault: DateDurationParseError) {
+    for &text in texts {
+        assert_at(rt, text, DateDuration::try_from_str(text), Err(fault));
     }
 }
 
 #[test]
 fn the_first_fault_is_answered(rt: HostRuntime) {
-    for (text, want) in [
-        ("", DateDurationParseError::InvalidStructure),
-        ("-", DateDurationParseError::InvalidStructure),
-        ("P", DateDurationParseError::InvalidStructure),
-        ("P5T", DateDurationParseError::InvalidStructure),
-        ("P5", DateDurationParseError::InvalidStructure),
-        ("P1H1Y1Y", DateDurationParseError::InvalidStructure),
-        ("-+P1D", DateDurationParseError::InvalidStructure),
-        ("PT1H", DateDurationParseError::TimeNotSupported),
-        ("P1DT", DateDurationParseError::TimeNotSupported),
-        ("PD", DateDurationParseError::MissingValue),
-        ("+P1D", DateDurationParseError::PlusNotAllowed),
-        ("+", DateDurationParseError::PlusNotAllowed),
-        ("P1D4294967296D", DateDurationParseError::DuplicateUnit),
-        ("P4294967296D", DateDurationParseError::NumberOverflow),
-        ("P4294967296H", DateDurationParseError::InvalidStructure),
-        (
-            "P18446744073709551616H",
-            DateDurationParseError::NumberOverflow,
-        ),
-    ] {
-        assert_eq!(rt; DateDuration::try_from_str(text), Err(want), "at {text}");
-    }
+    use DateDurationParseError::{
+        DuplicateUnit, InvalidStructure, MissingValue, NumberOverflow, PlusNotAllowed,
+        TimeNotSupported,
+    };
+    let without_structure = [
+        "",
+        "-",
+        "P",
+        "P5T",
+        "P5",
+        "P1H1Y1Y",
+        "-+P1D",
+        "P4294967296H",
+    ];
+    assert_fault(&rt, &without_structure, InvalidStructure);
+    assert_fault(&rt, &["PT1H", "P1DT"], TimeNotSupported);
+    assert_fault(&rt, &["PD"], MissingValue);
+    assert_fault(&rt, &["+P1D", "+"], PlusNotAllowed);
+    assert_fault(&rt, &["P1D4294967296D"], DuplicateUnit);
+    assert_fault(
+        &rt,
+        &["P4294967296D", "P18446744073709551616H"],
+        NumberOverflow,
+    );
 }

@@ -1,5 +1,6 @@
 //! Days of Easter that others have published or computed.
 
+use crate::tests::expected::{assert_at, assert_same};
 use cal_days::{gregorian, julian};
 
 /// A number that the days of a run of years come to, each of which has a part in it.
@@ -24,8 +25,8 @@ fn easter_is_on_published_days(rt: HostRuntime) {
         (2076, 757988, 757995),
     ];
     for (year, western, eastern) in cases {
-        assert_eq!(rt; gregorian::easter(year).to_i64_date(), western, "at {year}");
-        assert_eq!(rt; julian::easter(year).to_i64_date(), eastern, "at {year}");
+        assert_at(&rt, year, gregorian::easter(year).to_i64_date(), western);
+        assert_at(&rt, year, julian::easter(year).to_i64_date(), eastern);
     }
 }
 
@@ -39,6 +40,6 @@ fn easter_of_the_years_326_to_4099_is_that_of_other_algorithms(rt: HostRuntime) 
         western = mixed(western, gregorian::easter(year).to_i64_date());
         eastern = mixed(eastern, julian::easter(year).to_i64_date());
     }
-    assert_eq!(rt; western, 2875790298413821137);
-    assert_eq!(rt; eastern, 16989418367851434888);
+    assert_same(&rt, western, 2875790298413821137);
+    assert_same(&rt, eastern, 16989418367851434888);
 }

@@ -1,15 +1,16 @@
 //! The texts of errors, and errors that become others.
 
+use crate::tests::expected::{assert_each_prints, assert_prints, assert_same};
 use cal_types::{
     CalendarAlgorithm, DateAddError, DateError, DateFromFieldsError, DateNewError,
     EcmaReferenceYearError, LunisolarDateError, MismatchedCalendarError, MonthCodeParseError,
     MonthError, ParseError, RangeError, TableFault, TablePart, UnknownEraError,
 };
-use std::test::Fail;
+use std::alloc::AllocError;
 
 #[test]
-fn fields_errors_print_their_texts(rt: HostRuntime) -> Result<(), Fail> {
-    for (error, want) in [
+fn fields_errors_print_their_texts(rt: HostRuntime) -> Result<(), AllocError> {
+    let cases = [
         (DateFromFieldsError::NotEnoughFields, "Not enough fields"),
         (DateFromFieldsError::TooManyFields, "Too many fields"),
         (DateFromFieldsError::Overflow, "Result out of range"),
@@ -39,16 +40,13 @@ fn fields_errors_print_their_texts(rt: HostRuntime) -> Result<(), Fail> {
             DateFromFieldsError::InvalidDay { max: 30 },
             "Invalid day for month, max is 30",
         ),
-    ] {
-        let text = format!(in rt.alloc(); "{error}")?;
-        assert_eq!(rt; text.as_str(), want);
-    }
-    Ok(())
+    ];
+    assert_each_prints(&rt, rt.alloc(), &cases)
 }
 
 #[test]
-fn add_errors_print_their_texts(rt: HostRuntime) -> Result<(), Fail> {
-    for (error, want) in [
+fn add_errors_print_their_texts(rt: HostRuntime) -> Result<(), AllocError> {
+    let cases = [
         (DateAddError::Overflow, "Result out of range"),
         (
             DateAddError::MonthNotInYear,
@@ -58,16 +56,13 @@ fn add_errors_print_their_texts(rt: HostRuntime) -> Result<(), Fail> {
             DateAddError::InvalidDay { max: 29 },
             "Invalid day for month, max is 29",
         ),
-    ] {
-        let text = format!(in rt.alloc(); "{error}")?;
-        assert_eq!(rt; text.as_str(), want);
-    }
-    Ok(())
+    ];
+    assert_each_prints(&rt, rt.alloc(), &cases)
 }
 
 #[test]
-fn new_errors_print_their_texts(rt: HostRuntime) -> Result<(), Fail> {
-    for (error, want) in [
+fn new_errors_print_their_texts(rt: HostRuntime) -> Result<(), AllocError> {
+    let cases = [
         (
             DateNewError::InvalidYear,
             "Invalid year, must be within -9999..=9999",
@@ -85,16 +80,13 @@ fn new_errors_print_their_texts(rt: HostRuntime) -> Result<(), Fail> {
             DateNewError::InvalidDay { max: 28 },
             "Invalid day for month, max is 28",
         ),
-    ] {
-        let text = format!(in rt.alloc(); "{error}")?;
-        assert_eq!(rt; text.as_str(), want);
-    }
-    Ok(())
+    ];
+    assert_each_prints(&rt, rt.alloc(), &cases)
 }
 
 #[test]
-fn lunisolar_errors_print_their_texts(rt: HostRuntime) -> Result<(), Fail> {
-    for (error, want) in [
+fn lunisolar_errors_print_their_texts(rt: HostRuntime) -> Result<(), AllocError> {
+    let cases = [
         (LunisolarDateError::InvalidYear, "Invalid year"),
         (
             LunisolarDateError::MonthNotInCalendar,
@@ -108,15 +100,12 @@ fn lunisolar_errors_print_their_texts(rt: HostRuntime) -> Result<(), Fail> {
             LunisolarDateError::InvalidDay { max: 30 },
             "Invalid day for month, max is 30",
         ),
-    ] {
-        let text = format!(in rt.alloc(); "{error}")?;
-        assert_eq!(rt; text.as_str(), want);
-    }
-    Ok(())
+    ];
+    assert_each_prints(&rt, rt.alloc(), &cases)
 }
 
 #[test]
-fn range_errors_print_their_texts(rt: HostRuntime) -> Result<(), Fail> {
+fn range_errors_print_their_texts(rt: HostRuntime) -> Result<(), AllocError> {
     let range = RangeError {
         field: "year",
         value: -10000,
@@ -124,36 +113,34 @@ fn range_errors_print_their_texts(rt: HostRuntime) -> Result<(), Fail> {
         max: 9999,
     };
     let want = "The year = -10000 argument is out of range -9999..=9999";
-    let text = format!(in rt.alloc(); "{range}")?;
-    assert_eq!(rt; text.as_str(), want);
+    assert_prints(&rt, rt.alloc(), &range, want)?;
     let date = DateError::from(range);
-    let text = format!(in rt.alloc(); "{date}")?;
-    assert_eq!(rt; text.as_str(), want);
+    assert_prints(&rt, rt.alloc(), &date, want)?;
     Ok(())
 }
 
 #[test]
-fn errors_without_a_number_print_their_texts(rt: HostRuntime) -> Result<(), Fail> {
+fn errors_without_a_number_print_their_texts(rt: HostRuntime) -> Result<(), AllocError> {
     let era = DateError::from(UnknownEraError);
-    let text = format!(in rt.alloc(); "{era}")?;
-    assert_eq!(rt; text.as_str(), "Unknown era");
-    let text = format!(in rt.alloc(); "{MismatchedCalendarError}")?;
-    assert_eq!(rt;
-        text.as_str(),
-        "Attempted to interact two `Date`s with different calendars"
-    );
+    assert_prints(&rt, rt.alloc(), &era, "Unknown era")?;
+    assert_prints(
+        &rt,
+        rt.alloc(),
+        &MismatchedCalendarError,
+        "Attempted to interact two `Date`s with different calendars",
+    )?;
     Ok(())
 }
 
 #[test]
-fn parse_errors_print_their_texts(rt: HostRuntime) -> Result<(), Fail> {
+fn parse_errors_print_their_texts(rt: HostRuntime) -> Result<(), AllocError> {
     let range = RangeError {
         field: "month",
         value: 13,
         min: 1,
         max: 12,
     };
-    for (error, want) in [
+    let cases = [
         (ParseError::Syntax, "Syntax error in the RFC 9557 string"),
         (ParseError::MissingFields, "Missing fields"),
         (ParseError::UnknownCalendar, "Unknown calendar"),
@@ -168,62 +155,64 @@ fn parse_errors_print_their_texts(rt: HostRuntime) -> Result<(), Fail> {
             ParseError::from(range),
             "Value out of range: The month = 13 argument is out of range 1..=12",
         ),
-    ] {
-        let text = format!(in rt.alloc(); "{error}")?;
-        assert_eq!(rt; text.as_str(), want);
-    }
-    Ok(())
+    ];
+    assert_each_prints(&rt, rt.alloc(), &cases)
 }
 
 #[test]
-fn table_parts_print_their_texts(rt: HostRuntime) -> Result<(), Fail> {
-    for (part, want) in [
+fn table_parts_print_their_texts(rt: HostRuntime) -> Result<(), AllocError> {
+    let cases = [
         (TablePart::Year, "year"),
         (TablePart::Join, "join"),
         (TablePart::End, "end"),
         (TablePart::Leap, "leap"),
         (TablePart::Rule, "rule"),
-    ] {
-        let text = format!(in rt.alloc(); "{part}")?;
-        assert_eq!(rt; text.as_str(), want);
-    }
-    Ok(())
+    ];
+    assert_each_prints(&rt, rt.alloc(), &cases)
 }
 
 #[test]
-fn a_table_fault_prints_its_row_and_part(rt: HostRuntime) -> Result<(), Fail> {
+fn a_table_fault_prints_its_row_and_part(rt: HostRuntime) -> Result<(), AllocError> {
     let fault = TableFault {
         row: 2,
         part: TablePart::Join,
     };
-    let text = format!(in rt.alloc(); "{fault}")?;
-    assert_eq!(rt; text.as_str(), "Row 2 of the table breaks its rule on join");
+    assert_prints(
+        &rt,
+        rt.alloc(),
+        &fault,
+        "Row 2 of the table breaks its rule on join",
+    )?;
     Ok(())
 }
 
 #[test]
 fn an_unknown_era_or_a_malformed_code_is_an_error_of_fields(rt: HostRuntime) {
-    assert!(rt; DateNewError::from(UnknownEraError) == DateNewError::InvalidEra);
+    assert_same(
+        &rt,
+        DateNewError::from(UnknownEraError),
+        DateNewError::InvalidEra,
+    );
     let era = DateFromFieldsError::from(UnknownEraError);
-    assert!(rt; era == DateFromFieldsError::InvalidEra);
+    assert_same(&rt, era, DateFromFieldsError::InvalidEra);
     let code = DateFromFieldsError::from(MonthCodeParseError::InvalidSyntax);
-    assert!(rt; code == DateFromFieldsError::MonthCodeInvalidSyntax);
+    assert_same(&rt, code, DateFromFieldsError::MonthCodeInvalidSyntax);
 }
 
 #[test]
 fn a_month_that_is_not_there_is_an_error_of_fields(rt: HostRuntime) {
     let in_calendar = DateFromFieldsError::from(MonthError::NotInCalendar);
-    assert!(rt; in_calendar == DateFromFieldsError::MonthNotInCalendar);
+    assert_same(&rt, in_calendar, DateFromFieldsError::MonthNotInCalendar);
     let in_year = DateFromFieldsError::from(MonthError::NotInYear);
-    assert!(rt; in_year == DateFromFieldsError::MonthNotInYear);
+    assert_same(&rt, in_year, DateFromFieldsError::MonthNotInYear);
 }
 
 #[test]
 fn a_missing_reference_year_is_an_error_of_fields(rt: HostRuntime) {
     let unimplemented = DateFromFieldsError::from(EcmaReferenceYearError::Unimplemented);
-    assert!(rt; unimplemented == DateFromFieldsError::NotEnoughFields);
+    assert_same(&rt, unimplemented, DateFromFieldsError::NotEnoughFields);
     let month = DateFromFieldsError::from(EcmaReferenceYearError::MonthNotInCalendar);
-    assert!(rt; month == DateFromFieldsError::MonthNotInCalendar);
+    assert_same(&rt, month, DateFromFieldsError::MonthNotInCalendar);
     let regular = DateFromFieldsError::from(EcmaReferenceYearError::UseRegularIfConstrain);
-    assert!(rt; regular == DateFromFieldsError::MonthNotInYear);
+    assert_same(&rt, regular, DateFromFieldsError::MonthNotInYear);
 }

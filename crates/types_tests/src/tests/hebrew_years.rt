@@ -3,6 +3,7 @@
 //! The counts are those of a program in Python by the formulas of Reingold and Dershowitz, Calendrical Calculations,
 //! chapter 8: elapsed days, and the corrections for years of 356 and 382 days.
 
+use crate::tests::expected::{assert_at, assert_day, assert_year};
 use cal_days::RataDie;
 use cal_days::hebrew::{
     DayInYear, day_in_year_from_fixed, is_leap_year, year_from_fixed, year_length, year_start,
@@ -19,10 +20,10 @@ fn years_have_known_starts_and_lengths(rt: HostRuntime) {
         (5789, 740611, 354, false),
         (88369, 30902687, 383, true),
     ] {
-        assert!(rt; -8000000 <= year && year <= 8000000);
-        assert_eq!(rt; year_start(year).to_i64_date(), first, "at {year}");
-        assert_eq!(rt; year_length(year), length, "at {year}");
-        assert_eq!(rt; is_leap_year(year), is_leap, "at {year}");
+        assert_year(&rt, year);
+        assert_at(&rt, year, year_start(year).to_i64_date(), first);
+        assert_at(&rt, year, year_length(year), length);
+        assert_at(&rt, year, is_leap_year(year), is_leap);
     }
 }
 
@@ -36,15 +37,15 @@ fn days_lie_in_known_years(rt: HostRuntime) {
         (-365242499, -996227, 58, 385),
         (365242134, 1003748, 174, 355),
     ] {
-        assert!(rt; -365242499 <= day && day <= 365242134);
+        assert_day(&rt, day);
         let found = day_in_year_from_fixed(RataDie::new(day));
         let expected = DayInYear {
             year,
             day: day_of_year,
             year_length: length,
         };
-        assert_eq!(rt; found, expected, "at {day}");
-        assert_eq!(rt; year_from_fixed(RataDie::new(day)), year, "at {day}");
+        assert_at(&rt, day, found, expected);
+        assert_at(&rt, day, year_from_fixed(RataDie::new(day)), year);
     }
 }
 
@@ -60,11 +61,11 @@ fn lengths_come_as_often_as_another_program_counts(rt: HostRuntime) {
     ] {
         let mut found: u32 = 0;
         for year in 5500..6000 {
-            assert!(rt; -8000000 <= year && year <= 8000000);
+            assert_year(&rt, year);
             if year_length(year) == length {
                 found = found.saturating_add(1);
             }
         }
-        assert_eq!(rt; found, count, "of {length} days");
+        assert_at(&rt, length, found, count);
     }
 }

@@ -1,40 +1,44 @@
 //! Kinds of calendars, by the program's names and by CLDR's, and their texts.
 
+use crate::tests::expected::{assert_at, assert_holds, assert_prints, assert_same};
 use cal_kinds::AnyCalendarKind;
 use cal_types::{CalendarAlgorithm, HijriCalendarAlgorithm};
 use std::alloc::{AllocError, Global};
 use std::process::Abort;
 
+/// That a name is the program's for a kind.
+fn assert_program_name(rt: &impl Abort, name: &str, kind: AnyCalendarKind) {
+    let found = AnyCalendarKind::from_program_name(name.as_bytes());
+    assert_at(rt, name, found, Some(kind));
+}
+
 /// The program's names with the kinds of CLDR's calendars, and the kind that has none.
 #[test]
 fn names_of_kinds(rt: HostRuntime) {
-    let named = [
-        ("iso", AnyCalendarKind::Iso),
-        ("gregorian", AnyCalendarKind::Gregorian),
-        ("julian", AnyCalendarKind::Julian),
-        ("buddhist", AnyCalendarKind::Buddhist),
-        ("chinese", AnyCalendarKind::Chinese),
-        ("coptic", AnyCalendarKind::Coptic),
-        ("dangi", AnyCalendarKind::Dangi),
-        ("ethiopic", AnyCalendarKind::Ethiopian),
-        ("ethioaa", AnyCalendarKind::EthiopianAmeteAlem),
-        ("hebrew", AnyCalendarKind::Hebrew),
-        ("indian", AnyCalendarKind::Indian),
-        ("islamic-civil", AnyCalendarKind::HijriTabularTypeIIFriday),
-        ("islamic-simulated", AnyCalendarKind::HijriSimulatedMecca),
-        ("islamic-tbla", AnyCalendarKind::HijriTabularTypeIIThursday),
-        ("islamic-umalqura", AnyCalendarKind::HijriUmmAlQura),
-        ("japanese", AnyCalendarKind::Japanese),
-        ("persian", AnyCalendarKind::Persian),
-        ("roc", AnyCalendarKind::Roc),
-    ];
-    for (name, kind) in named {
-        assert!(rt; AnyCalendarKind::from_program_name(name.as_bytes()) == Some(kind));
-    }
+    use AnyCalendarKind as Kind;
+    assert_program_name(&rt, "iso", Kind::Iso);
+    assert_program_name(&rt, "gregorian", Kind::Gregorian);
+    assert_program_name(&rt, "julian", Kind::Julian);
+    assert_program_name(&rt, "buddhist", Kind::Buddhist);
+    assert_program_name(&rt, "chinese", Kind::Chinese);
+    assert_program_name(&rt, "coptic", Kind::Coptic);
+    assert_program_name(&rt, "dangi", Kind::Dangi);
+    assert_program_name(&rt, "ethiopic", Kind::Ethiopian);
+    assert_program_name(&rt, "ethioaa", Kind::EthiopianAmeteAlem);
+    assert_program_name(&rt, "hebrew", Kind::Hebrew);
+    assert_program_name(&rt, "indian", Kind::Indian);
+    assert_program_name(&rt, "islamic-civil", Kind::HijriTabularTypeIIFriday);
+    assert_program_name(&rt, "islamic-simulated", Kind::HijriSimulatedMecca);
+    assert_program_name(&rt, "islamic-tbla", Kind::HijriTabularTypeIIThursday);
+    assert_program_name(&rt, "islamic-umalqura", Kind::HijriUmmAlQura);
+    assert_program_name(&rt, "japanese", Kind::Japanese);
+    assert_program_name(&rt, "persian", Kind::Persian);
+    assert_program_name(&rt, "roc", Kind::Roc);
     for name in [
         "", "ISO", "iso ", "is", "isos", "japanext", "islamic", "gregory",
     ] {
-        assert!(rt; AnyCalendarKind::from_program_name(name.as_bytes()).is_none());
+        let found = AnyCalendarKind::from_program_name(name.as_bytes());
+        assert_at(&rt, name, found, None);
     }
 }
 
@@ -47,10 +51,9 @@ fn assert_kind(
 ) -> Result<(), AllocError> {
     match AnyCalendarKind::try_from(algorithm) {
         Ok(kind) => {
-            let written = format!(in alloc; "{kind}")?;
-            assert_eq!(rt; written.as_str(), text);
+            assert_prints(rt, alloc, &kind, text)?;
         }
-        Err(()) => assert!(rt; false, "{text}"),
+        Err(()) => assert_holds(rt, text, false),
     }
     Ok(())
 }
@@ -88,8 +91,16 @@ fn kinds_of_lunisolar_calendars(rt: HostRuntime) -> Result<(), AllocError> {
 #[test]
 fn kinds_of_hijri_calendars(rt: HostRuntime) -> Result<(), AllocError> {
     use HijriCalendarAlgorithm::{Civil, Rgsa, Tbla, Umalqura};
-    assert!(rt; AnyCalendarKind::try_from(CalendarAlgorithm::Hijri(None)).is_err());
-    assert!(rt; AnyCalendarKind::try_from(CalendarAlgorithm::Hijri(Some(Rgsa))).is_err());
+    assert_same(
+        &rt,
+        AnyCalendarKind::try_from(CalendarAlgorithm::Hijri(None)),
+        Err(()),
+    );
+    assert_same(
+        &rt,
+        AnyCalendarKind::try_from(CalendarAlgorithm::Hijri(Some(Rgsa))),
+        Err(()),
+    );
     assert_kind(
         &rt,
         rt.alloc(),

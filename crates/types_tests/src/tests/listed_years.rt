@@ -1,5 +1,6 @@
 //! Three Gregorian years, counted through by hand-made lists.
 
+use crate::tests::expected::assert_at;
 use cal_model::{ListedDate, ListedMonth, ListedYears};
 use cal_types::{DateDuration, Month};
 
@@ -44,16 +45,9 @@ fn counts_gregorian_days(rt: HostRuntime) {
         (2025, 12, 31, 739616),
     ];
     for (year, month, day, number) in cases {
-        assert_eq!(rt;
-            list.day_number(ListedDate { year, month, day }),
-            Some(number),
-            "at {year}-{month}-{day}"
-        );
-        assert_eq!(rt;
-            list.date_on(number),
-            Some(ListedDate { year, month, day }),
-            "at {number}"
-        );
+        let date = ListedDate { year, month, day };
+        assert_at(&rt, date, list.day_number(date), Some(number));
+        assert_at(&rt, number, list.date_on(number), Some(date));
     }
 }
 
@@ -77,10 +71,11 @@ fn counts_days_between_dates(rt: HostRuntime) {
             weeks: 0,
             days,
         };
-        assert_eq!(rt;
+        assert_at(
+            &rt,
+            (from, to),
             list.difference_in_days(from, to),
             Some(want),
-            "from {from:?} to {to:?}"
         );
     }
 }
@@ -100,12 +95,10 @@ fn refuses_what_is_not_listed(rt: HostRuntime) {
         (2024, 4, 31),
     ];
     for (year, month, day) in cases {
-        assert!(rt;
-            list.day_number(ListedDate { year, month, day }).is_none(),
-            "at {year}-{month}-{day}"
-        );
+        let number = list.day_number(ListedDate { year, month, day });
+        assert_at(&rt, (year, month, day), number, None);
     }
     for number in [738520, 739617, i64::MIN, i64::MAX] {
-        assert!(rt; list.date_on(number).is_none(), "at {number}");
+        assert_at(&rt, number, list.date_on(number), None);
     }
 }

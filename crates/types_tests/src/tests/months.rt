@@ -4,8 +4,9 @@ ghost use Rattle.std.specs.Prelude.{◌<◌, ◌↔◌, IsTrue};
 ghost use Rattle.cal_types.specs.Month.{month_rank};
 ghost use Rattle.cal_types.specs.MonthParts.{month_parts};
 
+use crate::tests::expected::{assert_at, assert_holds, assert_prints, assert_same};
 use cal_types::{LeapStatus, Month, MonthCode, MonthCodeParseError, MonthInfo, TinyAsciiStr};
-use std::test::Fail;
+use std::alloc::AllocError;
 
 #[test]
 fn month_codes_are_read(rt: HostRuntime) {
@@ -17,8 +18,8 @@ fn month_codes_are_read(rt: HostRuntime) {
         ("M05L", Month::leap(5)),
         ("M00L", Month::leap(0)),
     ] {
-        assert_eq!(rt; Month::try_from_str(text), Ok(want));
-        assert_eq!(rt; Month::try_from_utf8(text.as_bytes()), Ok(want));
+        assert_at(&rt, text, Month::try_from_str(text), Ok(want));
+        assert_at(&rt, text, Month::try_from_utf8(text.as_bytes()), Ok(want));
     }
 }
 
@@ -28,16 +29,13 @@ fn other_texts_are_no_month_codes(rt: HostRuntime) {
         "", "M", "M1", "M1L", "m01", "N01", "M001", "M01l", "M01LL", "M01 ", "M 1", "MA1", "M1A",
         "M-1", "01", "M/1", "M:1", "M0:", "M\u{661}",
     ] {
-        assert_eq!(rt;
-            Month::try_from_str(text),
-            Err(MonthCodeParseError::InvalidSyntax),
-            "at {text}"
-        );
+        let fault = Err(MonthCodeParseError::InvalidSyntax);
+        assert_at(&rt, text, Month::try_from_str(text), fault);
     }
 }
 
 #[test]
-fn month_codes_are_written(rt: HostRuntime) -> Result<(), Fail> {
+fn month_codes_are_written(rt: HostRuntime) -> Result<(), AllocError> {
     for (month, want) in [
         (Month::new(1), "M01"),
         (Month::from(12), "M12"),
@@ -47,10 +45,14 @@ fn month_codes_are_written(rt: HostRuntime) -> Result<(), Fail> {
         (Month::leap(100), "M99L"),
     ] {
         let code = month.code();
-        assert_eq!(rt; code.0.as_str(), want);
-        let text = format!(in rt.alloc(); "{code}")?;
-        assert_eq!(rt; text.as_str(), want);
-        assert_eq!(rt; code.parsed(), Some((month.number(), month.is_leap())));
+        assert_same(&rt, code.0.as_str(), want);
+        assert_prints(&rt, rt.alloc(), &code, want)?;
+        assert_at(
+            &rt,
+            want,
+            code.parsed(),
+            Some((month.number(), month.is_leap())),
+        );
     }
     Ok(())
 }
@@ -66,8 +68,8 @@ fn months_are_ordered_by_number_then_leap(rt: HostRuntime) {
         Month::new(13),
     ];
     for i in 1..6 {
-        assert!(rt; comes_before(months[i - 1], months[i]));
-        assert!(rt; !comes_before(months[i], months[i - 1]));
+        assert_holds(&rt, i, comes_before(months[i - 1], months[i]));
+        assert_holds(&rt, i, !comes_before(months[i], months[i - 1]));
     }
 }
 
@@ -85,13 +87,20 @@ fn code(text: &str) -> Option<MonthCode> {
 #[test]
 fn leap_codes_have_a_normal_code(rt: HostRuntime) {
     for (leap, normal) in [("M05L", "M05"), ("M12L", "M12"), ("abcL", "abc")] {
-        assert_eq!(rt;
+        assert_at(
+            &rt,
+            leap,
             code(leap).and_then(|c| c.get_normal_if_leap()),
-            code(normal)
+            code(normal),
         );
     }
     for text in ["M05", "M05l", "L", "M0L", ""] {
-        assert_eq!(rt; code(text).and_then(|c| c.get_normal_if_leap()), None);
+        assert_at(
+            &rt,
+            text,
+            code(text).and_then(|c| c.get_normal_if_leap()),
+            None,
+        );
     }
 }
 
@@ -104,18 +113,18 @@ fn codes_are_parsed(rt: HostRuntime) {
         ("M1", None),
         ("", None),
     ] {
-        assert_eq!(rt; code(text).and_then(|c| c.parsed()), want);
+        assert_at(&rt, text, code(text).and_then(|c| c.parsed()), want);
     }
 }
 
 #[test]
 fn the_adar_of_a_hebrew_leap_year_is_shown_as_a_leap_month(rt: HostRuntime) {
     let adar = MonthInfo::new(7, Month::new(6), LeapStatus::Base, Month::leap(6));
-    assert_eq!(rt; adar.ordinal, 7);
-    assert_eq!(rt; adar.number(), 6);
-    assert_eq!(rt; adar.leap_status(), LeapStatus::Base);
-    assert_eq!(rt; adar.to_input(), Month::new(6));
-    assert!(rt; !adar.is_leap());
-    assert_eq!(rt; adar.standard_code.0.as_str(), "M06");
-    assert_eq!(rt; adar.formatting_code.0.as_str(), "M06L");
+    assert_same(&rt, adar.ordinal, 7);
+    assert_same(&rt, adar.number(), 6);
+    assert_same(&rt, adar.leap_status(), LeapStatus::Base);
+    assert_same(&rt, adar.to_input(), Month::new(6));
+    assert_same(&rt, adar.is_leap(), false);
+    assert_same(&rt, adar.standard_code.0.as_str(), "M06");
+    assert_same(&rt, adar.formatting_code.0.as_str(), "M06L");
 }

@@ -1,5 +1,6 @@
 //! Known days and years, from published conversion tables.
 
+use crate::tests::expected::{assert_at, assert_day, assert_same, assert_year};
 use cal_days::gregorian::{is_leap_year, year_from_fixed, year_start};
 use cal_days::{RataDie, islamic, julian};
 
@@ -15,8 +16,8 @@ fn years_start_on_known_days(rt: HostRuntime) {
         (-999999, -365242499),
     ];
     for (year, day) in cases {
-        assert!(rt; -8000000 <= year && year <= 8000000);
-        assert_eq!(rt; year_start(year).to_i64_date(), day, "at {year}");
+        assert_year(&rt, year);
+        assert_at(&rt, year, year_start(year).to_i64_date(), day);
     }
 }
 
@@ -32,8 +33,8 @@ fn centuries_are_leap_every_400_years(rt: HostRuntime) {
         (-100, false),
     ];
     for (year, is_leap) in cases {
-        assert!(rt; -8000000 <= year && year <= 8000000);
-        assert_eq!(rt; is_leap_year(year), is_leap, "at {year}");
+        assert_year(&rt, year);
+        assert_at(&rt, year, is_leap_year(year), is_leap);
     }
 }
 
@@ -54,8 +55,8 @@ fn days_lie_in_known_years(rt: HostRuntime) {
         (365242134, 999999),
     ];
     for (day, year) in cases {
-        assert!(rt; -365242499 <= day && day <= 365242134);
-        assert_eq!(rt; year_from_fixed(RataDie::new(day)), year, "at {day}");
+        assert_day(&rt, day);
+        assert_at(&rt, day, year_from_fixed(RataDie::new(day)), year);
     }
 }
 
@@ -63,13 +64,13 @@ fn days_lie_in_known_years(rt: HostRuntime) {
 fn sums_stop_at_both_ends(rt: HostRuntime) {
     let first = RataDie::new(-36028797018963968);
     let last = RataDie::new(36028797018963967);
-    assert!(rt; first.checked_add(-1).is_none());
-    assert!(rt; last.checked_add(1).is_none());
-    assert!(rt; first.checked_add(i64::MIN).is_none());
-    assert!(rt; last.checked_add(i64::MAX).is_none());
-    assert!(rt; first.checked_add(72057594037927935) == Some(last));
-    assert!(rt; last.checked_add(-72057594037927935) == Some(first));
-    assert_eq!(rt; last.since(first), 72057594037927935);
+    assert_same(&rt, first.checked_add(-1), None);
+    assert_same(&rt, last.checked_add(1), None);
+    assert_same(&rt, first.checked_add(i64::MIN), None);
+    assert_same(&rt, last.checked_add(i64::MAX), None);
+    assert_same(&rt, first.checked_add(72057594037927935), Some(last));
+    assert_same(&rt, last.checked_add(-72057594037927935), Some(first));
+    assert_same(&rt, last.since(first), 72057594037927935);
 }
 
 #[test]
@@ -84,8 +85,8 @@ fn julian_years_start_on_known_days(rt: HostRuntime) {
         (-4712, -1721425),
     ];
     for (year, day) in cases {
-        assert!(rt; -8000000 <= year && year <= 8000000);
-        assert_eq!(rt; julian::year_start(year).to_i64_date(), day, "at {year}");
+        assert_year(&rt, year);
+        assert_at(&rt, year, julian::year_start(year).to_i64_date(), day);
     }
 }
 
@@ -101,8 +102,8 @@ fn julian_centuries_are_leap(rt: HostRuntime) {
         (-100, true),
     ];
     for (year, is_leap) in cases {
-        assert!(rt; -8000000 <= year && year <= 8000000);
-        assert_eq!(rt; julian::is_leap_year(year), is_leap, "at {year}");
+        assert_year(&rt, year);
+        assert_at(&rt, year, julian::is_leap_year(year), is_leap);
     }
 }
 
@@ -122,12 +123,8 @@ fn days_lie_in_known_julian_years(rt: HostRuntime) {
         (365242134, 999979),
     ];
     for (day, year) in cases {
-        assert!(rt; -365242499 <= day && day <= 365242134);
-        assert_eq!(rt;
-            julian::year_from_fixed(RataDie::new(day)),
-            year,
-            "at {day}"
-        );
+        assert_day(&rt, day);
+        assert_at(&rt, day, julian::year_from_fixed(RataDie::new(day)), year);
     }
 }
 
@@ -142,12 +139,12 @@ fn tabular_islamic_years_start_on_known_days(rt: HostRuntime) {
         (1446, 739075, false),
     ];
     for (year, day, is_leap) in cases {
-        assert!(rt; -8000000 <= year && year <= 8000000);
+        assert_year(&rt, year);
         let friday = islamic::year_start(year, islamic::FRIDAY_EPOCH);
         let thursday = islamic::year_start(year, islamic::THURSDAY_EPOCH);
-        assert_eq!(rt; friday.to_i64_date(), day, "at {year}");
-        assert_eq!(rt; thursday.to_i64_date(), day - 1, "at {year}");
-        assert_eq!(rt; islamic::is_leap_year(year), is_leap, "at {year}");
+        assert_at(&rt, year, friday.to_i64_date(), day);
+        assert_at(&rt, year, thursday.to_i64_date(), day - 1);
+        assert_at(&rt, year, islamic::is_leap_year(year), is_leap);
     }
 }
 
@@ -163,19 +160,21 @@ fn mean_islamic_years_are_rounded_toward_year_1(rt: HostRuntime) {
         (-29, 216383, 216384),
     ];
     for (year, eve, day) in cases {
-        assert!(rt; -8000000 <= year && year <= 8000000);
-        assert_eq!(rt; islamic::mean_start(year).to_i64_date(), day, "at {year}");
-        assert!(rt; -365242499 <= eve && eve <= 365242134);
-        assert!(rt; -365242499 <= day && day <= 365242134);
-        assert_eq!(rt;
+        assert_year(&rt, year);
+        assert_at(&rt, year, islamic::mean_start(year).to_i64_date(), day);
+        assert_day(&rt, eve);
+        assert_day(&rt, day);
+        assert_at(
+            &rt,
+            day,
             islamic::mean_year_from_fixed(RataDie::new(day)),
             year,
-            "at {day}"
         );
-        assert_eq!(rt;
+        assert_at(
+            &rt,
+            eve,
             islamic::mean_year_from_fixed(RataDie::new(eve)),
             year - 1,
-            "on {eve}"
         );
     }
 }

@@ -1,5 +1,6 @@
 //! Small texts.
 
+use crate::tests::expected::{assert_holds, assert_same};
 use cal_types::{TinyAsciiStr, TinyStrError};
 
 #[test]
@@ -7,12 +8,12 @@ fn texts_are_held(rt: HostRuntime) {
     for text in ["", "a", "ce", "M05L", "\u{1}\u{7f}"] {
         let tiny = TinyAsciiStr::<4>::try_from_utf8(text.as_bytes());
         if let Ok(tiny) = tiny {
-            assert_eq!(rt; tiny.as_str(), text);
-            assert_eq!(rt; tiny.as_bytes(), text.as_bytes());
-            assert_eq!(rt; tiny.len(), text.len());
-            assert_eq!(rt; tiny.resize::<16>().as_str(), text);
+            assert_same(&rt, tiny.as_str(), text);
+            assert_same(&rt, tiny.as_bytes(), text.as_bytes());
+            assert_same(&rt, tiny.len(), text.len());
+            assert_same(&rt, tiny.resize::<16>().as_str(), text);
         } else {
-            assert!(rt; false);
+            assert_holds(&rt, text, false);
         }
     }
 }
@@ -20,26 +21,30 @@ fn texts_are_held(rt: HostRuntime) {
 #[test]
 fn texts_are_filled_with_zeros(rt: HostRuntime) {
     let tiny = TinyAsciiStr::<8>::try_from_utf8(b"reiwa");
-    assert_eq!(rt; tiny.map(|t| *t.all_bytes()), Ok(*b"reiwa\0\0\0"));
+    assert_same(&rt, tiny.map(|t| *t.all_bytes()), Ok(*b"reiwa\0\0\0"));
 }
 
 #[test]
 fn a_long_text_is_refused_before_its_bytes_are_looked_at(rt: HostRuntime) {
-    assert_eq!(rt;
+    assert_same(
+        &rt,
         TinyAsciiStr::<4>::try_from_utf8(b"abcde"),
-        Err(TinyStrError::TooLong)
+        Err(TinyStrError::TooLong),
     );
-    assert_eq!(rt;
+    assert_same(
+        &rt,
         TinyAsciiStr::<4>::try_from_utf8(b"abcd\xff"),
-        Err(TinyStrError::TooLong)
+        Err(TinyStrError::TooLong),
     );
-    assert_eq!(rt;
+    assert_same(
+        &rt,
         TinyAsciiStr::<4>::try_from_utf8(b"abc\x80"),
-        Err(TinyStrError::NonAscii)
+        Err(TinyStrError::NonAscii),
     );
-    assert_eq!(rt;
+    assert_same(
+        &rt,
         TinyAsciiStr::<4>::try_from_utf8(b"a\0"),
-        Err(TinyStrError::NonAscii)
+        Err(TinyStrError::NonAscii),
     );
 }
 
@@ -50,11 +55,11 @@ fn texts_are_compared_as_texts(rt: HostRuntime) {
         let low = TinyAsciiStr::<4>::try_from_utf8(texts[i - 1]);
         let high = TinyAsciiStr::<4>::try_from_utf8(texts[i]);
         if let (Ok(low), Ok(high)) = (low, high) {
-            assert!(rt; low < high);
-            assert!(rt; low != high);
-            assert_eq!(rt; low, low);
+            assert_holds(&rt, i, low < high);
+            assert_holds(&rt, i, low != high);
+            assert_same(&rt, low, low);
         } else {
-            assert!(rt; false);
+            assert_holds(&rt, i, false);
         }
     }
 }

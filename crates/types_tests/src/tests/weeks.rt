@@ -1,5 +1,6 @@
 //! Days of the week, sets of them, weekends and weeks of a month.
 
+use crate::tests::expected::{assert_at, assert_day, assert_same};
 use cal_days::RataDie;
 use cal_types::{DayOfMonth, DayOfWeekInMonth, WeekInformation, Weekday, WeekdaySet};
 
@@ -15,22 +16,33 @@ fn known_days_have_known_weekdays(rt: HostRuntime) {
         (-1, Weekday::Saturday),
         (-6, Weekday::Monday),
     ] {
-        assert!(rt; -1000000 <= number && number <= 1000000);
-        assert_eq!(rt; Weekday::from(RataDie::new(number)), want, "on {number}");
-        assert_eq!(rt; Weekday::from_days_since_sunday(number as isize), want);
+        assert_day(&rt, number);
+        assert_at(&rt, number, Weekday::from(RataDie::new(number)), want);
+        assert_at(
+            &rt,
+            number,
+            Weekday::from_days_since_sunday(number as isize),
+            want,
+        );
     }
-    assert_eq!(rt; (Weekday::Monday as u8, Weekday::Sunday as u8), (1, 7));
+    assert_same(&rt, (Weekday::Monday as u8, Weekday::Sunday as u8), (1, 7));
 }
 
 #[test]
 fn a_set_has_its_days_in_any_order(rt: HostRuntime) {
     let weekend = WeekdaySet::new(&[Weekday::Saturday, Weekday::Sunday]);
     let turned = WeekdaySet::new(&[Weekday::Sunday, Weekday::Saturday, Weekday::Sunday]);
-    assert_eq!(rt; weekend, turned);
-    assert!(rt; weekend != WeekdaySet::new(&[Weekday::Saturday]));
-    assert!(rt; weekend.contains(Weekday::Saturday) && weekend.contains(Weekday::Sunday));
-    assert!(rt; !weekend.contains(Weekday::Monday) && !weekend.contains(Weekday::Friday));
-    assert!(rt; !WeekdaySet::new(&[]).contains(Weekday::Sunday));
+    assert_same(&rt, weekend, turned);
+    assert_same(&rt, weekend == WeekdaySet::new(&[Weekday::Saturday]), false);
+    for (name, day, is_in_it) in [
+        ("Monday", Weekday::Monday, false),
+        ("Friday", Weekday::Friday, false),
+        ("Saturday", Weekday::Saturday, true),
+        ("Sunday", Weekday::Sunday, true),
+    ] {
+        assert_at(&rt, name, weekend.contains(day), is_in_it);
+    }
+    assert_same(&rt, WeekdaySet::new(&[]).contains(Weekday::Sunday), false);
 }
 
 #[test]
@@ -42,10 +54,10 @@ fn a_weekend_begins_with_the_first_of_its_days_in_the_week(rt: HostRuntime) {
         (Weekday::Saturday, [Weekday::Saturday, Weekday::Sunday]),
     ] {
         let mut left = WeekInformation::new(first, weekend).weekend();
-        assert_eq!(rt; left.next(), Some(days[0]));
-        assert_eq!(rt; left.next(), Some(days[1]));
-        assert_eq!(rt; left.next(), None);
-        assert_eq!(rt; left.next(), None);
+        assert_same(&rt, left.next(), Some(days[0]));
+        assert_same(&rt, left.next(), Some(days[1]));
+        assert_same(&rt, left.next(), None);
+        assert_same(&rt, left.next(), None);
     }
 }
 
@@ -53,15 +65,17 @@ fn a_weekend_begins_with_the_first_of_its_days_in_the_week(rt: HostRuntime) {
 fn a_week_without_a_weekend_has_no_days_of_it(rt: HostRuntime) {
     let none = WeekdaySet::new(&[]);
     let mut left = WeekInformation::new(Weekday::Monday, none).weekend();
-    assert_eq!(rt; left.next(), None);
+    assert_same(&rt, left.next(), None);
 }
 
 #[test]
 fn a_weekday_comes_again_after_seven_days(rt: HostRuntime) {
     for (day, want) in [(0, 1), (1, 1), (7, 1), (8, 2), (31, 5), (255, 37)] {
-        assert_eq!(rt;
+        assert_at(
+            &rt,
+            day,
             DayOfWeekInMonth::from(DayOfMonth(day)),
-            DayOfWeekInMonth(want)
+            DayOfWeekInMonth(want),
         );
     }
 }
