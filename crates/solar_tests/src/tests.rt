@@ -1,6 +1,7 @@
 //! Dates of which the days are known, eras and corrections that may be given, and defaults.
 
 mod ethiopian;
+mod expected;
 mod gregorian;
 mod julian;
 mod later_eras;

@@ -1,5 +1,6 @@
 //! Years in their eras, and known days from published conversion tables.
 
+use crate::tests::expected::{assert_at, assert_day, assert_holds, assert_same, refuse_fault};
 use cal_base::Calendar;
 use cal_days::RataDie;
 use cal_gregory::Gregorian;
@@ -38,13 +39,13 @@ fn years_are_named_in_their_eras(rt: HostRuntime) {
         match Gregorian.from_fields(fields(extended_year, Month::new(12), 31), REJECT) {
             Ok(date) => {
                 let named = Gregorian.year_info(&date);
-                assert_eq!(rt; named.era.as_str(), era, "at {extended_year}");
-                assert_eq!(rt; named.year, year, "at {extended_year}");
-                assert_eq!(rt; named.extended_year, extended_year);
-                assert_eq!(rt; named.era_index, Some(index), "at {extended_year}");
-                assert_eq!(rt; named.ambiguity, ambiguity, "at {extended_year}");
+                assert_at(&rt, extended_year, named.era.as_str(), era);
+                assert_at(&rt, extended_year, named.year, year);
+                assert_at(&rt, extended_year, named.extended_year, extended_year);
+                assert_at(&rt, extended_year, named.era_index, Some(index));
+                assert_at(&rt, extended_year, named.ambiguity, ambiguity);
             }
-            Err(cause) => assert!(rt; false, "{cause} at {extended_year}"),
+            Err(cause) => refuse_fault(&rt, extended_year, &cause),
         }
     }
 }
@@ -58,21 +59,22 @@ fn known_days_have_known_dates(rt: HostRuntime) {
         (-365242499, -999999, 1, 1),
         (365242134, 999999, 12, 31),
     ] {
-        assert!(rt; -365242499 <= number && number <= 365242134);
+        assert_day(&rt, number);
         let date = Gregorian.from_rata_die(RataDie::new(number));
-        assert_eq!(rt;
-            Gregorian.year_info(&date).extended_year,
-            year,
-            "at {number}"
+        assert_at(&rt, number, Gregorian.year_info(&date).extended_year, year);
+        assert_at(&rt, number, Gregorian.month(&date).ordinal, month);
+        assert_at(&rt, number, Gregorian.day_of_month(&date).0, day);
+        assert_at(
+            &rt,
+            number,
+            Gregorian.to_rata_die(&date).to_i64_date(),
+            number,
         );
-        assert_eq!(rt; Gregorian.month(&date).ordinal, month, "at {number}");
-        assert_eq!(rt; Gregorian.day_of_month(&date).0, day, "at {number}");
-        assert_eq!(rt; Gregorian.to_rata_die(&date).to_i64_date(), number);
         let same = Gregorian.from_fields(fields(year, Month::new(month), day), REJECT);
-        assert_eq!(rt; same, Ok(date), "at {number}");
+        assert_at(&rt, number, same, Ok(date));
     }
     let fault = Gregorian.from_fields(fields(2021, Month::leap(2), 1), REJECT);
-    assert_eq!(rt; fault, Err(DateFromFieldsError::MonthNotInCalendar));
+    assert_same(&rt, fault, Err(DateFromFieldsError::MonthNotInCalendar));
 }
 
 #[test]
@@ -83,27 +85,27 @@ fn days_back_are_counted(rt: HostRuntime) {
     let from = Gregorian.from_rata_die(RataDie::new(1155));
     let to = Gregorian.from_rata_die(RataDie::new(-1461));
     let between = Gregorian.until(&from, &to, days);
-    assert_eq!(rt; (between.is_negative, between.days), (true, 2616));
-    assert!(rt; to < from);
+    assert_same(&rt, (between.is_negative, between.days), (true, 2616));
+    assert_holds(&rt, "the order of dates", to < from);
 }
 
 #[test]
 fn a_date_is_made_compared_and_added_to(rt: HostRuntime) {
     let made = Gregorian.new_date(YearInput::Extended(2020), Month::new(2), 29);
     let leap_day = Gregorian.from_rata_die(RataDie::new(737484));
-    assert_eq!(rt; made, Ok(leap_day));
-    assert!(rt; Gregorian.owns(&leap_day));
-    assert!(rt; Gregorian.is_in_leap_year(&leap_day));
+    assert_same(&rt, made, Ok(leap_day));
+    assert_holds(&rt, "its own date", Gregorian.owns(&leap_day));
+    assert_holds(&rt, "the leap year", Gregorian.is_in_leap_year(&leap_day));
     let year = DateDuration::for_years(1);
     let last = Gregorian.from_rata_die(RataDie::new(737849));
     let constrained = Gregorian.add(&leap_day, year, DateAddOptions::default());
-    assert_eq!(rt; constrained, Ok(last));
+    assert_same(&rt, constrained, Ok(last));
     let months = DateDifferenceOptions {
         largest_unit: Some(DateDurationUnit::Months),
     };
     let between = Gregorian.until(&leap_day, &last, months);
-    assert_eq!(rt; (between.months, between.days), (11, 30));
+    assert_same(&rt, (between.months, between.days), (11, 30));
     let algorithm = Gregorian.calendar_algorithm();
-    assert_eq!(rt; algorithm, Some(CalendarAlgorithm::Gregory));
-    assert_eq!(rt; Gregorian.debug_name(), "Gregorian");
+    assert_same(&rt, algorithm, Some(CalendarAlgorithm::Gregory));
+    assert_same(&rt, Gregorian.debug_name(), "Gregorian");
 }

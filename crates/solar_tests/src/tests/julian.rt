@@ -1,5 +1,6 @@
 //! Each call of the calendar, on dates of which the days are known.
 
+use crate::tests::expected::{assert_at, assert_day, assert_holds, assert_same};
 use cal_base::{AsCalendar, Calendar, Iso};
 use cal_days::RataDie;
 use cal_julian::Julian;
@@ -68,29 +69,25 @@ fn a_day_has_its_date_and_its_year_in_an_era(rt: HostRuntime) {
             EraAndCenturyRequired,
         ),
     ] {
-        assert!(rt; -365242499 <= day && day <= 365242134);
+        assert_day(&rt, day);
         let date = Julian.from_rata_die(RataDie::new(day));
-        assert!(rt; Julian.owns(&date), "on {day}");
-        assert_eq!(rt; Julian.to_rata_die(&date).to_i64_date(), day);
-        assert_eq!(rt; Julian.extended_year(&date), year, "on {day}");
-        let shown = Julian.month(&date);
-        assert_eq!(rt;
-            (shown.ordinal, shown.number(), shown.is_leap()),
-            (month, month, false)
-        );
-        assert_eq!(rt; Julian.day_of_month(&date).0, day_of_month, "on {day}");
-        assert_eq!(rt; Julian.day_of_year(&date).0, day_of_year, "on {day}");
-        assert_eq!(rt; Julian.days_in_year(&date), days, "on {day}");
-        assert_eq!(rt; Julian.is_in_leap_year(&date), days == 366, "on {day}");
-        assert_eq!(rt; Julian.months_in_year(&date), 12, "on {day}");
+        assert_at(&rt, day, Julian.owns(&date), true);
+        assert_at(&rt, day, Julian.to_rata_die(&date).to_i64_date(), day);
+        assert_at(&rt, day, Julian.extended_year(&date), year);
+        let shown = &Julian.month(&date);
+        assert_at(&rt, day, shown.ordinal, month);
+        assert_at(&rt, day, shown.number(), month);
+        assert_at(&rt, day, shown.is_leap(), false);
+        assert_at(&rt, day, Julian.day_of_month(&date).0, day_of_month);
+        assert_at(&rt, day, Julian.day_of_year(&date).0, day_of_year);
+        assert_at(&rt, day, Julian.days_in_year(&date), days);
+        assert_at(&rt, day, Julian.is_in_leap_year(&date), days == 366);
+        assert_at(&rt, day, Julian.months_in_year(&date), 12);
         let named = Julian.year_info(&date);
-        assert_eq!(rt; named.era.as_str(), era, "on {day}");
-        assert_eq!(rt;
-            (named.year, named.era_index),
-            (era_year, Some(index)),
-            "on {day}"
-        );
-        assert_eq!(rt; named.ambiguity, ambiguity, "on {day}");
+        assert_at(&rt, day, named.era.as_str(), era);
+        assert_at(&rt, day, named.year, era_year);
+        assert_at(&rt, day, named.era_index, Some(index));
+        assert_at(&rt, day, named.ambiguity, ambiguity);
     }
 }
 
@@ -112,8 +109,8 @@ fn fields_name_a_date_or_have_a_first_fault(rt: HostRuntime) {
             missing_fields_strategy: None,
         };
         match Julian.from_fields(fields(year, month, day), options) {
-            Ok(date) => assert_eq!(rt; Ok(Julian.to_rata_die(&date).to_i64_date()), want),
-            Err(cause) => assert_eq!(rt; Err(cause), want, "in {year}"),
+            Ok(date) => assert_at(&rt, year, Ok(Julian.to_rata_die(&date).to_i64_date()), want),
+            Err(cause) => assert_at(&rt, year, Err(cause), want),
         }
     }
 }
@@ -128,7 +125,7 @@ fn a_year_a_month_and_a_day_make_a_date_or_have_a_first_fault(rt: HostRuntime) {
         (2021, Month::leap(2), 1, Err(MonthNotInCalendar)),
         (-10000, Month::new(12), 19, Err(InvalidYear)),
     ] {
-        assert_eq!(rt; Julian.new_date(year.into(), month, day), want, "in {year}");
+        assert_at(&rt, year, Julian.new_date(year.into(), month, day), want);
     }
 }
 
@@ -156,14 +153,14 @@ fn a_sum_is_a_known_day(rt: HostRuntime) {
             Err(OutOfRange),
         ),
     ] {
-        assert!(rt; -365242499 <= day && day <= 365242134);
+        assert_day(&rt, day);
         let date = Julian.from_rata_die(RataDie::new(day));
         let options = DateAddOptions {
             overflow: Some(overflow),
         };
         match Julian.add(&date, added, options) {
-            Ok(sum) => assert_eq!(rt; Ok(Julian.to_rata_die(&sum).to_i64_date()), want),
-            Err(cause) => assert_eq!(rt; Err(cause), want, "from {day}"),
+            Ok(sum) => assert_at(&rt, day, Ok(Julian.to_rata_die(&sum).to_i64_date()), want),
+            Err(cause) => assert_at(&rt, day, Err(cause), want),
         }
     }
 }
@@ -185,19 +182,20 @@ fn a_difference_is_a_known_duration(rt: HostRuntime) {
             duration(false, 0, 0, 0, 730484633),
         ),
     ] {
-        assert!(rt; -365242499 <= first && first <= 365242134);
-        assert!(rt; -365242499 <= second && second <= 365242134);
+        assert_day(&rt, first);
+        assert_day(&rt, second);
         let from = Julian.from_rata_die(RataDie::new(first));
         let to = Julian.from_rata_die(RataDie::new(second));
         let options = DateDifferenceOptions {
             largest_unit: Some(unit),
         };
-        assert_eq!(rt;
+        assert_at(
+            &rt,
+            (first, second),
             Julian.until(&from, &to, options),
             want,
-            "from {first} to {second}"
         );
-        assert_eq!(rt; from < to, first < second, "from {first} to {second}");
+        assert_at(&rt, (first, second), from < to, first < second);
     }
 }
 
@@ -209,23 +207,25 @@ fn an_iso_date_is_on_the_same_day(rt: HostRuntime) {
         (-365242499, -999999, 1, 1),
         (365242134, 999999, 12, 31),
     ] {
-        assert!(rt; -365242499 <= number && number <= 365242134);
+        assert_day(&rt, number);
         let date = Julian.from_rata_die(RataDie::new(number));
         let iso = Julian.to_iso(&date);
-        assert_eq!(rt;
-            (Iso.extended_year(&iso), Iso.month(&iso).ordinal),
-            (year, month)
-        );
-        assert_eq!(rt; Iso.day_of_month(&iso).0, day, "on {number}");
-        assert_eq!(rt; Julian.from_iso(iso), date, "on {number}");
+        assert_at(&rt, number, Iso.extended_year(&iso), year);
+        assert_at(&rt, number, Iso.month(&iso).ordinal, month);
+        assert_at(&rt, number, Iso.day_of_month(&iso).0, day);
+        assert_at(&rt, number, Julian.from_iso(iso), date);
     }
 }
 
 #[test]
 fn the_calendar_names_itself(rt: HostRuntime) {
-    assert_eq!(rt; Julian::new().debug_name(), "Julian");
-    assert_eq!(rt; Julian.calendar_algorithm(), None);
-    assert_eq!(rt; Julian.has_cheap_iso_conversion(), false);
-    assert!(rt; Julian.check_date_compatibility(&Julian).is_ok());
-    assert_eq!(rt; *Julian.as_calendar(), Julian::default());
+    assert_same(&rt, Julian::new().debug_name(), "Julian");
+    assert_same(&rt, Julian.calendar_algorithm(), None);
+    assert_same(&rt, Julian.has_cheap_iso_conversion(), false);
+    assert_holds(
+        &rt,
+        "its own dates",
+        Julian.check_date_compatibility(&Julian).is_ok(),
+    );
+    assert_same(&rt, *Julian.as_calendar(), Julian::default());
 }

@@ -1,5 +1,6 @@
 //! An era after Reiwa, listed and read.
 
+use crate::tests::expected::{assert_at, assert_day, assert_holds, assert_same};
 use cal_base::Calendar;
 use cal_days::RataDie;
 use cal_gregory::{EraStartDate, Japanese, JapaneseEras};
@@ -20,11 +21,11 @@ fn eras_with(start: EraStartDate, code: &[u8], index: u8) -> Option<JapaneseEras
 fn an_era_after_reiwa_is_listed_last(rt: HostRuntime) {
     let made = eras_with(start(2086, 11, 1), b"fuzu", 8);
     let eras = made.expect(&rt, "the era may be listed");
-    assert_eq!(rt; eras.eras().count(), 6);
+    assert_same(&rt, eras.eras().count(), 6);
     let last = eras.eras().next_back().expect(&rt, "there is an era");
-    assert!(rt; last.0 == start(2086, 11, 1));
-    assert_eq!(rt; last.1.as_str(), "fuzu");
-    assert_eq!(rt; last.2, 8);
+    assert_holds(&rt, "the start", last.0 == start(2086, 11, 1));
+    assert_same(&rt, last.1.as_str(), "fuzu");
+    assert_same(&rt, last.2, 8);
 }
 
 #[test]
@@ -32,15 +33,15 @@ fn days_about_the_start_of_a_last_era_are_in_their_eras(rt: HostRuntime) {
     let made = eras_with(start(2086, 11, 1), b"fuzu", 8);
     let japanese = Japanese::with_eras(made.expect(&rt, "the era may be listed"));
     for (day, era, year) in [(761835, "reiwa", 68), (761836, "fuzu", 1)] {
-        assert!(rt; -365242499 <= day && day <= 365242134);
+        assert_day(&rt, day);
         let date = japanese.from_rata_die(RataDie::new(day));
         let named = japanese.year_info(&date);
-        assert_eq!(rt; named.era.as_str(), era, "on {day}");
-        assert_eq!(rt; named.year, year, "on {day}");
+        assert_at(&rt, day, named.era.as_str(), era);
+        assert_at(&rt, day, named.year, year);
     }
     let made = japanese.new_date(YearInput::EraYear("fuzu", 1), Month::new(11), 1);
     let date = made.expect(&rt, "the date is there");
-    assert_eq!(rt; japanese.to_rata_die(&date).to_i64_date(), 761836);
+    assert_same(&rt, japanese.to_rata_die(&date).to_i64_date(), 761836);
 }
 
 #[test]
@@ -50,7 +51,8 @@ fn an_era_before_2026_lists_those_up_to_reiwa(rt: HostRuntime) {
         (start(2019, 5, 1), b"reiwa".as_slice(), 6),
         (start(-1, 0, 99), b"".as_slice(), 0),
     ] {
-        assert!(rt; eras_with(last, text, index) == Some(JapaneseEras::up_to_reiwa()));
+        let eras = eras_with(last, text, index);
+        assert_holds(&rt, index, eras == Some(JapaneseEras::up_to_reiwa()));
     }
 }
 
@@ -67,9 +69,9 @@ fn an_era_that_cannot_be_the_last_is_refused(rt: HostRuntime) {
         (start(2030, 4, 1), b"".as_slice(), 7),
         (start(2030, 4, 1), b"aBc".as_slice(), 7),
     ] {
-        assert!(rt; eras_with(last, text, index).is_none());
+        assert_holds(&rt, (text, index), eras_with(last, text, index).is_none());
     }
     for last in [start(2026, 1, 1), start(2089, 15, 31)] {
-        assert!(rt; eras_with(last, b"abcdefgz", 7).is_some());
+        assert_holds(&rt, last.year, eras_with(last, b"abcdefgz", 7).is_some());
     }
 }

@@ -1,5 +1,6 @@
 //! Years that a Persian calendar may correct, and those that it may not.
 
+use crate::tests::expected::{assert_at, assert_holds};
 use cal_base::Calendar;
 use cal_julian::{Persian, PersianCorrections};
 use cal_types::{Month, TableFault, TablePart, YearInput};
@@ -15,9 +16,13 @@ const CORRECTED_YEARS: [i32; 78] = [
 
 #[test]
 fn leap_years_of_the_rule_that_rise_are_accepted(rt: HostRuntime) {
-    assert!(rt; PersianCorrections::try_new(&[]).is_ok());
-    assert!(rt; PersianCorrections::try_new(&[1502]).is_ok());
-    assert!(rt; PersianCorrections::try_new(&CORRECTED_YEARS).is_ok());
+    assert_holds(&rt, "no year", PersianCorrections::try_new(&[]).is_ok());
+    assert_holds(&rt, "1502", PersianCorrections::try_new(&[1502]).is_ok());
+    assert_holds(
+        &rt,
+        "the years to 3000",
+        PersianCorrections::try_new(&CORRECTED_YEARS).is_ok(),
+    );
 }
 
 /// 1403 is a leap year by the rule and 1404 isn't.
@@ -32,7 +37,7 @@ fn years_are_refused_for_their_first_fault(rt: HostRuntime) {
         ([1502, 1601, 1602].as_slice(), 3, TablePart::Rule),
     ] {
         let fault = PersianCorrections::try_new(years).err();
-        assert!(rt; fault == Some(TableFault { row, part }));
+        assert_at(&rt, years, fault, Some(TableFault { row, part }));
     }
 }
 
@@ -45,9 +50,9 @@ fn a_corrected_year_leaves_its_last_day_to_the_next_year(rt: HostRuntime) {
     for (calendar, days, start) in [(corrected, 29, 775489), (plain, 30, 775490)] {
         let made = calendar.new_date(YearInput::Extended(1502), Month::new(12), 1);
         let date = made.expect(&rt, "the date is there");
-        assert_eq!(rt; calendar.days_in_month(&date), days);
+        assert_at(&rt, days, calendar.days_in_month(&date), days);
         let made = calendar.new_date(YearInput::Extended(1503), Month::new(1), 1);
         let date = made.expect(&rt, "the date is there");
-        assert_eq!(rt; calendar.to_rata_die(&date).to_i64_date(), start);
+        assert_at(&rt, days, calendar.to_rata_die(&date).to_i64_date(), start);
     }
 }
