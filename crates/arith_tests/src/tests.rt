@@ -3,6 +3,7 @@
 mod calendars;
 mod counted_look_ups;
 mod dates;
+mod expected;
 mod made_dates;
 mod placed_dates;
 mod shown_dates;

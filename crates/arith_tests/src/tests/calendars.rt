@@ -6,6 +6,7 @@ ghost use Rattle.cal_days.specs.Day.{IsValidDay};
 
 mod counted_years;
 
+use crate::tests::expected::{assert_at, assert_day, assert_holds, assert_same};
 use cal_arith::Steps;
 use cal_base::{AsCalendar, Calendar, Iso, Ref};
 use cal_days::RataDie;
@@ -16,6 +17,7 @@ use cal_types::{
 };
 use counted_years::minguo;
 use std::marker::Brand;
+use std::process::Abort;
 use std::sync::ledger::{Blank, Ledger};
 
 /// The extended year, the month's place, the day of the month and the day of the year.
@@ -53,6 +55,21 @@ fn day_by_iso<C: Calendar>(cal: &C, rd: i64) -> (i64, bool)
     (cal.to_rata_die(&date).to_i64_date(), cal.owns(&date))
 }
 
+/// That a day has a date with these parts in a year of these lengths.
+fn assert_date<C: Calendar>(
+    rt: &impl Abort,
+    cal: &C,
+    rd: i64,
+    shown: (i32, u8, u8, u16),
+    expected_lengths: (u8, u16, u8, bool),
+)
+    requires { IsValidDay rd }
+{
+    assert_at(rt, rd, parts(cal, rd), shown);
+    assert_at(rt, rd, lengths(cal, rd), expected_lengths);
+    assert_at(rt, rd, day_by_iso(cal, rd), (rd, true));
+}
+
 #[test]
 fn a_day_has_its_date(rt: HostRuntime) {
     for (rd, iso, taiwanese, month, day, day_of_year, days, of_month, leap) in [
@@ -64,22 +81,17 @@ fn a_day_has_its_date(rt: HostRuntime) {
         (-365242499, -999999, -1001910, 1, 1, 1, 365, 31, false),
         (365242134, 999999, 998088, 12, 31, 365, 365, 31, false),
     ] {
-        assert!(rt; -365242499 <= rd && rd <= 365242134);
-        let counted = minguo();
-        assert_eq!(rt; parts(&Iso, rd), (iso, month, day, day_of_year), "at {rd}");
-        assert_eq!(rt;
-            parts(&counted, rd),
-            (taiwanese, month, day, day_of_year),
-            "at {rd}"
+        assert_day(&rt, rd);
+        let expected_lengths = (12, days, of_month, leap);
+        assert_date(
+            &rt,
+            &Iso,
+            rd,
+            (iso, month, day, day_of_year),
+            expected_lengths,
         );
-        assert_eq!(rt; lengths(&Iso, rd), (12, days, of_month, leap), "at {rd}");
-        assert_eq!(rt;
-            lengths(&counted, rd),
-            (12, days, of_month, leap),
-            "at {rd}"
-        );
-        assert_eq!(rt; day_by_iso(&Iso, rd), (rd, true));
-        assert_eq!(rt; day_by_iso(&counted, rd), (rd, true));
+        let shown = (taiwanese, month, day, day_of_year);
+        assert_date(&rt, &minguo(), rd, shown, expected_lengths);
     }
 }
 
@@ -109,6 +121,21 @@ fn resolved<C: Calendar>(
     };
     let date = cal.from_fields(fields, options)?;
     Ok(cal.to_rata_die(&date).to_i64_date())
+}
+
+/// What the same fields name in the ISO calendar and in the other one.
+fn assert_resolved(
+    rt: &impl Abort,
+    iso: i32,
+    taiwanese: i32,
+    month: Month,
+    day: u8,
+    overflow: Overflow,
+    want: Result<i64, DateFromFieldsError>,
+) {
+    assert_at(rt, iso, resolved(&Iso, iso, month, day, overflow), want);
+    let found = resolved(&minguo(), taiwanese, month, day, overflow);
+    assert_at(rt, iso, found, want);
 }
 
 #[test]
@@ -154,13 +181,22 @@ fn fields_name_a_date_or_have_a_first_fault(rt: HostRuntime) {
         ),
         (1040001, 1040001, Month::new(13), 0, Reject, Err(OutOfRange)),
     ] {
-        assert_eq!(rt; resolved(&Iso, iso, month, day, overflow), want, "at {iso}");
-        assert_eq!(rt;
-            resolved(&minguo(), taiwanese, month, day, overflow),
-            want,
-            "at {iso}"
-        );
+        assert_resolved(&rt, iso, taiwanese, month, day, overflow, want);
     }
+}
+
+/// What a year, a month and a day make in the ISO calendar and in the other one.
+fn assert_made(
+    rt: &impl Abort,
+    iso: i32,
+    taiwanese: i32,
+    month: Month,
+    day: u8,
+    want: Result<i64, DateNewError>,
+) {
+    assert_at(rt, iso, made(&Iso, iso.into(), month, day), want);
+    let found = made(&minguo(), taiwanese.into(), month, day);
+    assert_at(rt, iso, found, want);
 }
 
 #[test]
@@ -173,12 +209,7 @@ fn a_year_a_month_and_a_day_make_a_date_or_have_a_first_fault(rt: HostRuntime) {
         (2021, 110, Month::new(13), 0, Err(MonthNotInCalendar)),
         (10000, 10000, Month::new(13), 0, Err(InvalidYear)),
     ] {
-        assert_eq!(rt; made(&Iso, iso.into(), month, day), want, "at {iso}");
-        assert_eq!(rt;
-            made(&minguo(), taiwanese.into(), month, day),
-            want,
-            "at {iso}"
-        );
+        assert_made(&rt, iso, taiwanese, month, day, want);
     }
 }
 
@@ -207,6 +238,19 @@ fn sum<C: Calendar>(
     };
     let sum = cal.add(&date, duration, options)?;
     Ok(cal.to_rata_die(&sum).to_i64_date())
+}
+
+/// The sum of a day and a duration, in both calendars.
+fn assert_sum(
+    rt: &impl Abort,
+    rd: i64,
+    added: DateDuration,
+    overflow: Overflow,
+    want: Result<i64, DateAddError>,
+) {
+    assert_day(rt, rd);
+    assert_at(rt, rd, sum(&Iso, rd, added, overflow), want);
+    assert_at(rt, rd, sum(&minguo(), rd, added, overflow), want);
 }
 
 #[test]
@@ -250,9 +294,7 @@ fn a_sum_is_that_of_a_slow_count(rt: HostRuntime) {
             Err(OutOfRange),
         ),
     ] {
-        assert!(rt; -365242499 <= rd && rd <= 365242134);
-        assert_eq!(rt; sum(&Iso, rd, added, overflow), want, "at {rd}");
-        assert_eq!(rt; sum(&minguo(), rd, added, overflow), want, "at {rd}");
+        assert_sum(&rt, rd, added, overflow, want);
     }
 }
 
@@ -295,6 +337,37 @@ fn both_differences<C: Calendar>(
     differences::<C, Brand>(cal, from, to, unit, Blank::new(1))
 }
 
+/// The difference of two days, without a counter and with one.
+fn assert_differences<C: Calendar>(
+    rt: &impl Abort,
+    cal: &C,
+    from: i64,
+    to: i64,
+    unit: DateDurationUnit,
+    want: DateDuration,
+)
+    requires from { IsValidDay from }
+    requires to { IsValidDay to }
+{
+    let (uncounted, counted) = both_differences(cal, from, to, unit);
+    assert_at(rt, from, uncounted, want);
+    assert_at(rt, from, counted, want);
+}
+
+/// The difference of two days, in both calendars.
+fn assert_difference(
+    rt: &impl Abort,
+    from: i64,
+    to: i64,
+    unit: DateDurationUnit,
+    want: DateDuration,
+) {
+    assert_day(rt, from);
+    assert_day(rt, to);
+    assert_differences(rt, &Iso, from, to, unit, want);
+    assert_differences(rt, &minguo(), from, to, unit, want);
+}
+
 #[test]
 fn a_difference_is_that_of_a_slow_count(rt: HostRuntime) {
     use DateDurationUnit::{Days, Months, Weeks, Years};
@@ -312,18 +385,7 @@ fn a_difference_is_that_of_a_slow_count(rt: HostRuntime) {
             duration(false, 0, 0, 0, 730484633),
         ),
     ] {
-        assert!(rt; -365242499 <= from && from <= 365242134);
-        assert!(rt; -365242499 <= to && to <= 365242134);
-        assert_eq!(rt;
-            both_differences(&Iso, from, to, unit),
-            (want, want),
-            "at {from}"
-        );
-        assert_eq!(rt;
-            both_differences(&minguo(), from, to, unit),
-            (want, want),
-            "at {from}"
-        );
+        assert_difference(&rt, from, to, unit, want);
     }
 }
 
@@ -331,22 +393,24 @@ fn a_difference_is_that_of_a_slow_count(rt: HostRuntime) {
 fn a_year_and_a_month_have_their_names(rt: HostRuntime) {
     let date = Iso.from_rata_die(RataDie::new(-1461));
     let year = Iso.year_info(&date);
-    assert_eq!(rt; year.era.as_str(), "default");
-    assert_eq!(rt;
+    assert_same(&rt, year.era.as_str(), "default");
+    assert_same(
+        &rt,
         (year.year, year.extended_year, year.era_index),
-        (-4, -4, Some(0))
+        (-4, -4, Some(0)),
     );
-    assert_eq!(rt; year.ambiguity, YearAmbiguity::Unambiguous);
+    assert_same(&rt, year.ambiguity, YearAmbiguity::Unambiguous);
     let date = minguo().from_rata_die(RataDie::new(727443));
-    assert_eq!(rt;
+    assert_same(
+        &rt,
         minguo().year_info(&date).into_year_info().extended_year(),
-        81
+        81,
     );
     let month = minguo().month(&date);
-    assert_eq!(rt; (month.ordinal, month.to_input()), (9, Month::new(9)));
-    assert_eq!(rt; month.leap_status(), LeapStatus::Normal);
-    assert_eq!(rt; month.standard_code.0.as_str(), "M09");
-    assert_eq!(rt; month.formatting_code.0.as_str(), "M09");
+    assert_same(&rt, (month.ordinal, month.to_input()), (9, Month::new(9)));
+    assert_same(&rt, month.leap_status(), LeapStatus::Normal);
+    assert_same(&rt, month.standard_code.0.as_str(), "M09");
+    assert_same(&rt, month.formatting_code.0.as_str(), "M09");
 }
 
 /// The name of the calendar that a value leads to.
@@ -360,20 +424,26 @@ where
 #[test]
 fn a_calendar_and_its_dates_say_what_they_are(rt: HostRuntime) {
     let iso = Iso::new();
-    assert_eq!(rt;
-        (name_at(&iso), name_at(&Ref(&iso)), name_at(&minguo())),
-        ("ISO", "ISO", "counted")
+    assert_same(&rt, name_at(&iso), "ISO");
+    assert_same(&rt, name_at(&Ref(&iso)), "ISO");
+    assert_same(&rt, name_at(&minguo()), "counted");
+    assert_same(&rt, *Ref(&iso), Iso::default());
+    assert_same(&rt, iso.calendar_algorithm(), None);
+    assert_same(&rt, minguo().calendar_algorithm(), None);
+    let are_cheap = iso.has_cheap_iso_conversion() && minguo().has_cheap_iso_conversion();
+    assert_holds(&rt, "cheap conversions", are_cheap);
+    assert_holds(
+        &rt,
+        "its own dates",
+        iso.check_date_compatibility(&Iso).is_ok(),
     );
-    assert_eq!(rt; *Ref(&iso), Iso::default());
-    assert_eq!(rt;
-        (iso.calendar_algorithm(), minguo().calendar_algorithm()),
-        (None, None)
-    );
-    assert!(rt; iso.has_cheap_iso_conversion() && minguo().has_cheap_iso_conversion());
-    assert!(rt; iso.check_date_compatibility(&Iso).is_ok());
     let (first, second) = (
         iso.from_rata_die(RataDie::new(1)),
         iso.from_rata_die(RataDie::new(2)),
     );
-    assert!(rt; first < second && first == iso.from_rata_die(RataDie::new(1)));
+    assert_holds(
+        &rt,
+        "the order of dates",
+        first < second && first == iso.from_rata_die(RataDie::new(1)),
+    );
 }

@@ -6,6 +6,7 @@ ghost use Rattle.arith_tests.specs.AlternatingMonths.{alternating-lawful, altern
 ghost use Rattle.arith_tests.specs.AlternatingYears.{alternating_years, stored-year};
 
 use crate::alternating_months::{AlternatingMonths, AlternatingYear};
+use crate::tests::expected::{assert_at, assert_holds};
 use cal_arith::{ArithmeticDate, DateFieldsResolver, Steps, YearShapes, Years};
 use cal_days::RataDie;
 use cal_types::{
@@ -173,8 +174,8 @@ fn a_counted_difference_makes_no_other_look_ups(rt: HostRuntime) {
                 largest_unit: Some(unit),
             };
             let _ = difference::<Brand>(from, to, options, &cal, Blank::new(1));
-            assert_eq!(rt; cal.others.get(), 0);
-            assert!(rt; cal.counted.get() <= most);
+            assert_at(&rt, unit, cal.others.get(), 0);
+            assert_holds(&rt, unit, cal.counted.get() <= most);
         }
     }
 }

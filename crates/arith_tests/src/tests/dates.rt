@@ -1,6 +1,7 @@
 //! Dates of the small calendar.
 
 use crate::alternating_months::AlternatingMonths;
+use crate::tests::expected::{assert_at, assert_day, assert_same};
 use cal_arith::ArithmeticDate;
 use cal_arith::laws::{are_same_day, order_of_days};
 use cal_days::RataDie;
@@ -34,12 +35,12 @@ fn days_have_dates(rt: HostRuntime) {
         (-354, -1, 12, 29),
     ];
     for (number, year, month, day) in cases {
-        assert!(rt; -365242499 <= number && number <= 365242134);
+        assert_day(&rt, number);
         let date = ArithmeticDate::from_rata_die(RataDie::new(number), &cal);
-        assert_eq!(rt; date.year().number, year, "at {number}");
-        assert_eq!(rt; date.month(), month, "at {number}");
-        assert_eq!(rt; date.day(), day, "at {number}");
-        assert_eq!(rt; date.to_rata_die(&cal).to_i64_date(), number);
+        assert_at(&rt, number, date.year().number, year);
+        assert_at(&rt, number, date.month(), month);
+        assert_at(&rt, number, date.day(), day);
+        assert_at(&rt, number, date.to_rata_die(&cal).to_i64_date(), number);
     }
 }
 
@@ -54,24 +55,16 @@ fn a_day_is_clamped_after_the_months(rt: HostRuntime) {
     let Ok(two_months) = last.added(forward(0, 2, 0, 0), &cal, constrain) else {
         return;
     };
-    assert_eq!(rt; two_months.day(), 30);
+    assert_same(&rt, two_months.day(), 30);
     let Ok(one_month) = last.added(forward(0, 1, 0, 1), &cal, constrain) else {
         return;
     };
-    assert_eq!(rt; one_month.month(), 3);
-    assert_eq!(rt; one_month.day(), 1);
-    assert!(rt;
-        matches!(
-            last.added(forward(0, 1, 0, 1), &cal, reject),
-            Err(DateAddError::InvalidDay { max: 29 })
-        )
-    );
-    assert!(rt;
-        matches!(
-            last.added(forward(2080001, 0, 0, 0), &cal, reject),
-            Err(DateAddError::Overflow)
-        )
-    );
+    assert_same(&rt, one_month.month(), 3);
+    assert_same(&rt, one_month.day(), 1);
+    let fault = last.added(forward(0, 1, 0, 1), &cal, reject);
+    assert_same(&rt, fault, Err(DateAddError::InvalidDay { max: 29 }));
+    let fault = last.added(forward(2080001, 0, 0, 0), &cal, reject);
+    assert_same(&rt, fault, Err(DateAddError::Overflow));
 }
 
 #[test]
@@ -88,7 +81,7 @@ fn each_unit_has_its_difference(rt: HostRuntime) {
     ];
     for (largest_unit, want) in cases {
         let options = DateDifferenceOptions { largest_unit };
-        assert_eq!(rt; first.until(&second, &cal, options), want);
+        assert_at(&rt, largest_unit, first.until(&second, &cal, options), want);
     }
 }
 
@@ -101,9 +94,14 @@ fn dates_have_the_order_of_their_days(rt: HostRuntime) {
         (30, Ordering::Equal),
         (31, Ordering::Less),
     ] {
-        assert!(rt; -365242499 <= number && number <= 365242134);
+        assert_day(&rt, number);
         let second = ArithmeticDate::from_rata_die(RataDie::new(number), &cal);
-        assert_eq!(rt; order_of_days(&first, &second, &cal), order);
-        assert_eq!(rt; are_same_day(&first, &second, &cal), number == 30);
+        assert_at(&rt, number, order_of_days(&first, &second, &cal), order);
+        assert_at(
+            &rt,
+            number,
+            are_same_day(&first, &second, &cal),
+            number == 30,
+        );
     }
 }

@@ -1,6 +1,7 @@
 //! Dates of the small calendar, made of fields and of a year, a month and a day.
 
 use crate::alternating_months::AlternatingMonths;
+use crate::tests::expected::{assert_at, refuse_fault};
 use cal_arith::ArithmeticDate;
 use cal_types::{
     DateFields, DateFromFieldsError, DateFromFieldsOptions, DateNewError, Month, Overflow,
@@ -32,10 +33,8 @@ fn fields_name_dates(rt: HostRuntime) {
     ] {
         let fields = plain_fields(year, Month::new(month), day);
         match ArithmeticDate::from_fields(fields, with_overflow(overflow), &cal) {
-            Ok(date) => {
-                assert_eq!(rt; date.to_rata_die(&cal).to_i64_date(), number, "at {year}")
-            }
-            Err(cause) => assert!(rt; false, "{cause} at {year}"),
+            Ok(date) => assert_at(&rt, year, date.to_rata_die(&cal).to_i64_date(), number),
+            Err(cause) => refuse_fault(&rt, year, &cause),
         }
     }
 }
@@ -56,7 +55,7 @@ fn first_fault_of_fields_is_the_answer(rt: HostRuntime) {
     ] {
         let fields = plain_fields(year, month, day);
         let answer = ArithmeticDate::from_fields(fields, with_overflow(Some(overflow)), &cal);
-        assert_eq!(rt; answer, Err(want), "at {year}");
+        assert_at(&rt, year, answer, Err(want));
     }
 }
 
@@ -71,10 +70,8 @@ fn years_months_and_days_make_dates(rt: HostRuntime) {
         let input = YearInput::Extended(year);
         let month = Month::new(month);
         match ArithmeticDate::from_input_year_month_code_day(input, month, day, &cal) {
-            Ok(date) => {
-                assert_eq!(rt; date.to_rata_die(&cal).to_i64_date(), number, "at {year}")
-            }
-            Err(cause) => assert!(rt; false, "{cause} at {year}"),
+            Ok(date) => assert_at(&rt, year, date.to_rata_die(&cal).to_i64_date(), number),
+            Err(cause) => refuse_fault(&rt, year, &cause),
         }
     }
 }
@@ -94,6 +91,6 @@ fn first_fault_of_a_year_a_month_and_a_day_is_the_answer(rt: HostRuntime) {
         (Extended(1), Month::new(1), 0, InvalidDay { max: 30 }),
     ] {
         let answer = ArithmeticDate::from_input_year_month_code_day(year, month, day, &cal);
-        assert_eq!(rt; answer, Err(want));
+        assert_at(&rt, (year, day), answer, Err(want));
     }
 }

@@ -1,6 +1,7 @@
 //! Dates of the small calendar, made of a year, the place of a month and a day, and of an extended year and a month.
 
 use crate::alternating_months::AlternatingMonths;
+use crate::tests::expected::{assert_at, refuse_fault};
 use cal_arith::ArithmeticDate;
 use cal_types::{DateError, LunisolarDateError, Month, RangeError};
 
@@ -23,16 +24,16 @@ fn places_and_days_of_years_make_dates(rt: HostRuntime) {
         (-9999, 1, 1, -3539999),
     ] {
         match ArithmeticDate::from_year_month_day(year, month, day, &cal) {
-            Ok(date) => assert_eq!(rt; date.to_rata_die(&cal).to_i64_date(), number),
-            Err(cause) => assert!(rt; false, "{cause} at {year}"),
+            Ok(date) => assert_at(&rt, year, date.to_rata_die(&cal).to_i64_date(), number),
+            Err(cause) => refuse_fault(&rt, year, &cause),
         }
         match ArithmeticDate::from_era_year_month_day("am", year, month, day, &cal) {
-            Ok(date) => assert_eq!(rt; date.to_rata_die(&cal).to_i64_date(), number),
-            Err(cause) => assert!(rt; false, "{cause} at {year}"),
+            Ok(date) => assert_at(&rt, year, date.to_rata_die(&cal).to_i64_date(), number),
+            Err(cause) => refuse_fault(&rt, year, &cause),
         }
         match ArithmeticDate::try_from_ymd_lunisolar(year, Month::new(month), day, &cal) {
-            Ok(date) => assert_eq!(rt; date.to_rata_die(&cal).to_i64_date(), number),
-            Err(cause) => assert!(rt; false, "{cause} at {year}"),
+            Ok(date) => assert_at(&rt, year, date.to_rata_die(&cal).to_i64_date(), number),
+            Err(cause) => refuse_fault(&rt, year, &cause),
         }
     }
 }
@@ -49,9 +50,9 @@ fn first_argument_out_of_its_range_is_the_answer(rt: HostRuntime) {
         (2024, 1, 0, out_of_range("day", 0, 1, 30)),
     ] {
         let answer = ArithmeticDate::from_year_month_day(year, month, day, &cal);
-        assert_eq!(rt; answer, Err(want));
+        assert_at(&rt, year, answer, Err(want));
         let of_era = ArithmeticDate::from_era_year_month_day("am", year, month, day, &cal);
-        assert_eq!(rt; of_era, Err(DateError::from(want)));
+        assert_at(&rt, year, of_era, Err(DateError::from(want)));
     }
     for (era, year, want) in [
         (
@@ -62,7 +63,7 @@ fn first_argument_out_of_its_range_is_the_answer(rt: HostRuntime) {
         ("ce", 2024, DateError::UnknownEra),
     ] {
         let answer = ArithmeticDate::from_era_year_month_day(era, year, 0, 0, &cal);
-        assert_eq!(rt; answer, Err(want));
+        assert_at(&rt, year, answer, Err(want));
     }
 }
 
@@ -78,6 +79,6 @@ fn first_fault_of_a_lunisolar_date_is_the_answer(rt: HostRuntime) {
         (1, Month::new(1), 0, InvalidDay { max: 30 }),
     ] {
         let answer = ArithmeticDate::try_from_ymd_lunisolar(year, month, day, &cal);
-        assert_eq!(rt; answer, Err(want));
+        assert_at(&rt, year, answer, Err(want));
     }
 }
