@@ -1,4 +1,5 @@
 //! Known days and years, tables that are refused, and calendars over rules of a caller.
 
 mod east_asian;
+mod expected;
 mod hijri;

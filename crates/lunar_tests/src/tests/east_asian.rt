@@ -4,13 +4,15 @@
 
 ghost use Rattle.std.specs.Prelude.{pos};
 ghost use Rattle.cal_days.specs.Day.{IsBetween};
+ghost use Rattle.cal_east_asian.specs.MeanYears.{IsOffset};
 
 use crate::mean_rules::MeanRules;
+use crate::tests::expected::{assert_at, assert_day, assert_holds, assert_same, assert_year};
 use cal_base::Calendar;
 use cal_days::RataDie;
 use cal_east_asian::{
     ChineseTraditional, EastAsianTable, EastAsianTraditional, EastAsianTraditionalYear,
-    KoreanTraditional, Side, mean_year, qing_year,
+    KoreanTraditional, Rules, Side, mean_year, qing_year,
 };
 use cal_types::{
     DateDifferenceOptions, DateDurationUnit, DateFields, DateFromFieldsError,
@@ -30,6 +32,25 @@ fn long_months(year: EastAsianTraditionalYear) -> u16 {
     bits
 }
 
+/// That an offset from Greenwich is one of the rules.
+fn assert_offset(rt: &impl Abort, offset: i64)
+    ensures { IsOffset offset }
+{
+    assert!(rt; 27_940_000 <= offset && offset <= 32_400_000);
+}
+
+/// That a year starts on a day, and has this leap month, or 0 for none.
+fn assert_year_shape(
+    rt: &impl Abort,
+    found: EastAsianTraditionalYear,
+    year: i32,
+    new_year: i64,
+    leap_month: u8,
+) {
+    assert_at(rt, year, found.new_year().to_i64_date(), new_year);
+    assert_at(rt, year, found.leap_month().unwrap_or(0), leap_month);
+}
+
 #[test]
 fn mean_years_have_known_months(rt: HostRuntime) {
     for (offset, year, new_year, bits, leap_month) in [
@@ -45,13 +66,12 @@ fn mean_years_have_known_months(rt: HostRuntime) {
         (28_800_000, 8000000, 2921939679, 0b110101010101, 0),
         (32_400_000, 8000000, 2921939679, 0b101101010101, 0),
     ] {
-        assert!(rt; 27_940_000 <= offset && offset <= 32_400_000);
-        assert!(rt; -8000000 <= year && year <= 8000000);
+        assert_offset(&rt, offset);
+        assert_year(&rt, year);
         let found = mean_year(offset, year);
-        assert_eq!(rt; found.related_iso(), year);
-        assert_eq!(rt; found.new_year().to_i64_date(), new_year, "at {year}");
-        assert_eq!(rt; long_months(found), bits, "at {year}");
-        assert_eq!(rt; found.leap_month().unwrap_or(0), leap_month, "at {year}");
+        assert_at(&rt, year, found.related_iso(), year);
+        assert_year_shape(&rt, found, year, new_year, leap_month);
+        assert_at(&rt, year, long_months(found), bits);
     }
 }
 
@@ -65,11 +85,11 @@ fn days_lie_in_known_mean_years(rt: HostRuntime) {
         (27_940_000, -365242499, -1000000),
         (32_400_000, 365242134, 999999),
     ] {
-        assert!(rt; 27_940_000 <= offset && offset <= 32_400_000);
-        assert!(rt; -365242499 <= day && day <= 365242134);
+        assert_offset(&rt, offset);
+        assert_day(&rt, day);
         let calendar = EastAsianTraditional(MeanRules::new(offset));
         let date = calendar.from_rata_die(RataDie::new(day));
-        assert_eq!(rt; calendar.extended_year(&date), year, "at {day}");
+        assert_at(&rt, day, calendar.extended_year(&date), year);
     }
 }
 
@@ -90,15 +110,22 @@ fn qing_years_have_their_days_and_leap_months(rt: HostRuntime) {
         (1911, 697642, 7, 7),
     ] {
         let found = qing_year(year).expect(&rt, "the year is there");
-        assert_eq!(rt; found.new_year().to_i64_date(), new_year, "at {year}");
-        assert_eq!(rt; long_months(found).count_ones(), long, "at {year}");
-        assert_eq!(rt; found.leap_month().unwrap_or(0), leap_month, "at {year}");
+        assert_year_shape(&rt, found, year, new_year, leap_month);
+        assert_at(&rt, year, long_months(found).count_ones(), long);
     }
-    assert!(rt; qing_year(1899).is_none() && qing_year(1912).is_none());
+    assert_holds(
+        &rt,
+        "the years about them",
+        qing_year(1899).is_none() && qing_year(1912).is_none(),
+    );
 }
 
 /// The first day of a year, and the place of its leap month, or 0.
-fn start_and_leap_month<C: Calendar>(rt: &impl Abort, calendar: &C, year: i32) -> (i64, u8) {
+fn start_and_leap_month<R: Rules>(
+    rt: &impl Abort,
+    calendar: &EastAsianTraditional<R>,
+    year: i32,
+) -> (i64, u8) {
     let made = calendar.new_date(YearInput::Extended(year), Month::new(1), 1);
     let date = made.expect(rt, "the year has a first day");
     let mut leap_month = 0;
@@ -108,6 +135,18 @@ fn start_and_leap_month<C: Calendar>(rt: &impl Abort, calendar: &C, year: i32) -
         }
     }
     (calendar.to_rata_die(&date).to_i64_date(), leap_month)
+}
+
+/// That a year starts on a day and has a leap month in a place, or 0 for none.
+fn assert_computed_year<R: Rules>(
+    rt: &impl Abort,
+    calendar: &EastAsianTraditional<R>,
+    year: i32,
+    (first_day, leap_month): (i64, u8),
+) {
+    let found = start_and_leap_month(rt, calendar, year);
+    assert_at(rt, year, found.0, first_day);
+    assert_at(rt, year, found.1, leap_month);
 }
 
 /// In China and in Korea.
@@ -122,23 +161,21 @@ fn computed_years_change_at_1900_and_1912(rt: HostRuntime) {
         (1912, (698026, 0), (698026, 0)),
         (1938, (707505, 10), (707505, 11)),
     ] {
-        assert_eq!(rt;
-            start_and_leap_month(&rt, &china, year),
-            in_china,
-            "at {year}"
-        );
-        assert_eq!(rt;
-            start_and_leap_month(&rt, &korea, year),
-            in_korea,
-            "at {year}"
-        );
+        assert_computed_year(&rt, &china, year, in_china);
+        assert_computed_year(&rt, &korea, year, in_korea);
     }
 }
 
-/// The year of a day, in a calendar.
-fn year_on<C: Calendar>(rt: &impl Abort, calendar: &C, day: i64) -> i32 {
-    assert!(rt; -365242499 <= day && day <= 365242134);
-    calendar.extended_year(&calendar.from_rata_die(RataDie::new(day)))
+/// That a day lies in a year of a calendar.
+fn assert_year_on<R: Rules>(
+    rt: &impl Abort,
+    calendar: &EastAsianTraditional<R>,
+    day: i64,
+    year: i32,
+) {
+    assert_day(rt, day);
+    let date = calendar.from_rata_die(RataDie::new(day));
+    assert_at(rt, day, calendar.extended_year(&date), year);
 }
 
 #[test]
@@ -153,13 +190,19 @@ fn days_lie_in_known_computed_years(rt: HostRuntime) {
         (-365242499, -1000000),
         (365242134, 999999),
     ] {
-        assert_eq!(rt; year_on(&rt, &china, day), year, "on {day}");
-        assert_eq!(rt; year_on(&rt, &korea, day), year, "on {day}");
+        assert_year_on(&rt, &china, day, year);
+        assert_year_on(&rt, &korea, day, year);
     }
 }
 
-/// The months from the first day of a year to that of another, and whether they lead back.
-fn months_between<C: Calendar>(rt: &impl Abort, calendar: &C, from: i32, to: i32) -> (u32, bool) {
+/// That so many months lie between the first day of a year and that of another, and whether they lead back.
+fn assert_months<R: Rules>(
+    rt: &impl Abort,
+    calendar: &EastAsianTraditional<R>,
+    (from, to): (i32, i32),
+    months: u32,
+    is_negative: bool,
+) {
     let first = calendar.new_date(YearInput::Extended(from), Month::new(1), 1);
     let last = calendar.new_date(YearInput::Extended(to), Month::new(1), 1);
     let options = DateDifferenceOptions {
@@ -170,18 +213,19 @@ fn months_between<C: Calendar>(rt: &impl Abort, calendar: &C, from: i32, to: i32
         &last.expect(rt, "the year has a first day"),
         options,
     );
-    (passed.months, passed.is_negative)
+    assert_at(rt, from, passed.months, months);
+    assert_at(rt, from, passed.is_negative, is_negative);
 }
 
 #[test]
 fn months_of_computed_years_are_counted(rt: HostRuntime) {
     let china = ChineseTraditional::new(EastAsianTable::none(Side::China));
     let korea = KoreanTraditional::new(EastAsianTable::none(Side::Korea));
-    assert_eq!(rt; months_between(&rt, &china, 1900, 1912), (149, false));
-    assert_eq!(rt; months_between(&rt, &korea, 1900, 1901), (13, false));
-    assert_eq!(rt; months_between(&rt, &korea, 1912, 1911), (13, true));
-    assert_eq!(rt; months_between(&rt, &china, 1899, 1900), (12, false));
-    assert_eq!(rt; months_between(&rt, &china, 2024, 2026), (25, false));
+    assert_months(&rt, &china, (1900, 1912), 149, false);
+    assert_months(&rt, &korea, (1900, 1901), 13, false);
+    assert_months(&rt, &korea, (1912, 1911), 13, true);
+    assert_months(&rt, &china, (1899, 1900), 12, false);
+    assert_months(&rt, &china, (2024, 2026), 25, false);
 }
 
 /// By the mean years at 8 hours 2025 has the leap month 8 in the place 9, and the month before it is its base.
@@ -189,10 +233,10 @@ fn months_of_computed_years_are_counted(rt: HostRuntime) {
 fn leap_months_are_shown_over_any_rules(rt: HostRuntime) {
     let calendar = EastAsianTraditional(MeanRules::new(28_800_000));
     let first = calendar.from_rata_die(RataDie::new(739280));
-    assert_eq!(rt; calendar.extended_year(&first), 2025);
-    assert_eq!(rt; calendar.year_info(&first).year, 42);
-    assert_eq!(rt; calendar.months_in_year(&first), 13);
-    assert_eq!(rt; calendar.is_in_leap_year(&first), true);
+    assert_same(&rt, calendar.extended_year(&first), 2025);
+    assert_same(&rt, calendar.year_info(&first).year, 42);
+    assert_same(&rt, calendar.months_in_year(&first), 13);
+    assert_holds(&rt, "the leap year", calendar.is_in_leap_year(&first));
     for (month, ordinal, status) in [
         (Month::new(7), 7, LeapStatus::Normal),
         (Month::new(8), 8, LeapStatus::Base),
@@ -201,11 +245,11 @@ fn leap_months_are_shown_over_any_rules(rt: HostRuntime) {
     ] {
         let made = calendar.new_date(YearInput::Extended(2025), month, 1);
         let date = made.expect(&rt, "the month is there");
-        assert_eq!(rt; calendar.month(&date).ordinal, ordinal);
-        assert_eq!(rt; calendar.month(&date).leap_status(), status);
+        assert_at(&rt, ordinal, calendar.month(&date).ordinal, ordinal);
+        assert_at(&rt, ordinal, calendar.month(&date).leap_status(), status);
     }
     let absent = calendar.new_date(YearInput::Extended(2024), Month::leap(8), 1);
-    assert_eq!(rt; absent.is_ok(), false);
+    assert_same(&rt, absent.is_ok(), false);
 }
 
 /// A date belongs to the calendar of its own rules.
@@ -214,10 +258,10 @@ fn a_date_belongs_to_its_own_rules(rt: HostRuntime) {
     let eight = EastAsianTraditional(MeanRules::new(28_800_000));
     let nine = EastAsianTraditional(MeanRules::new(32_400_000));
     let date = eight.from_rata_die(RataDie::new(738926));
-    assert_eq!(rt; eight.owns(&date), true);
-    assert_eq!(rt; nine.owns(&date), false);
-    assert_eq!(rt; eight.check_date_compatibility(&nine).is_ok(), false);
-    assert_eq!(rt; eight.to_rata_die(&date).to_i64_date(), 738926);
+    assert_holds(&rt, "its own rules", eight.owns(&date));
+    assert_same(&rt, nine.owns(&date), false);
+    assert_same(&rt, eight.check_date_compatibility(&nine).is_ok(), false);
+    assert_same(&rt, eight.to_rata_die(&date).to_i64_date(), 738926);
 }
 
 /// A year is read from the first days of its months.
@@ -240,18 +284,42 @@ fn a_year_has_the_lengths_between_its_starts(rt: HostRuntime) {
         RataDie::new(739309),
     ];
     let year = EastAsianTraditionalYear::try_new(2024, starts, Some(3)).expect(&rt, "a year");
-    assert_eq!(rt; year.months(), 13);
-    assert_eq!(rt; year.month_len(1), 29);
-    assert_eq!(rt; year.month_len(2), 30);
-    assert_eq!(rt; year.leap_month(), Some(3));
-    assert_eq!(rt;
-        EastAsianTraditionalYear::try_new(2024, starts, Some(1)).is_some(),
-        false
-    );
-    assert_eq!(rt;
-        EastAsianTraditionalYear::try_new(2023, starts, None).is_some(),
-        false
-    );
+    assert_same(&rt, year.months(), 13);
+    assert_same(&rt, year.month_len(1), 29);
+    assert_same(&rt, year.month_len(2), 30);
+    assert_same(&rt, year.leap_month(), Some(3));
+    let with_an_early_leap_month = EastAsianTraditionalYear::try_new(2024, starts, Some(1));
+    assert_same(&rt, with_an_early_leap_month.is_some(), false);
+    let without_a_leap_month = EastAsianTraditionalYear::try_new(2023, starts, None);
+    assert_same(&rt, without_a_leap_month.is_some(), false);
+}
+
+/// That a day lies in the month in a place of its year.
+fn assert_ordinal<R: Rules>(
+    rt: &impl Abort,
+    calendar: &EastAsianTraditional<R>,
+    day: i64,
+    ordinal: u8,
+) {
+    assert_day(rt, day);
+    let date = calendar.from_rata_die(RataDie::new(day));
+    assert_at(rt, day, calendar.month(&date).ordinal, ordinal);
+}
+
+/// That a day has a year, a year of the cycle, a month and a day of the month.
+fn assert_date<R: Rules>(
+    rt: &impl Abort,
+    calendar: &EastAsianTraditional<R>,
+    day: i64,
+    (year, cycle): (i32, u8),
+    (month, day_of_month): (Month, u8),
+) {
+    assert_day(rt, day);
+    let date = calendar.from_rata_die(RataDie::new(day));
+    assert_at(rt, day, calendar.extended_year(&date), year);
+    assert_at(rt, day, calendar.year_info(&date).year, cycle);
+    assert_at(rt, day, calendar.month(&date).to_input(), month);
+    assert_at(rt, day, calendar.day_of_month(&date).0, day_of_month);
 }
 
 #[test]
@@ -264,19 +332,17 @@ fn days_have_known_dates_in_china_and_korea(rt: HostRuntime) {
         (693862, 1900, 37, Month::leap(8), 9, 1),
         (694216, 1901, 38, Month::new(8), 8, 1),
     ] {
-        assert!(rt; -365242499 <= day && day <= 365242134);
-        let date = china.from_rata_die(RataDie::new(day));
-        assert_eq!(rt; china.extended_year(&date), year);
-        assert_eq!(rt; china.year_info(&date).year, cycle, "on {day}");
-        assert_eq!(rt; china.month(&date).to_input(), month, "on {day}");
-        assert_eq!(rt; china.month(&date).ordinal, ordinal, "on {day}");
-        assert_eq!(rt; china.day_of_month(&date).0, day_of_month, "on {day}");
-        let there = korea.from_rata_die(RataDie::new(day));
-        assert_eq!(rt; korea.month(&there).ordinal, ordinal, "on {day}");
+        assert_date(&rt, &china, day, (year, cycle), (month, day_of_month));
+        assert_ordinal(&rt, &china, day, ordinal);
+        assert_ordinal(&rt, &korea, day, ordinal);
     }
-    assert_eq!(rt; china.debug_name(), "Chinese");
-    assert_eq!(rt; korea.debug_name(), "Korean");
-    assert_eq!(rt; china.check_date_compatibility(&china).is_ok(), true);
+    assert_same(&rt, china.debug_name(), "Chinese");
+    assert_same(&rt, korea.debug_name(), "Korean");
+    assert_holds(
+        &rt,
+        "the same table",
+        china.check_date_compatibility(&china).is_ok(),
+    );
 }
 
 /// From the leap month 8 of 1900 to the month 8 of 1901 no year has passed, since its plain month stands in for the
@@ -290,9 +356,9 @@ fn a_leap_month_counts_in_a_difference(rt: HostRuntime) {
         largest_unit: Some(DateDurationUnit::Years),
     };
     let passed = china.until(&from, &to, options);
-    assert_eq!(rt; passed.years, 0);
-    assert_eq!(rt; passed.months, 12);
-    assert_eq!(rt; passed.days, 0);
+    assert_same(&rt, passed.years, 0);
+    assert_same(&rt, passed.months, 12);
+    assert_same(&rt, passed.days, 0);
 }
 
 /// From the first valid day to the last one there are as many months as mean moons, by a program in Python that
@@ -307,13 +373,13 @@ fn months_are_counted_over_all_valid_days(rt: HostRuntime) {
     let first = china.from_rata_die(RataDie::new(-365242499));
     let last = china.from_rata_die(RataDie::new(365242134));
     let passed = china.until(&first, &last, options);
-    assert_eq!(rt; passed.months, 24736541);
-    assert_eq!(rt; passed.days, 11);
+    assert_same(&rt, passed.months, 24736541);
+    assert_same(&rt, passed.days, 11);
     let first = korea.from_rata_die(RataDie::new(-365242499));
     let last = korea.from_rata_die(RataDie::new(365242134));
     let passed = korea.until(&first, &last, options);
-    assert_eq!(rt; passed.months, 24736541);
-    assert_eq!(rt; passed.days, 11);
+    assert_same(&rt, passed.months, 24736541);
+    assert_same(&rt, passed.days, 11);
 }
 
 /// A leap month 1 has no reference year, and leaves its place to the month 1 under Constrain alone.
@@ -336,7 +402,7 @@ fn a_leap_month_without_a_reference_year_is_constrained(rt: HostRuntime) {
         };
         let made = china.from_fields(fields, options);
         let date = made.expect(&rt, "the date is there");
-        assert_eq!(rt; china.extended_year(&date), year);
+        assert_at(&rt, year, china.extended_year(&date), year);
     }
     let fields = DateFields {
         month: Some(Month::leap(1)),
@@ -348,7 +414,7 @@ fn a_leap_month_without_a_reference_year_is_constrained(rt: HostRuntime) {
         missing_fields_strategy: Some(MissingFieldsStrategy::Ecma),
     };
     let refused = china.from_fields(fields, options).err();
-    assert_eq!(rt; refused, Some(DateFromFieldsError::MonthNotInYear));
+    assert_same(&rt, refused, Some(DateFromFieldsError::MonthNotInYear));
 }
 
 /// The day so many days after another.
@@ -415,13 +481,33 @@ fn a_row_takes_the_place_of_a_computed_year(rt: HostRuntime) {
     let computed = ChineseTraditional::new(EastAsianTable::none(Side::China));
     let last = RataDie::new(698055);
     let date = china.from_rata_die(last);
-    assert_eq!(rt; china.month(&date).ordinal, 1);
-    assert_eq!(rt; china.day_of_month(&date).0, 30);
-    assert_eq!(rt; computed.month(&computed.from_rata_die(last)).ordinal, 2);
-    assert!(rt; china.check_date_compatibility(&china).is_ok());
-    assert!(rt; china.check_date_compatibility(&computed).is_err());
+    assert_same(&rt, china.month(&date).ordinal, 1);
+    assert_same(&rt, china.day_of_month(&date).0, 30);
+    assert_same(
+        &rt,
+        computed.month(&computed.from_rata_die(last)).ordinal,
+        2,
+    );
+    assert_holds(
+        &rt,
+        "the same table",
+        china.check_date_compatibility(&china).is_ok(),
+    );
+    assert_holds(
+        &rt,
+        "another table",
+        china.check_date_compatibility(&computed).is_err(),
+    );
     let korea = EastAsianTable::try_new(Side::Korea, &rows);
-    assert!(rt; korea.is_ok());
+    assert_holds(&rt, "Korea", korea.is_ok());
+}
+
+/// That a year may start on a day, and its last month have so many.
+fn assert_start_and_end(rt: &impl Abort, first: i64, last: i64)
+    ensures first { IsBetween (pos 0) (pos 4000000) first }
+    ensures last { IsBetween (pos 29) (pos 30) last }
+{
+    assert!(rt; 0 <= first && first <= 4000000 && 29 <= last && last <= 30);
 }
 
 #[test]
@@ -433,14 +519,10 @@ fn a_single_row_is_refused_for_its_first_fault(rt: HostRuntime) {
         (1911, 697642, 30, TablePart::Year),
         (10000, 3652079, 29, TablePart::Year),
     ] {
-        assert!(rt; 0 <= first && first <= 4000000);
-        assert!(rt; 29 <= last && last <= 30);
+        assert_start_and_end(&rt, first, last);
         let row = year_by_turns(related_iso, first, last).expect(&rt, "the year is there");
         let fault = EastAsianTable::try_new(Side::China, &[row]).err();
-        assert!(rt;
-            fault == Some(TableFault { row: 1, part }),
-            "at {related_iso}"
-        );
+        assert_at(&rt, related_iso, fault, Some(TableFault { row: 1, part }));
     }
 }
 
@@ -478,6 +560,6 @@ fn rows_are_refused_for_the_first_fault(rt: HostRuntime) {
             TablePart::Year,
         ),
     ] {
-        assert!(rt; fault == Some(TableFault { row, part }));
+        assert_at(&rt, row, fault, Some(TableFault { row, part }));
     }
 }

@@ -8,6 +8,7 @@ ghost use Rattle.cal_hijri.specs.TableRules.{table_year, umm_al_qura_system};
 ghost use Rattle.cal_hijri.specs.TabularRules.{tabular_system, tabular_year};
 
 use crate::late_rules::Late;
+use crate::tests::expected::{assert_at, assert_day, assert_holds, assert_same};
 use cal_base::{Calendar, Iso};
 use cal_days::RataDie;
 use cal_hijri::{
@@ -25,13 +26,13 @@ fn late_years_are_found_before_year_1(rt: HostRuntime) {
         (227020, 1, 1, 1),
     ];
     for (day, year, month, day_of_month) in cases {
-        assert!(rt; -365242499 <= day && day <= 365242134);
+        assert_day(&rt, day);
         let hijri = Hijri(Late);
         let date = hijri.from_rata_die(RataDie::new(day));
-        assert_eq!(rt; hijri.extended_year(&date), year, "at {day}");
-        assert_eq!(rt; hijri.month(&date).ordinal, month, "at {day}");
-        assert_eq!(rt; hijri.day_of_month(&date).0, day_of_month, "at {day}");
-        assert_eq!(rt; hijri.to_rata_die(&date).to_i64_date(), day, "at {day}");
+        assert_at(&rt, day, hijri.extended_year(&date), year);
+        assert_at(&rt, day, hijri.month(&date).ordinal, month);
+        assert_at(&rt, day, hijri.day_of_month(&date).0, day_of_month);
+        assert_at(&rt, day, hijri.to_rata_die(&date).to_i64_date(), day);
     }
 }
 
@@ -45,11 +46,11 @@ fn a_tabular_new_year_is_on_its_iso_day(rt: HostRuntime) {
     let made = hijri.new_date(YearInput::Extended(1445), Month::new(1), 1);
     let date = made.expect(&rt, "the date is there");
     let iso = hijri.to_iso(&date);
-    assert_eq!(rt; Iso.extended_year(&iso), 2023);
-    assert_eq!(rt; Iso.month(&iso).ordinal, 7);
-    assert_eq!(rt; Iso.day_of_month(&iso).0, 19);
-    assert_eq!(rt; hijri.year_info(&date).era.as_str(), "ah");
-    assert!(rt; hijri.is_in_leap_year(&date));
+    assert_same(&rt, Iso.extended_year(&iso), 2023);
+    assert_same(&rt, Iso.month(&iso).ordinal, 7);
+    assert_same(&rt, Iso.day_of_month(&iso).0, 19);
+    assert_same(&rt, hijri.year_info(&date).era.as_str(), "ah");
+    assert_holds(&rt, "the leap year", hijri.is_in_leap_year(&date));
 }
 
 /// The day before the first day of year 1 lies in the first year before the Hijra.
@@ -59,13 +60,17 @@ fn a_date_belongs_to_its_own_epoch(rt: HostRuntime) {
     let friday = Hijri::new_tabular(leap_years, TabularAlgorithmEpoch::Friday);
     let thursday = Hijri::new_tabular(leap_years, TabularAlgorithmEpoch::Thursday);
     let date = friday.from_rata_die(RataDie::new(227014));
-    assert_eq!(rt; friday.extended_year(&date), 0);
-    assert_eq!(rt; friday.year_info(&date).year, 1);
-    assert_eq!(rt; friday.year_info(&date).era.as_str(), "bh");
-    assert!(rt; friday.owns(&date));
-    assert!(rt; !thursday.owns(&date));
-    assert_eq!(rt; day_of_tabular(friday, &date).to_i64_date(), 227014);
-    assert!(rt; friday.check_date_compatibility(&thursday).is_err());
+    assert_same(&rt, friday.extended_year(&date), 0);
+    assert_same(&rt, friday.year_info(&date).year, 1);
+    assert_same(&rt, friday.year_info(&date).era.as_str(), "bh");
+    assert_holds(&rt, "its own epoch", friday.owns(&date));
+    assert_same(&rt, thursday.owns(&date), false);
+    assert_same(&rt, day_of_tabular(friday, &date).to_i64_date(), 227014);
+    assert_holds(
+        &rt,
+        "another epoch",
+        friday.check_date_compatibility(&thursday).is_err(),
+    );
 }
 
 /// The year 1445 of the Umm al-Qura calendar, if its last month ends where it is to.
@@ -99,40 +104,44 @@ fn a_row_takes_the_place_of_a_tabular_year(rt: HostRuntime) {
     let simulated = Hijri::new_simulated_mecca(HijriTable::none());
     let made = umm_al_qura.new_date(YearInput::Extended(1445), Month::new(2), 1);
     let date = made.expect(&rt, "the date is there");
-    assert_eq!(rt; umm_al_qura.to_rata_die(&date).to_i64_date(), 738749);
-    assert!(rt; umm_al_qura.owns(&date));
-    assert_eq!(rt;
+    assert_same(&rt, umm_al_qura.to_rata_die(&date).to_i64_date(), 738749);
+    assert_holds(&rt, "its own table", umm_al_qura.owns(&date));
+    assert_same(
+        &rt,
         day_of_umm_al_qura(umm_al_qura, &date).to_i64_date(),
-        738749
+        738749,
     );
     let made = simulated.new_date(YearInput::Extended(1445), Month::new(2), 1);
     let date = made.expect(&rt, "the date is there");
-    assert_eq!(rt; simulated.to_rata_die(&date).to_i64_date(), 738750);
+    assert_same(&rt, simulated.to_rata_die(&date).to_i64_date(), 738750);
     let without = Hijri::new_umm_al_qura(HijriTable::none());
-    assert!(rt; umm_al_qura.check_date_compatibility(&without).is_err());
-    assert!(rt; umm_al_qura.check_date_compatibility(&umm_al_qura).is_ok());
+    assert_holds(
+        &rt,
+        "another table",
+        umm_al_qura.check_date_compatibility(&without).is_err(),
+    );
+    assert_holds(
+        &rt,
+        "the same table",
+        umm_al_qura.check_date_compatibility(&umm_al_qura).is_ok(),
+    );
 }
 
 #[test]
 fn a_table_is_refused_for_its_first_fault(rt: HostRuntime) {
     let row = row_of_1445(739075).expect(&rt, "the year is there");
     let short = row_of_1445(739074).expect(&rt, "the year is there");
-    assert!(rt; row_of_1445(739076).is_none());
+    assert_holds(&rt, "a month of 31 days", row_of_1445(739076).is_none());
     for (rows, row, part) in [
         ([short, short], 2, TablePart::Year),
         ([row, short], 2, TablePart::Year),
     ] {
         let fault = HijriTable::try_new(&rows).err();
-        assert!(rt; fault == Some(TableFault { row, part }));
+        assert_same(&rt, fault, Some(TableFault { row, part }));
     }
     let fault = HijriTable::try_new(&[short]).err();
-    assert!(rt;
-        fault
-            == Some(TableFault {
-                row: 1,
-                part: TablePart::End
-            })
-    );
+    let part = TablePart::End;
+    assert_same(&rt, fault, Some(TableFault { row: 1, part }));
 }
 
 /// The day number of a date, by the definition of the tabular calendars.
@@ -189,6 +198,6 @@ fn a_calendar_is_passed_on_by_value(rt: HostRuntime) {
             Held::Simulated(hijri) => hijri.debug_name(),
             Held::Tabular(hijri) => hijri.debug_name(),
         };
-        assert!(rt; name.len() > 0);
+        assert_holds(&rt, "the name", name.len() > 0);
     }
 }
