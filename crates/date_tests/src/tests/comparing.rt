@@ -1,9 +1,13 @@
 //! Which dates are equal, and which are ordered.
 
-use icu_calendar::{AnyCalendarKind, Calendar};
+use icu_calendar::{AnyCalendarKind, AnyDateInner, Calendar};
 use known_dates::{GREGORIAN, ISO, JULIAN, calendar_of, day};
-use std::cmp::Ordering;
 use std::process::Abort;
+
+/// The date of a day number as the calendar of a kind keeps it.
+fn kept_on(number: i64, kind: AnyCalendarKind) -> AnyDateInner<'static> {
+    calendar_of(kind).from_rata_die(day(number))
+}
 
 /// That the dates of two days are equal and ordered as the days are, where they are of one calendar, and
 /// otherwise neither equal nor ordered.
@@ -13,27 +17,21 @@ fn assert_order(
     calendars: (AnyCalendarKind, AnyCalendarKind),
     is_same: bool,
 ) {
-    let first = calendar_of(calendars.0).from_rata_die(day(days.0));
-    let second = calendar_of(calendars.1).from_rata_die(day(days.1));
+    let first = kept_on(days.0, calendars.0);
+    let second = kept_on(days.1, calendars.1);
     let order = if is_same {
         Some(days.0.cmp(&days.1))
     } else {
         None
     };
-    assert_eq!(rt;
-        first.partial_cmp(&second),
-        order,
+    let is_equal = is_same && days.0 == days.1;
+    assert!(rt;
+        first.partial_cmp(&second) == order,
         "{} and {}",
         days.0,
         days.1
     );
-    assert_eq!(rt;
-        first == second,
-        order == Some(Ordering::Equal),
-        "{} and {}",
-        days.0,
-        days.1
-    );
+    assert!(rt; (first == second) == is_equal, "{} and {}", days.0, days.1);
 }
 
 #[test]

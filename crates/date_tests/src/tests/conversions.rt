@@ -2,28 +2,24 @@
 
 use icu_calendar::{AnyCalendarKind, Date, DateFromFieldsError, Iso, Julian, RataDie, Ref};
 use known_dates::{
-    GREGORIAN, IN_DAYS, ISO, JULIAN, REJECT, calendar_of, date_on, duration, fields, has_parts,
-    is_named,
+    GREGORIAN, IN_DAYS, ISO, JULIAN, calendar_of, date_named, date_on, duration, has_parts,
+    has_parts_in, is_in_year, is_named, number_in, number_of, parts_of, shown_in,
 };
 use std::process::Abort;
 
 #[test]
 fn date_says_its_year_month_and_day(rt: HostRuntime) {
-    match Date::try_from_fields(fields(2020, 2, 29), REJECT, Iso) {
+    match date_named(2020, 2, 29, Iso) {
         Ok(date) => {
-            assert_eq!(rt; date.to_rata_die().to_i64_date(), 737484);
-            assert!(rt; is_named(date.year(), 2020, "default", 2020));
-            assert_eq!(rt; date.month().ordinal, 2);
-            assert_eq!(rt; date.month().standard_code.0.as_str(), "M02");
-            assert_eq!(rt; date.day_of_month().0, 29);
-            let shown = date.to_calendar(calendar_of(ISO));
-            assert_eq!(rt; shown.to_rata_die().to_i64_date(), 737484);
-            assert_eq!(rt; shown.day_of_month().0, 29);
+            assert!(rt; has_parts_in(&date, 737484, 2020, 2, 29));
+            assert!(rt; is_in_year(&date, 2020, "default", 2020));
+            assert!(rt; date.month().standard_code.0.as_str() == "M02");
+            assert!(rt; has_parts(&date.to_calendar(calendar_of(ISO)), 737484, 2020, 2, 29));
         }
         Err(cause) => assert!(rt; false, "{cause}"),
     }
-    let fault = Date::try_from_fields(fields(2021, 2, 29), REJECT, Iso).err();
-    assert_eq!(rt; fault, Some(DateFromFieldsError::InvalidDay { max: 28 }));
+    let fault = date_named(2021, 2, 29, Iso).err();
+    assert!(rt; fault == Some(DateFromFieldsError::InvalidDay { max: 28 }));
 }
 
 #[test]
@@ -36,10 +32,7 @@ fn known_days_have_known_dates(rt: HostRuntime) {
     ] {
         let date = date_on(number, calendar);
         assert!(rt; has_parts(&date, number, extended_year, month, day_of_month));
-        assert!(rt;
-            is_named(date.year(), extended_year, era, year),
-            "on {number}"
-        );
+        assert!(rt; is_named(&date, extended_year, era, year), "on {number}");
     }
 }
 
@@ -51,11 +44,10 @@ fn assert_there_and_back(
     second: AnyCalendarKind,
 ) {
     let date = date_on(number, first);
-    let there = date.to_calendar(calendar_of(second));
-    let back = there.to_calendar(calendar_of(first));
-    assert_eq!(rt; there.to_rata_die().to_i64_date(), number);
-    let extended_year = date.year().extended_year();
-    let (month, day_of_month) = (date.month().ordinal, date.day_of_month().0);
+    let there = shown_in(&date, second);
+    let back = shown_in(&there, first);
+    assert!(rt; number_of(&there) == number, "on {number}");
+    let (extended_year, month, day_of_month) = parts_of(&date);
     assert!(rt; has_parts(&back, number, extended_year, month, day_of_month));
 }
 
@@ -80,7 +72,7 @@ fn days_out_of_range_are_clamped(rt: HostRuntime) {
     ] {
         assert!(rt; -400000000 <= number && number <= 400000000);
         let date = Date::from_rata_die(RataDie::new(number), Iso);
-        assert_eq!(rt; date.to_rata_die().to_i64_date(), want, "of {number}");
+        assert!(rt; number_in(&date) == want, "of {number}");
     }
 }
 
@@ -89,8 +81,7 @@ fn a_date_may_borrow_its_calendar(rt: HostRuntime) {
     let calendar = Julian;
     let borrowed = Date::from_rata_die(RataDie::new(738156), Ref(&calendar));
     let owned = Date::from_rata_die(RataDie::new(738157), Julian);
-    assert_eq!(rt; borrowed.day_of_month().0, 19);
-    assert_eq!(rt; borrowed.to_rata_die().to_i64_date(), 738156);
+    assert!(rt; has_parts_in(&borrowed, 738156, 2021, 12, 19));
     let between = borrowed.try_until_with_options(&owned, IN_DAYS).ok();
-    assert_eq!(rt; between, Some(duration(false, 0, 0, 0, 1)));
+    assert!(rt; between == Some(duration(false, 0, 0, 0, 1)));
 }

@@ -1,24 +1,31 @@
 //! Dates from texts of RFC 9557 and from records: known days, and the first fault.
 
 use icu_calendar::{
-    CalendarAlgorithm, Date, DateRecord, Gregorian, Hebrew, Iso, IxdtfRecord, ParseError,
-    RangeError,
+    AsCalendar, Calendar, CalendarAlgorithm, Date, DateRecord, Gregorian, Hebrew, Iso, IxdtfRecord,
+    ParseError, RangeError,
 };
+use known_dates::number_in;
+use std::process::Abort;
 
-/// The day number of the date that a text names, or what is wrong with it.
-fn iso_day(text: &str) -> Result<i64, ParseError> {
-    match Date::try_from_str(text, Iso) {
-        Ok(date) => Ok(date.to_rata_die().to_i64_date()),
+/// The day number of the date that a text names in a calendar, or what is wrong with the text.
+fn day_named<A: AsCalendar>(text: &str, calendar: A) -> Result<i64, ParseError>
+where
+    A::Calendar: Calendar,
+{
+    match Date::try_from_str(text, calendar) {
+        Ok(date) => Ok(number_in(&date)),
         Err(cause) => Err(cause),
     }
 }
 
+/// That a text names a day in the ISO calendar, or that this is wrong with it.
+fn assert_iso(rt: &impl Abort, text: &str, answer: Result<i64, ParseError>) {
+    assert!(rt; day_named(text, Iso) == answer, "{text}");
+}
+
 /// The same in the Gregorian calendar, which has a name.
-fn gregorian_day(text: &str) -> Result<i64, ParseError> {
-    match Date::try_from_str(text, Gregorian) {
-        Ok(date) => Ok(date.to_rata_die().to_i64_date()),
-        Err(cause) => Err(cause),
-    }
+fn assert_gregorian(rt: &impl Abort, text: &str, answer: Result<i64, ParseError>) {
+    assert!(rt; day_named(text, Gregorian) == answer, "{text}");
 }
 
 #[test]
@@ -39,7 +46,7 @@ fn texts_name_known_days(rt: HostRuntime) {
         ("2024-03-01[u-ca=klingon]", 738946),
         ("2024-03-01[u-ca=a-12345678-0]", 738946),
     ] {
-        assert_eq!(rt; iso_day(text), Ok(day), "{text}");
+        assert_iso(&rt, text, Ok(day));
     }
 }
 
@@ -77,19 +84,22 @@ fn other_texts_are_off_the_form(rt: HostRuntime) {
         "2024-03-01[u-ca=hebrew] ",
         "2024-03-01u-ca=hebrew]",
     ] {
-        assert_eq!(rt; iso_day(text), Err(ParseError::Syntax), "{text}");
+        assert_iso(&rt, text, Err(ParseError::Syntax));
     }
+}
+
+/// Whether bytes name a date in the ISO calendar.
+fn is_read(text: &[u8]) -> bool {
+    Date::try_from_utf8(text, Iso).is_ok()
 }
 
 #[test]
 fn no_text_that_is_cut_off_is_read(rt: HostRuntime) {
     let text = b"-002024-03-01[!u-ca=islamic-civil]";
     for end in 0..text.len() {
-        let cut = Date::try_from_utf8(&text[..end], Iso);
-        assert_eq!(rt; cut.is_ok(), end == 13, "{end} bytes");
+        assert!(rt; is_read(&text[..end]) == (end == 13), "{end} bytes");
     }
-    let whole = Date::try_from_utf8(text, Iso);
-    assert!(rt; whole.is_ok());
+    assert!(rt; is_read(text));
 }
 
 #[test]
@@ -108,42 +118,44 @@ fn names_of_other_calendars_are_refused(rt: HostRuntime) {
         ("2024-03-01[u-ca=gregorian]", Err(ParseError::Syntax)),
         ("2024-02-30[u-ca=klingon]", Err(ParseError::Syntax)),
     ] {
-        assert_eq!(rt; gregorian_day(text), answer, "{text}");
+        assert_gregorian(&rt, text, answer);
+    }
+}
+
+/// Whether a record without a calendar is refused for this cause.
+fn is_refused(date: Option<DateRecord>, cause: ParseError) -> bool {
+    let record = IxdtfRecord {
+        date,
+        calendar: None,
+    };
+    match Date::try_from_ixdtf_record(&record, Iso) {
+        Ok(_) => false,
+        Err(found) => found == cause,
     }
 }
 
 #[test]
 fn records_are_tested(rt: HostRuntime) {
-    let out = |field, value, min, max| {
-        ParseError::Range(RangeError {
+    assert!(rt; is_refused(None, ParseError::MissingFields));
+    for (year, month, day, field, value, min, max) in [
+        (2024, 13, 1, "month", 13, 1, 12),
+        (2024, 0, 1, "month", 0, 1, 12),
+        (2024, 2, 30, "day", 30, 1, 29),
+        (2023, 2, 0, "day", 0, 1, 28),
+        (1000000, 13, 1, "year", 1000000, -999999, 999999),
+        (-1000000, 1, 1, "year", -1000000, -999999, 999999),
+    ] {
+        let out = RangeError {
             field,
             value,
             min,
             max,
-        })
-    };
-    let record = |year, month, day| Some(DateRecord { year, month, day });
-    for (date, fault) in [
-        (None, ParseError::MissingFields),
-        (record(2024, 13, 1), out("month", 13, 1, 12)),
-        (record(2024, 0, 1), out("month", 0, 1, 12)),
-        (record(2024, 2, 30), out("day", 30, 1, 29)),
-        (record(2023, 2, 0), out("day", 0, 1, 28)),
-        (
-            record(1000000, 13, 1),
-            out("year", 1000000, -999999, 999999),
-        ),
-        (
-            record(-1000000, 1, 1),
-            out("year", -1000000, -999999, 999999),
-        ),
-    ] {
-        let record = IxdtfRecord {
-            date,
-            calendar: None,
         };
-        let refused = Date::try_from_ixdtf_record(&record, Iso);
-        assert!(rt; refused.is_err_and(|cause| cause == fault));
+        let date = DateRecord { year, month, day };
+        assert!(rt;
+            is_refused(Some(date), ParseError::Range(out)),
+            "{field} {value}"
+        );
     }
 }
 
@@ -159,13 +171,12 @@ fn a_record_gives_its_date_and_day(rt: HostRuntime) {
     };
     match Date::try_from_ixdtf_record_with_rd(&record, Gregorian) {
         Ok((date, rd)) => {
-            assert_eq!(rt; rd.to_i64_date(), 738946);
-            assert_eq!(rt; date.to_rata_die(), rd);
+            assert!(rt; rd.to_i64_date() == 738946);
+            assert!(rt; number_in(&date) == 738946);
         }
         Err(_) => assert!(rt; false),
     }
-    let hebrew = Date::try_from_str("2024-03-01[u-ca=hebrew]", Hebrew);
-    assert!(rt; hebrew.is_ok_and(|date| date.to_rata_die().to_i64_date() == 738946));
+    assert!(rt; day_named("2024-03-01[u-ca=hebrew]", Hebrew) == Ok(738946));
     let parsed: Result<Date<Iso>, ParseError> = "2024-03-01".parse();
     assert!(rt; parsed.is_ok_and(|date| date.day_of_year().0 == 61));
 }

@@ -5,7 +5,7 @@ use icu_calendar::{
     AsCalendar, Calendar, ChineseTraditional, Date, EastAsianTable, EastAsianTraditionalYear, Iso,
     Julian, Month, RataDie, Ref, Side,
 };
-use known_dates::IN_DAYS;
+use known_dates::{IN_DAYS, has_parts_in, number_in};
 use std::cmp::Ordering;
 use std::process::Abort;
 
@@ -19,7 +19,7 @@ fn assert_same<A: AsCalendar, B: AsCalendar<Calendar = A::Calendar>>(
 where
     A::Calendar: Calendar,
 {
-    assert_eq!(rt; other.to_rata_die().to_i64_date(), number);
+    assert!(rt; number_in(other) == number, "on {number}");
     assert!(rt; date.same_date(other));
     assert!(rt; date.date_cmp(other) == Some(Ordering::Equal));
 }
@@ -41,7 +41,7 @@ fn a_date_is_counted_copied_and_borrowed(rt: HostRuntime) {
             );
         }
         Err(back) => {
-            assert_eq!(rt; back.to_rata_die().to_i64_date(), 727443);
+            assert!(rt; number_in(&back) == 727443);
             assert!(rt; false, "no memory");
         }
     }
@@ -53,17 +53,10 @@ fn dates_are_taken_apart_and_shown_in_iso(rt: HostRuntime) {
     let raw = Date::from_raw(*date.inner(), *date.calendar_wrapper());
     assert!(rt; raw == date);
     let iso = raw.to_iso();
-    assert_eq!(rt; iso.to_rata_die().to_i64_date(), 738156);
-    assert_eq!(rt;
-        (
-            iso.era_year().year,
-            iso.month().ordinal,
-            iso.day_of_month().0
-        ),
-        (2022, 1, 1)
-    );
+    assert!(rt; has_parts_in(&iso, 738156, 2022, 1, 1));
+    assert!(rt; iso.era_year().year == 2022);
     assert!(rt; Date::new_from_iso(iso, Julian) == date);
-    assert_eq!(rt; date.era_year().era.as_str(), "ce");
+    assert!(rt; date.era_year().era.as_str() == "ce");
 }
 
 /// That two dates can't be compared.
@@ -80,9 +73,8 @@ where
     assert!(rt; date.try_until_with_options(other, IN_DAYS).is_err());
 }
 
-#[test]
-fn calendars_with_other_years_are_not_compared(rt: HostRuntime) {
-    // The row of 1912 has a long first month, where the computed year has a short one.
+/// The row of 1912 with a long first month, where the computed year has a short one.
+fn row_of_1912(rt: &impl Abort) -> EastAsianTraditionalYear {
     let starts = [
         RataDie::new(698026),
         RataDie::new(698056),
@@ -99,17 +91,20 @@ fn calendars_with_other_years_are_not_compared(rt: HostRuntime) {
         RataDie::new(698380),
         RataDie::new(698380),
     ];
-    let row = EastAsianTraditionalYear::try_new(1912, starts, None);
-    let rows = [row.expect(&rt, "the year is there")];
+    EastAsianTraditionalYear::try_new(1912, starts, None).expect(rt, "the year is there")
+}
+
+#[test]
+fn calendars_with_other_years_are_not_compared(rt: HostRuntime) {
+    let rows = [row_of_1912(&rt)];
     let table = EastAsianTable::try_new(Side::China, &rows);
     let kept = ChineseTraditional::new(table.expect(&rt, "the table is accepted"));
     let computed = ChineseTraditional::new(EastAsianTable::none(Side::China));
     let date = Date::from_rata_die(RataDie::new(693862), kept);
     let other = Date::from_rata_die(RataDie::new(693862), Ref(&computed));
-    assert_eq!(rt;
-        (date.cyclic_year().year, date.cyclic_year().related_iso),
-        (37, 1900)
-    );
+    let year = date.cyclic_year();
+    assert!(rt; year.year == 37);
+    assert!(rt; year.related_iso == 1900);
     assert_same(&rt, &date, &date.as_borrowed(), 693862);
     assert_apart(&rt, &date, &other);
 }

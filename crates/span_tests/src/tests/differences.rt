@@ -3,10 +3,10 @@
 ghost use Rattle.std.specs.Prelude.{◌≡◌, ◌<◌};
 
 use icu_calendar::{
-    AnyCalendar, AnyCalendarKind, Date, DateAddOptions, DateDifferenceOptions, DateDuration,
-    DateDurationUnit, MismatchedCalendarError, Overflow, Steps,
+    AnyCalendar, AnyCalendarKind, AsCalendar, Calendar, Date, DateAddOptions,
+    DateDifferenceOptions, DateDuration, DateDurationUnit, Overflow, Steps,
 };
-use known_dates::{GREGORIAN, IN_DAYS, ISO, JULIAN, date_on, duration};
+use known_dates::{GREGORIAN, IN_DAYS, ISO, JULIAN, date_on, difference, duration, number_in};
 use std::marker::Brand;
 use std::process::Abort;
 use std::sync::ledger::{Blank, Ledger};
@@ -25,11 +25,12 @@ fn dates_of_two_calendars_have_no_difference(rt: HostRuntime) {
         let from = date_on(738156, first);
         let to = date_on(738157, second);
         let want = if is_same {
-            Ok(duration(false, 0, 0, 0, 1))
+            Some(duration(false, 0, 0, 0, 1))
         } else {
-            Err(MismatchedCalendarError)
+            None
         };
-        assert_eq!(rt; from.try_until_with_options(&to, IN_DAYS), want);
+        let found = difference(&from, &to, IN_DAYS);
+        assert!(rt; found == want);
     }
 }
 
@@ -59,11 +60,22 @@ fn differences_are_known_durations(rt: HostRuntime) {
         let options = DateDifferenceOptions {
             largest_unit: Some(unit),
         };
-        assert_eq!(rt;
-            from.try_until_with_options(&to, options),
-            Ok(want),
-            "from {first}"
-        );
+        let found = difference(&from, &to, options);
+        assert!(rt; found == Some(want), "from {first}");
+    }
+}
+
+/// The day number of a date with a difference to another added.
+fn led_to<A: AsCalendar>(date: Date<A>, difference: Option<DateDuration>) -> Option<i64>
+where
+    A::Calendar: Calendar,
+{
+    let constrain = DateAddOptions {
+        overflow: Some(Overflow::Constrain),
+    };
+    match date.try_added_with_options(difference?, constrain) {
+        Ok(sum) => Some(number_in(&sum)),
+        Err(_) => None,
     }
 }
 
@@ -77,16 +89,11 @@ fn assert_leads_back(
 ) {
     let from = date_on(first, calendar);
     let to = date_on(second, calendar);
-    let constrain = DateAddOptions {
-        overflow: Some(Overflow::Constrain),
-    };
-    match from.try_until_with_options(&to, DateDifferenceOptions { largest_unit }) {
-        Ok(between) => match from.try_added_with_options(between, constrain) {
-            Ok(sum) => assert_eq!(rt; sum.to_rata_die().to_i64_date(), second, "from {first}"),
-            Err(cause) => assert!(rt; false, "{cause} from {first} to {second}"),
-        },
-        Err(_) => assert!(rt; false, "from {first} to {second}"),
-    }
+    let between = difference(&from, &to, DateDifferenceOptions { largest_unit });
+    assert!(rt;
+        led_to(from, between) == Some(second),
+        "from {first} to {second}"
+    );
 }
 
 /// That the differences lead back in each unit and calendar.
@@ -146,6 +153,6 @@ fn counted_differences_are_the_same(rt: HostRuntime) {
         let to = date_on(737849, ISO);
         let options = DateDifferenceOptions { largest_unit: unit };
         let found = counted::<Brand>(&from, &to, options, Blank::new(1));
-        assert_eq!(rt; found, Some(want));
+        assert!(rt; found == Some(want));
     }
 }

@@ -1,42 +1,14 @@
 //! Differences of two bags in each unit, and the first fault of two bags.
 
 use icu_calendar::{
-    BagSide, Date, DateDifferenceOptions, DateDurationUnit, DateFromFieldsError,
-    DateFromFieldsOptions, Overflow, SpanError, span,
+    AnyCalendar, AnyCalendarKind, BagSide, Date, DateDifferenceOptions, DateDuration,
+    DateDurationUnit, DateFromFieldsError, DateFromFieldsOptions, Overflow, Span, SpanError, span,
 };
 use known_dates::{
-    GREGORIAN, IN_DAYS, ISO, JULIAN, REJECT, calendar_of, duration, fields, has_parts, is_named,
+    GREGORIAN, IN_DAYS, ISO, JULIAN, REJECT, calendar_of, date_named, duration, fields, has_parts,
+    is_named, number_of,
 };
-
-#[test]
-fn span_has_the_days_and_both_dates(rt: HostRuntime) {
-    for (from, to, is_negative, days) in [
-        ((2020, 2, 29), (2021, 2, 28), false, 365),
-        ((2021, 2, 28), (2020, 2, 29), true, 365),
-        ((1, 1, 1), (2022, 1, 1), false, 738155),
-        ((-999999, 1, 1), (999999, 12, 31), false, 730484633),
-    ] {
-        let first = fields(from.0, from.1, from.2);
-        let second = fields(to.0, to.1, to.2);
-        match span(
-            first,
-            second,
-            REJECT,
-            IN_DAYS,
-            calendar_of(ISO),
-            calendar_of(ISO),
-        ) {
-            Ok(found) => {
-                assert_eq!(rt; found.duration, duration(is_negative, 0, 0, 0, days));
-                assert_eq!(rt; found.from.to_rata_die(), found.from_shown.to_rata_die());
-                assert_eq!(rt; found.to.to_rata_die(), found.to_shown.to_rata_die());
-                assert!(rt; is_named(found.from_shown.year(), from.0, "default", from.0));
-                assert!(rt; is_named(found.to_shown.year(), to.0, "default", to.0));
-            }
-            Err(fault) => assert!(rt; false, "{}", fault.cause),
-        }
-    }
-}
+use std::process::Abort;
 
 /// A year, a month and a day.
 type Ymd = (i32, u8, u8);
@@ -48,6 +20,74 @@ const YEAR_LATER: Ymd = (2021, 2, 28);
 const FIRST: Ymd = (-999999, 1, 1);
 
 const LAST: Ymd = (999999, 12, 31);
+
+/// The span of two dates of a calendar, which are shown in another.
+fn span_of(
+    (from, to): (Ymd, Ymd),
+    options: DateFromFieldsOptions,
+    difference: DateDifferenceOptions,
+    calendar: AnyCalendarKind,
+    shown: AnyCalendarKind,
+) -> Result<Span<'static>, SpanError> {
+    span(
+        fields(from.0, from.1, from.2),
+        fields(to.0, to.1, to.2),
+        options,
+        difference,
+        calendar_of(calendar),
+        calendar_of(shown),
+    )
+}
+
+/// The span of two ISO dates, where each fault is an error.
+fn iso_span(
+    from: Ymd,
+    to: Ymd,
+    difference: DateDifferenceOptions,
+) -> Result<Span<'static>, SpanError> {
+    span_of((from, to), REJECT, difference, ISO, ISO)
+}
+
+type AnyDate = Date<AnyCalendar<'static>>;
+
+/// Whether a date is shown as the same day, in this ISO year.
+fn is_shown(date: &AnyDate, shown: &AnyDate, year: i32) -> bool {
+    number_of(date) == number_of(shown) && is_named(shown, year, "default", year)
+}
+
+/// That the span of two ISO dates is this long, and shows both.
+fn assert_span(
+    rt: &impl Abort,
+    (from, to): (Ymd, Ymd),
+    difference: DateDifferenceOptions,
+    want: DateDuration,
+) {
+    match iso_span(from, to, difference) {
+        Ok(found) => {
+            assert!(rt; found.duration == want, "from {} to {}", from.0, to.0);
+            assert!(rt;
+                is_shown(&found.from, &found.from_shown, from.0),
+                "from {}",
+                from.0
+            );
+            assert!(rt; is_shown(&found.to, &found.to_shown, to.0), "to {}", to.0);
+        }
+        Err(fault) => assert!(rt; false, "{}", fault.cause),
+    }
+}
+
+#[test]
+fn span_has_the_days_and_both_dates(rt: HostRuntime) {
+    for (from, to, is_negative, days) in [
+        (LEAP_DAY, YEAR_LATER, false, 365),
+        (YEAR_LATER, LEAP_DAY, true, 365),
+        ((1, 1, 1), (2022, 1, 1), false, 738155),
+        (FIRST, LAST, false, 730484633),
+    ] {
+        let want = duration(is_negative, 0, 0, 0, days);
+        assert_span(&rt, (from, to), IN_DAYS, want);
+    }
+}
 
 #[test]
 fn spans_are_counted_in_each_unit(rt: HostRuntime) {
@@ -67,20 +107,13 @@ fn spans_are_counted_in_each_unit(rt: HostRuntime) {
         ),
         (FIRST, LAST, Some(Years), (false, 1999998, 11, 0, 30)),
     ] {
-        let options = DateDifferenceOptions { largest_unit };
         let want = duration(is_negative, years, months, weeks, days);
-        let (first, second) = (fields(from.0, from.1, from.2), fields(to.0, to.1, to.2));
-        match span(
-            first,
-            second,
-            REJECT,
-            options,
-            calendar_of(ISO),
-            calendar_of(ISO),
-        ) {
-            Ok(found) => assert_eq!(rt; found.duration, want),
-            Err(fault) => assert!(rt; false, "{}", fault.cause),
-        }
+        assert_span(
+            &rt,
+            (from, to),
+            DateDifferenceOptions { largest_unit },
+            want,
+        );
     }
 }
 
@@ -90,22 +123,28 @@ fn a_day_past_its_month_is_constrained(rt: HostRuntime) {
         overflow: Some(Overflow::Constrain),
         missing_fields_strategy: None,
     };
-    let (first, second) = (fields(2021, 2, 31), fields(2021, 1, 31));
-    match span(
-        first,
-        second,
+    match span_of(
+        ((2021, 2, 31), (2021, 1, 31)),
         constrain,
         IN_DAYS,
-        calendar_of(ISO),
-        calendar_of(JULIAN),
+        ISO,
+        JULIAN,
     ) {
         Ok(found) => {
             assert!(rt; has_parts(&found.from, 737849, 2021, 2, 28));
             assert!(rt; has_parts(&found.from_shown, 737849, 2021, 2, 15));
             assert!(rt; has_parts(&found.to, 737821, 2021, 1, 31));
-            assert_eq!(rt; found.duration, duration(true, 0, 0, 0, 28));
+            assert!(rt; found.duration == duration(true, 0, 0, 0, 28));
         }
         Err(fault) => assert!(rt; false, "{}", fault.cause),
+    }
+}
+
+/// Whether there is no span, for this reason.
+fn is_at_fault(answer: Result<Span<'static>, SpanError>, want: SpanError) -> bool {
+    match answer {
+        Ok(_) => false,
+        Err(fault) => fault == want,
     }
 }
 
@@ -132,22 +171,24 @@ fn first_bag_at_fault_is_named(rt: HostRuntime) {
             DateFromFieldsError::Overflow,
         ),
     ] {
-        let first = fields(from.0, from.1, from.2);
-        let second = fields(to.0, to.1, to.2);
-        let answer = span(
-            first,
-            second,
-            REJECT,
-            IN_DAYS,
-            calendar_of(ISO),
-            calendar_of(ISO),
+        let answer = iso_span(from, to, IN_DAYS);
+        assert!(rt;
+            is_at_fault(answer, SpanError { side, cause }),
+            "from {}-{} to {}",
+            from.0,
+            from.1,
+            to.0
         );
-        assert_eq!(rt; answer.err(), Some(SpanError { side, cause }));
     }
 }
 
 /// Eras and years of the dates that were shown in a calendar.
 type Named = (&'static str, i32);
+
+/// That the year of a date is named so.
+fn assert_named(rt: &impl Abort, date: &AnyDate, extended_year: i32, (era, year): Named) {
+    assert!(rt; is_named(date, extended_year, era, year), "{era} {year}");
+}
 
 #[test]
 fn each_calendar_names_the_year(rt: HostRuntime) {
@@ -158,29 +199,21 @@ fn each_calendar_names_the_year(rt: HostRuntime) {
         (GREGORIAN, ISO, in_gregorian, in_iso),
         (GREGORIAN, GREGORIAN, in_gregorian, in_gregorian),
     ] {
-        match span(
-            fields(2020, 2, 29),
-            fields(-4, 12, 31),
-            REJECT,
-            IN_DAYS,
-            calendar_of(calendar),
-            calendar_of(shown),
-        ) {
+        match span_of((LEAP_DAY, (-4, 12, 31)), REJECT, IN_DAYS, calendar, shown) {
             Ok(found) => {
-                assert!(rt; is_named(found.from.year(), 2020, from.0, from.1));
-                assert!(rt; is_named(found.from_shown.year(), 2020, from_shown.0, from_shown.1));
-                assert!(rt; is_named(found.to.year(), -4, to.0, to.1));
-                assert!(rt; is_named(found.to_shown.year(), -4, to_shown.0, to_shown.1));
-                assert_eq!(rt; found.to.to_rata_die().to_i64_date(), -1461);
-                assert_eq!(rt; found.duration, duration(true, 0, 0, 0, 738945));
-                assert_eq!(rt; found.to_shown.month().ordinal, 12);
-                assert_eq!(rt; found.to_shown.day_of_month().0, 31);
+                assert_named(&rt, &found.from, 2020, from);
+                assert_named(&rt, &found.from_shown, 2020, from_shown);
+                assert_named(&rt, &found.to, -4, to);
+                assert_named(&rt, &found.to_shown, -4, to_shown);
+                assert!(rt; number_of(&found.to) == -1461);
+                assert!(rt; found.duration == duration(true, 0, 0, 0, 738945));
+                assert!(rt; has_parts(&found.to_shown, -1461, -4, 12, 31));
             }
             Err(fault) => assert!(rt; false, "{}", fault.cause),
         }
     }
-    match Date::try_from_fields(fields(0, 1, 1), REJECT, calendar_of(GREGORIAN)) {
-        Ok(date) => assert!(rt; is_named(date.year(), 0, "bce", 1)),
+    match date_named(0, 1, 1, calendar_of(GREGORIAN)) {
+        Ok(date) => assert_named(&rt, &date, 0, ("bce", 1)),
         Err(cause) => assert!(rt; false, "{cause}"),
     }
 }

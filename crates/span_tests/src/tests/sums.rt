@@ -1,7 +1,57 @@
 //! Sums of known days, and dates that a refused addition leaves as they are.
 
-use icu_calendar::{DateAddError, DateAddOptions, Overflow};
-use known_dates::{GREGORIAN, ISO, JULIAN, date_on, duration, has_parts};
+use icu_calendar::{
+    AnyCalendar, AnyCalendarKind, AsCalendar, Calendar, Date, DateAddError, DateAddOptions,
+    DateDuration, Overflow,
+};
+use known_dates::{GREGORIAN, ISO, JULIAN, date_on, duration, has_parts, number_in, number_of};
+use std::process::Abort;
+
+/// The day number of the sum of a date and a duration, or why there is none.
+fn day_of_sum<A: AsCalendar>(
+    date: Date<A>,
+    added: DateDuration,
+    options: DateAddOptions,
+) -> Result<i64, DateAddError>
+where
+    A::Calendar: Calendar,
+{
+    match date.try_added_with_options(added, options) {
+        Ok(sum) => Ok(number_in(&sum)),
+        Err(cause) => Err(cause),
+    }
+}
+
+/// A date after a duration was added to it in place, and why it was not.
+fn moved<A: AsCalendar>(
+    mut date: Date<A>,
+    added: DateDuration,
+    options: DateAddOptions,
+) -> (Date<A>, Option<DateAddError>)
+where
+    A::Calendar: Calendar,
+{
+    let refusal = date.try_add_with_options(added, options).err();
+    (date, refusal)
+}
+
+/// That a day and a duration have this sum, or are refused and leave the day as it is. The date that is left comes back.
+fn assert_sum(
+    rt: &impl Abort,
+    (calendar, number): (AnyCalendarKind, i64),
+    added: DateDuration,
+    overflow: Option<Overflow>,
+    want: Result<i64, DateAddError>,
+) -> Date<AnyCalendar<'static>> {
+    let options = DateAddOptions { overflow };
+    let sum = day_of_sum(date_on(number, calendar), added, options);
+    assert!(rt; sum == want, "from {number}");
+    let (date, refusal) = moved(date_on(number, calendar), added, options);
+    assert!(rt; refusal == want.err(), "from {number}");
+    let left = want.unwrap_or(number);
+    assert!(rt; number_of(&date) == left, "from {number}");
+    date
+}
 
 #[test]
 fn sums_past_the_last_day_are_refused(rt: HostRuntime) {
@@ -10,12 +60,8 @@ fn sums_past_the_last_day_are_refused(rt: HostRuntime) {
         duration(false, 2080001, 0, 0, 0),
         duration(false, 0, 0, 4294967295, 0),
     ] {
-        let last = date_on(365242134, ISO);
-        let sum = last.try_added_with_options(added, DateAddOptions::default());
-        assert_eq!(rt; sum.err(), Some(DateAddError::Overflow));
-        let mut date = date_on(365242134, ISO);
-        let answer = date.try_add_with_options(added, DateAddOptions::default());
-        assert_eq!(rt; answer, Err(DateAddError::Overflow));
+        let past = Err(DateAddError::Overflow);
+        let date = assert_sum(&rt, (ISO, 365242134), added, None, past);
         assert!(rt; has_parts(&date, 365242134, 999999, 12, 31));
     }
 }
@@ -45,17 +91,6 @@ fn sums_are_known_days(rt: HostRuntime) {
             Err(no_leap_day),
         ),
     ] {
-        let options = DateAddOptions { overflow };
-        let first = date_on(number, calendar);
-        let sum = match first.try_added_with_options(added, options) {
-            Ok(sum) => Ok(sum.to_rata_die().to_i64_date()),
-            Err(cause) => Err(cause),
-        };
-        assert_eq!(rt; sum, want, "from {number}");
-        let mut date = date_on(number, calendar);
-        let answer = date.try_add_with_options(added, options);
-        assert_eq!(rt; answer.err(), want.err(), "from {number}");
-        let left = want.unwrap_or(number);
-        assert_eq!(rt; date.to_rata_die().to_i64_date(), left, "from {number}");
+        assert_sum(&rt, (calendar, number), added, overflow, want);
     }
 }
