@@ -6,7 +6,7 @@ use icu_calendar::{
     Iso, Japanese, Julian, KoreanTraditional, Persian, PersianCorrections, Roc, Side,
     TabularAlgorithmEpoch, TabularAlgorithmLeapYears,
 };
-use known_dates::{JULIAN, calendar_of, date_on, day, has_parts};
+use known_dates::{JULIAN, calendar_of, date_on, day, has_parts, has_parts_in, parts_in};
 use std::process::Abort;
 
 /// That a date of a calendar is the same one as a date of any calendar, that the calendar comes back from its variant,
@@ -18,15 +18,21 @@ fn assert_any<'t, C: IntoAnyCalendar<'t> + Copy>(
     extended_year: i32,
 ) {
     let date = Date::from_rata_die(day(730120), calendar);
-    let (month, day_of_month) = (date.month().ordinal, date.day_of_month());
+    let (_, month, day_of_month) = parts_in(&date);
     let any = date.to_any();
-    assert_eq!(rt; any.to_rata_die().to_i64_date(), 730120);
-    assert_eq!(rt; any.year().extended_year(), extended_year);
-    assert_eq!(rt; any.month().ordinal, month);
-    assert!(rt; any.day_of_month() == day_of_month);
-    assert!(rt; calendar.kind() == kind);
+    assert!(rt; has_parts(&any, 730120, extended_year, month, day_of_month));
     assert!(rt; any.calendar().kind() == kind);
     assert!(rt; C::from_any_ref(any.calendar()).is_some());
+    assert_variant(rt, calendar, kind);
+}
+
+/// That a calendar is of its kind, comes back from its variant, and hands another one back.
+fn assert_variant<'t, C: IntoAnyCalendar<'t> + Copy>(
+    rt: &impl Abort,
+    calendar: C,
+    kind: AnyCalendarKind,
+) {
+    assert!(rt; calendar.kind() == kind);
     assert!(rt; C::from_any(calendar.to_any()).is_ok());
     let other = if kind == AnyCalendarKind::Iso {
         AnyCalendar::Gregorian(Gregorian)
@@ -120,9 +126,9 @@ fn dates_are_converted_to_any_calendar(rt: HostRuntime) {
         let date = date_on(number, from);
         let shown = calendar_of(to);
         let there = date.convert_any(&shown);
-        assert_eq!(rt; there.to_rata_die().to_i64_date(), number);
-        assert_eq!(rt; there.year().extended_year(), extended_year, "on {number}");
-        assert_eq!(rt; there.month().ordinal, month, "on {number}");
-        assert_eq!(rt; there.day_of_month().0, day_of_month, "on {number}");
+        assert!(rt;
+            has_parts_in(&there, number, extended_year, month, day_of_month),
+            "on {number}"
+        );
     }
 }

@@ -2,12 +2,11 @@
 
 use cal_hijri::Rules;
 use icu_calendar::{
-    AnyCalendar, AnyCalendarKind, AsCalendar, Calendar, ChineseTraditional, Date, DateError,
-    EastAsianTable, EraStartDate, EthiopianEraStyle, Hijri, Japanese, JapaneseEras,
-    KoreanTraditional, LunisolarDateError, Month, Persian, PersianCorrections, RangeError, Ref,
-    Side, TabularAlgorithmEpoch, TabularAlgorithmLeapYears, TinyAsciiStr, YearInfo,
+    AnyCalendar, AnyCalendarKind, AsCalendar, Calendar, Date, DateError, EraStartDate, Hijri,
+    Japanese, JapaneseEras, LunisolarDateError, Month, RangeError, Ref, TabularAlgorithmEpoch,
+    TabularAlgorithmLeapYears, TinyAsciiStr,
 };
-use known_dates::date_on;
+use known_dates::{calendar_of, date_on, number_in, parts_in, parts_of};
 use std::cmp::Ordering;
 use std::process::Abort;
 
@@ -17,64 +16,122 @@ where
     A::Calendar: Calendar,
 {
     match made {
-        Ok(date) => Some(date.to_rata_die().to_i64_date()),
+        Ok(date) => Some(number_in(&date)),
         Err(_) => None,
     }
 }
 
-/// That dates were made, of these days.
-fn assert_days(rt: &impl Abort, made: &[(Option<i64>, i64)]) {
-    for (number, want) in made {
-        assert_eq!(rt; *number, Some(*want));
+/// The day number of the date that a Hijri calendar makes of a year, a month and a day.
+fn day_of_hijri<R: Rules, A: AsCalendar<Calendar = Hijri<R>>>(
+    year: i32,
+    month: u8,
+    day: u8,
+    calendar: A,
+) -> Option<i64> {
+    day_of(Date::try_new_hijri_with_calendar(year, month, day, calendar))
+}
+
+/// The day number of the date that a Japanese calendar makes of a year in an era, a month and a day.
+fn day_in_era<A: AsCalendar<Calendar = Japanese>>(
+    (era, year): (&str, i32),
+    month: u8,
+    day: u8,
+    calendar: A,
+) -> Option<i64> {
+    day_of(Date::try_new_japanese_with_calendar(era, year, month, day, calendar))
+}
+
+/// The day number of the date that a calendar's own constructor makes of an extended year, a month, which is the one
+/// at this place of the year, and a day. A Japanese calendar makes none, since its constructor wants an era.
+fn day_made(
+    calendar: &AnyCalendar<'static>,
+    year: i32,
+    (place, month): (u8, Month),
+    day: u8,
+) -> Option<i64> {
+    match calendar {
+        AnyCalendar::Buddhist(_) => day_of(Date::try_new_buddhist(year, place, day)),
+        AnyCalendar::Chinese(c) => day_of(Date::try_new_chinese_traditional(year, month, day, *c)),
+        AnyCalendar::Coptic(_) => day_of(Date::try_new_coptic(year, place, day)),
+        AnyCalendar::Dangi(c) => day_of(Date::try_new_korean_traditional(year, month, day, *c)),
+        AnyCalendar::Ethiopian(c) => {
+            day_of(Date::try_new_ethiopian(c.era_style(), year, place, day))
+        }
+        AnyCalendar::Gregorian(_) => day_of(Date::try_new_gregorian(year, place, day)),
+        AnyCalendar::Hebrew(_) => day_of(Date::try_new_hebrew_v2(year, month, day)),
+        AnyCalendar::HijriSimulated(c) => day_of_hijri(year, place, day, Ref(c)),
+        AnyCalendar::HijriTabular(c) => day_of_hijri(year, place, day, Ref(c)),
+        AnyCalendar::HijriUmmAlQura(c) => day_of_hijri(year, place, day, Ref(c)),
+        AnyCalendar::Indian(_) => day_of(Date::try_new_indian(year, place, day)),
+        AnyCalendar::Iso(_) => day_of(Date::try_new_iso(year, place, day)),
+        AnyCalendar::Japanese(_) => None,
+        AnyCalendar::JapaneseExtended(_) => None,
+        AnyCalendar::Julian(_) => day_of(Date::try_new_julian(year, place, day)),
+        AnyCalendar::Persian(c) => day_of(Date::try_new_persian(year, place, day, *c)),
+        AnyCalendar::Roc(_) => day_of(Date::try_new_roc(year, place, day)),
     }
+}
+
+/// That the own constructor of a kind of calendars makes the date of this day of an extended year, the month with this
+/// number, which may be a leap month, and a day.
+fn assert_made(
+    rt: &impl Abort,
+    kind: AnyCalendarKind,
+    year: i32,
+    (number, is_leap): (u8, bool),
+    day: u8,
+    want: i64,
+) {
+    let month = if is_leap {
+        Month::leap(number)
+    } else {
+        Month::new(number)
+    };
+    let found = day_made(&calendar_of(kind), year, (number, month), day);
+    assert!(rt; found == Some(want), "day {want}");
 }
 
 /// 1992-09-02 of the ISO calendar.
 #[test]
 fn one_day_is_made_in_five_calendars(rt: HostRuntime) {
-    let made = [
-        (day_of(Date::try_new_iso(1992, 9, 2)), 727443),
-        (day_of(Date::try_new_gregorian(1992, 9, 2)), 727443),
-        (day_of(Date::try_new_buddhist(2535, 9, 2)), 727443),
-        (day_of(Date::try_new_roc(81, 9, 2)), 727443),
-        (day_of(Date::try_new_indian(1914, 6, 11)), 727443),
-    ];
-    assert_days(&rt, &made);
+    use AnyCalendarKind::{Buddhist, Gregorian, Indian, Iso, Roc};
+    for (kind, year, month, day) in [
+        (Iso, 1992, 9, 2),
+        (Gregorian, 1992, 9, 2),
+        (Buddhist, 2535, 9, 2),
+        (Roc, 81, 9, 2),
+        (Indian, 1914, 6, 11),
+    ] {
+        assert_made(&rt, kind, year, (month, false), day, 727443);
+    }
 }
 
 /// -0004-12-31 and 2022-01-01 of the ISO calendar are among them.
 #[test]
 fn solar_dates_have_known_days(rt: HostRuntime) {
-    let persian = Persian::new(PersianCorrections::none());
-    let made = [
-        (day_of(Date::try_new_gregorian(-4, 12, 31)), -1461),
-        (day_of(Date::try_new_julian(-1, 12, 31)), -368),
-        (day_of(Date::try_new_julian(2021, 12, 19)), 738156),
-        (day_of(Date::try_new_persian(1502, 12, 30, persian)), 775489),
-    ];
-    assert_days(&rt, &made);
+    use AnyCalendarKind::{Gregorian, Julian, Persian};
+    for (kind, year, month, day, want) in [
+        (Gregorian, -4, 12, 31, -1461),
+        (Julian, -1, 12, 31, -368),
+        (Julian, 2021, 12, 19, 738156),
+        (Persian, 1502, 12, 30, 775489),
+    ] {
+        assert_made(&rt, kind, year, (month, false), day, want);
+    }
 }
 
 /// 1970-01-02 and 2023-09-11 of the ISO calendar are among them.
 #[test]
 fn dates_of_thirteen_months_have_known_days(rt: HostRuntime) {
-    use EthiopianEraStyle::{AmeteAlem, AmeteMihret};
-    let made = [
-        (
-            day_of(Date::try_new_ethiopian(AmeteMihret, 1962, 4, 24)),
-            719164,
-        ),
-        (
-            day_of(Date::try_new_ethiopian(AmeteAlem, 7462, 4, 24)),
-            719164,
-        ),
-        (
-            day_of(Date::try_new_ethiopian(AmeteMihret, 2015, 13, 6)),
-            738774,
-        ),
-        (day_of(Date::try_new_coptic(1687, 13, 6)), 719781),
-    ];
-    assert_days(&rt, &made);
+    use AnyCalendarKind::{Coptic, Ethiopian, EthiopianAmeteAlem};
+    for (kind, year, month, day, want) in [
+        (Ethiopian, 1962, 4, 24, 719164),
+        (EthiopianAmeteAlem, 7462, 4, 24, 719164),
+        (Ethiopian, 2015, 13, 6, 738774),
+        (Coptic, 1687, 13, 6, 719781),
+    ] {
+        assert_made(&rt, kind, year, (month, false), day, want);
+    }
 }
 
 #[test]
@@ -83,42 +140,21 @@ fn hijri_dates_have_known_days(rt: HostRuntime) {
         TabularAlgorithmLeapYears::TypeII,
         TabularAlgorithmEpoch::Friday,
     );
-    let made = [
-        (
-            day_of(Date::try_new_hijri_with_calendar(1445, 2, 1, civil)),
-            738750,
-        ),
-        (
-            day_of(Date::try_new_hijri_with_calendar(1446, 1, 1, Ref(&civil))),
-            739075,
-        ),
-    ];
-    assert_days(&rt, &made);
+    assert!(rt; day_of_hijri(1445, 2, 1, civil) == Some(738750));
+    assert!(rt; day_of_hijri(1446, 1, 1, Ref(&civil)) == Some(739075));
 }
 
 #[test]
 fn lunisolar_dates_have_known_days(rt: HostRuntime) {
-    let china = ChineseTraditional::new(EastAsianTable::none(Side::China));
-    let korea = KoreanTraditional::new(EastAsianTable::none(Side::Korea));
-    let made = [
-        (
-            day_of(Date::try_new_hebrew_v2(5782, Month::leap(5), 9)),
-            738196,
-        ),
-        (
-            day_of(Date::try_new_hebrew_v2(5783, Month::new(1), 15)),
-            738438,
-        ),
-        (
-            day_of(Date::try_new_chinese_traditional(1900, Month::leap(8), 1, china)),
-            693862,
-        ),
-        (
-            day_of(Date::try_new_korean_traditional(1911, Month::new(12), 30, korea)),
-            698025,
-        ),
-    ];
-    assert_days(&rt, &made);
+    use AnyCalendarKind::{Chinese, Dangi, Hebrew};
+    for (kind, year, month, is_leap, day, want) in [
+        (Hebrew, 5782, 5, true, 9, 738196),
+        (Hebrew, 5783, 1, false, 15, 738438),
+        (Chinese, 1900, 8, true, 1, 693862),
+        (Dangi, 1911, 12, false, 30, 698025),
+    ] {
+        assert_made(&rt, kind, year, (month, is_leap), day, want);
+    }
 }
 
 #[test]
@@ -135,19 +171,13 @@ fn japanese_dates_are_made_in_any_era(rt: HostRuntime) {
         ("heisei", 1, 1, 1, "showa", 64),
         ("fuzu", 1, 10, 31, "reiwa", 68),
     ] {
-        let made = day_of(Date::try_new_japanese_with_calendar(era, year, month, day, later));
-        let same = Date::try_new_japanese_with_calendar(
-            same_era,
-            same_year,
-            month,
-            day,
-            Ref(&later),
-        );
+        let made = day_in_era((era, year), month, day, later);
+        let same = day_in_era((same_era, same_year), month, day, Ref(&later));
         assert!(rt; made.is_some(), "in {era}");
-        assert_eq!(rt; made, day_of(same), "in {era}");
+        assert!(rt; made == same, "in {era}");
     }
-    let heisei = Date::try_new_japanese_with_calendar("heisei", 1, 1, 1, Japanese::new());
-    assert_eq!(rt; day_of(heisei), Some(726103));
+    let heisei = day_in_era(("heisei", 1), 1, 1, Japanese::new());
+    assert!(rt; heisei == Some(726103));
 }
 
 /// That no date was made, with this error.
@@ -172,26 +202,15 @@ fn range_error(field: &'static str, value: i32, min: i32, max: i32) -> RangeErro
 
 #[test]
 fn the_first_argument_out_of_its_range_is_named(rt: HostRuntime) {
-    assert_range(
-        &rt,
-        Date::try_new_iso(2024, 0, 1),
-        range_error("month", 0, 1, 12),
-    );
-    assert_range(
-        &rt,
-        Date::try_new_iso(10000, 1, 1),
-        range_error("year", 10000, -9999, 9999),
-    );
-    assert_range(
-        &rt,
-        Date::try_new_iso(-10000, 13, 32),
-        range_error("year", -10000, -9999, 9999),
-    );
-    assert_range(
-        &rt,
-        Date::try_new_iso(2021, 2, 29),
-        range_error("day", 29, 1, 28),
-    );
+    for (year, month, day, field, value, min, max) in [
+        (2024, 0, 1, "month", 0, 1, 12),
+        (10000, 1, 1, "year", 10000, -9999, 9999),
+        (-10000, 13, 32, "year", -10000, -9999, 9999),
+        (2021, 2, 29, "day", 29, 1, 28),
+    ] {
+        let made = Date::try_new_iso(year, month, day);
+        assert_range(&rt, made, range_error(field, value, min, max));
+    }
     assert_range(
         &rt,
         Date::try_new_coptic(1686, 14, 7),
@@ -232,49 +251,40 @@ const KINDS: [AnyCalendarKind; 18] = [
     AnyCalendarKind::Roc,
 ];
 
-/// The day number of the date that a Hijri calendar makes of a year, a month and a day.
-fn day_of_hijri<R: Rules>(year: i32, month: u8, day: u8, calendar: &Hijri<R>) -> Option<i64> {
-    day_of(Date::try_new_hijri_with_calendar(year, month, day, Ref(calendar)))
+/// The month of a date as a constructor takes it.
+fn input_of<A: AsCalendar>(date: &Date<A>) -> Month
+where
+    A::Calendar: Calendar,
+{
+    date.month().to_input()
 }
 
-/// The day number of the date that a Japanese calendar makes of a year in its era, a month and a day.
-fn day_in_era(year: YearInfo, month: u8, day: u8, calendar: &Japanese) -> Option<i64> {
-    let named = year.era()?;
-    let (era, number) = (named.era.as_str(), named.year);
-    day_of(Date::try_new_japanese_with_calendar(era, number, month, day, Ref(calendar)))
+/// The day number of the date that a Japanese calendar makes of the parts of a date.
+fn day_of_japanese<A: AsCalendar>(date: &Date<A>, calendar: &Japanese) -> Option<i64>
+where
+    A::Calendar: Calendar,
+{
+    let (_, place, day) = parts_in(date);
+    let named = date.year().era()?;
+    day_in_era((named.era.as_str(), named.year), place, day, Ref(calendar))
 }
 
 /// The day number of the date that the calendar's own constructor makes of a date's parts.
-fn constructed(date: &Date<AnyCalendar<'static>>) -> Option<i64> {
-    let number = date.year().extended_year();
-    let (month, day) = (date.month(), date.day_of_month().0);
-    let (place, input) = (month.ordinal, month.to_input());
+fn day_made_again(date: &Date<AnyCalendar<'static>>) -> Option<i64> {
+    let (year, place, day) = parts_of(date);
     match date.calendar() {
-        AnyCalendar::Buddhist(_) => day_of(Date::try_new_buddhist(number, place, day)),
-        AnyCalendar::Chinese(c) => day_of(Date::try_new_chinese_traditional(
-            number, input, day, *c,
-        )),
-        AnyCalendar::Coptic(_) => day_of(Date::try_new_coptic(number, place, day)),
-        AnyCalendar::Dangi(c) => day_of(Date::try_new_korean_traditional(number, input, day, *c)),
-        AnyCalendar::Ethiopian(c) => day_of(Date::try_new_ethiopian(
-            c.era_style(),
-            number,
-            place,
-            day,
-        )),
-        AnyCalendar::Gregorian(_) => day_of(Date::try_new_gregorian(number, place, day)),
-        AnyCalendar::Hebrew(_) => day_of(Date::try_new_hebrew_v2(number, input, day)),
-        AnyCalendar::HijriSimulated(c) => day_of_hijri(number, place, day, c),
-        AnyCalendar::HijriTabular(c) => day_of_hijri(number, place, day, c),
-        AnyCalendar::HijriUmmAlQura(c) => day_of_hijri(number, place, day, c),
-        AnyCalendar::Indian(_) => day_of(Date::try_new_indian(number, place, day)),
-        AnyCalendar::Iso(_) => day_of(Date::try_new_iso(number, place, day)),
-        AnyCalendar::Japanese(c) => day_in_era(date.year(), place, day, c),
-        AnyCalendar::JapaneseExtended(c) => day_in_era(date.year(), place, day, c),
-        AnyCalendar::Julian(_) => day_of(Date::try_new_julian(number, place, day)),
-        AnyCalendar::Persian(c) => day_of(Date::try_new_persian(number, place, day, *c)),
-        AnyCalendar::Roc(_) => day_of(Date::try_new_roc(number, place, day)),
+        AnyCalendar::Japanese(c) => day_of_japanese(date, c),
+        AnyCalendar::JapaneseExtended(c) => day_of_japanese(date, c),
+        other => day_made(other, year, (place, input_of(date)), day),
     }
+}
+
+/// Whether a date comes before another.
+fn is_before<A: AsCalendar>(date: &Date<A>, other: &Date<A>) -> bool
+where
+    A::Calendar: Calendar,
+{
+    date.date_cmp(other) == Some(Ordering::Less)
 }
 
 /// Days from -1000 to 1000 and from 738000 to 739000.
@@ -285,8 +295,8 @@ fn constructors_give_each_date_back_and_days_give_its_order(rt: HostRuntime) {
             let mut before = date_on(first - 1, kind);
             for number in first..first + count {
                 let date = date_on(number, kind);
-                assert_eq!(rt; constructed(&date), Some(number));
-                assert_eq!(rt; before.date_cmp(&date), Some(Ordering::Less), "on {number}");
+                assert!(rt; day_made_again(&date) == Some(number), "on {number}");
+                assert!(rt; is_before(&before, &date), "on {number}");
                 before = date;
             }
         }

@@ -35,7 +35,7 @@ where
     (date, refusal)
 }
 
-/// That a day and a duration have this sum, or are refused and leave the day as it is. The date that is left comes back.
+/// That a day and a duration have this sum, or are refused and leave the day as it is; answers the date that is left.
 fn assert_sum(
     rt: &impl Abort,
     (calendar, number): (AnyCalendarKind, i64),
