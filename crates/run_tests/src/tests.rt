@@ -3,3 +3,4 @@
 mod lines;
 mod requests;
 mod rows;
+mod runs;

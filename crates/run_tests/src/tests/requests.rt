@@ -1,8 +1,7 @@
 //! Request lines and their answers, which were computed by an independent implementation.
 
-use byte_io::{MemorySink, MemorySource};
+use crate::tests::runs::{Calls, Case, assert_answers, assert_run, calls_of};
 use line_answers::Status;
-use span_run::run;
 use std::alloc::Global;
 use std::process::Abort;
 use std::test::Fail;
@@ -14,13 +13,7 @@ const LEAP_DAY: &[u8] =
 const LEAP_DAY_ANSWER: &[u8] =
     b"ok 2020/default.2020/M02/29@737484 2020/ce.2020/M02/29@737484 2021/default.2021/M02/28@737849 2021/ce.2021/M02/28@737849 P365D\n";
 
-fn span_word(alloc: Global) -> Result<Vec<String>, Fail> {
-    let mut words = Vec::new(alloc);
-    words.push(String::from_str(alloc, "span")?)?;
-    Ok(words)
-}
-
-struct Case {
+struct Answered {
     line: &'static [u8],
     answer: &'static [u8],
 }
@@ -28,188 +21,188 @@ struct Case {
 // Years, months and days of all kinds, the units, a shorter month, months back, the widest difference, bags of all
 // kinds, leap months, a year of 355 days that the rule of the new year lengthens, reference years, eras that begin
 // within a year, the seam of 1912, and the other calendars.
-const CASES: [Case; 46] = [
-    Case {
+const CASES: [Answered; 46] = [
+    Answered {
         line: b"span iso iso none none reject from year=2020 month=M02 day=29 to year=2021 month=M02 day=28",
         answer: b"ok 2020/default.2020/M02/29@737484 2020/default.2020/M02/29@737484 2021/default.2021/M02/28@737849 2021/default.2021/M02/28@737849 P365D\n",
     },
-    Case {
+    Answered {
         line: b"span gregorian gregorian days reject none from year=0 month=M12 day=31 to year=1 month=M01 day=1",
         answer: b"ok 0/bce.1/M12/31@0 0/bce.1/M12/31@0 1/ce.1/M01/01@1 1/ce.1/M01/01@1 P1D\n",
     },
-    Case {
+    Answered {
         line: b"span gregorian iso days reject none from year=-4 month=M12 day=31 to year=1 month=M01 day=1",
         answer: b"ok -4/bce.5/M12/31@-1461 -4/default.-4/M12/31@-1461 1/ce.1/M01/01@1 1/default.1/M01/01@1 P1462D\n",
     },
-    Case {
+    Answered {
         line: b"span gregorian iso days reject none from year=1000000 month=M01 day=1 to year=2000 month=M01 day=1",
         answer: b"err from Overflow\n",
     },
-    Case {
+    Answered {
         line: b"span iso iso days reject none from year=-999999 month=M01 day=1 to year=999999 month=M12 day=31",
         answer: b"ok -999999/default.-999999/M01/01@-365242499 -999999/default.-999999/M01/01@-365242499 999999/default.999999/M12/31@365242134 999999/default.999999/M12/31@365242134 P730484633D\n",
     },
-    Case {
+    Answered {
         line: b"span iso iso days reject reject from year=1982 month=M09 day=8 to year=1979 month=M09 day=8",
         answer: b"ok 1982/default.1982/M09/08@723796 1982/default.1982/M09/08@723796 1979/default.1979/M09/08@722700 1979/default.1979/M09/08@722700 -P1096D\n",
     },
-    Case {
+    Answered {
         line: b"span iso iso days none none from year=-1 month=M01 day=6 to year=-1 month=M01 day=6",
         answer: b"ok -1/default.-1/M01/06@-725 -1/default.-1/M01/06@-725 -1/default.-1/M01/06@-725 -1/default.-1/M01/06@-725 P0D\n",
     },
-    Case {
+    Answered {
         line: b"span iso iso days none none from year=1 month=M01 day=1 to year=1 month=M13 day=1",
         answer: b"err to MonthNotInCalendar\n",
     },
-    Case {
+    Answered {
         line: b"span iso iso days none none from year=1 month=M05L day=1 to year=1 month=M13 day=1",
         answer: b"err from MonthNotInCalendar\n",
     },
-    Case {
+    Answered {
         line: b"span iso iso days none none from year=1040001 month=M13 day=0 to year=1 month=M01 day=1",
         answer: b"err from Overflow\n",
     },
-    Case {
+    Answered {
         line: b"span iso iso days none none from year=2021 month=M02 day=29 to year=1 month=M01 day=1",
         answer: b"err from InvalidDay 28\n",
     },
-    Case {
+    Answered {
         line: b"span iso iso days none none from year=1 month=M01 day=1 to year=1 month=M04 day=0",
         answer: b"err to InvalidDay 30\n",
     },
-    Case {
+    Answered {
         line: b"span iso iso days none none from year=1000000 month=M01 day=1 to year=1 month=M01 day=1",
         answer: b"err from Overflow\n",
     },
-    Case {
+    Answered {
         line: b"span iso gregorian years reject none from year=2020 month=M02 day=29 to year=2021 month=M02 day=28",
         answer: b"ok 2020/default.2020/M02/29@737484 2020/ce.2020/M02/29@737484 2021/default.2021/M02/28@737849 2021/ce.2021/M02/28@737849 P11M30D\n",
     },
-    Case {
+    Answered {
         line: b"span iso gregorian months reject none from year=2020 month=M02 day=29 to year=2021 month=M02 day=28",
         answer: b"ok 2020/default.2020/M02/29@737484 2020/ce.2020/M02/29@737484 2021/default.2021/M02/28@737849 2021/ce.2021/M02/28@737849 P11M30D\n",
     },
-    Case {
+    Answered {
         line: b"span iso gregorian weeks reject none from year=2020 month=M02 day=29 to year=2021 month=M02 day=28",
         answer: b"ok 2020/default.2020/M02/29@737484 2020/ce.2020/M02/29@737484 2021/default.2021/M02/28@737849 2021/ce.2021/M02/28@737849 P52W1D\n",
     },
-    Case {
+    Answered {
         line: b"span iso gregorian days reject none from year=2020 month=M02 day=29 to year=2021 month=M02 day=28",
         answer: b"ok 2020/default.2020/M02/29@737484 2020/ce.2020/M02/29@737484 2021/default.2021/M02/28@737849 2021/ce.2021/M02/28@737849 P365D\n",
     },
-    Case {
+    Answered {
         line: b"span iso gregorian none reject none from year=2020 month=M02 day=29 to year=2021 month=M02 day=28",
         answer: b"ok 2020/default.2020/M02/29@737484 2020/ce.2020/M02/29@737484 2021/default.2021/M02/28@737849 2021/ce.2021/M02/28@737849 P365D\n",
     },
-    Case {
+    Answered {
         line: b"span iso gregorian years reject none from year=-999999 month=M01 day=1 to year=999999 month=M12 day=31",
         answer: b"ok -999999/default.-999999/M01/01@-365242499 -999999/bce.1000000/M01/01@-365242499 999999/default.999999/M12/31@365242134 999999/ce.999999/M12/31@365242134 P1999998Y11M30D\n",
     },
-    Case {
+    Answered {
         line: b"span iso gregorian days reject none from year=-999999 month=M01 day=1 to year=999999 month=M12 day=31",
         answer: b"ok -999999/default.-999999/M01/01@-365242499 -999999/bce.1000000/M01/01@-365242499 999999/default.999999/M12/31@365242134 999999/ce.999999/M12/31@365242134 P730484633D\n",
     },
-    Case {
+    Answered {
         line: b"span iso gregorian months reject none from year=2021 month=M01 day=31 to year=2021 month=M02 day=28",
         answer: b"ok 2021/default.2021/M01/31@737821 2021/ce.2021/M01/31@737821 2021/default.2021/M02/28@737849 2021/ce.2021/M02/28@737849 P28D\n",
     },
-    Case {
+    Answered {
         line: b"span iso gregorian years reject none from year=2021 month=M02 day=28 to year=2020 month=M02 day=29",
         answer: b"ok 2021/default.2021/M02/28@737849 2021/ce.2021/M02/28@737849 2020/default.2020/M02/29@737484 2020/ce.2020/M02/29@737484 -P11M28D\n",
     },
-    Case {
+    Answered {
         line: b"span iso julian days none none from year=2022 month=M01 day=1 to year=2022 month=M01 day=1",
         answer: b"ok 2022/default.2022/M01/01@738156 2021/ce.2021/M12/19@738156 2022/default.2022/M01/01@738156 2021/ce.2021/M12/19@738156 P0D\n",
     },
-    Case {
+    Answered {
         line: b"span iso iso days none none from year=1 month=M01 month-code=M01 day=1 to",
         answer: b"err from TooManyFields\n",
     },
-    Case {
+    Answered {
         line: b"span iso iso days none none from to",
         answer: b"err from NotEnoughFields\n",
     },
-    Case {
+    Answered {
         line: b"span gregorian iso days constrain ecma from year=2004 ordinal=15 day=40 to year=2005 month=M01",
         answer: b"ok 2004/ce.2004/M12/31@731946 2004/default.2004/M12/31@731946 2005/ce.2005/M01/01@731947 2005/default.2005/M01/01@731947 P1D\n",
     },
-    Case {
+    Answered {
         line: b"span gregorian iso days reject ecma from year=2004 ordinal=15 day=40 to year=2005 month=M01",
         answer: b"err from InvalidOrdinalMonth 12\n",
     },
-    Case {
+    Answered {
         line: b"span gregorian iso days reject none from era=xx era-year=1040001 month=M01 day=1 to year=2000 month=M01 day=1",
         answer: b"err from Overflow\n",
     },
-    Case {
+    Answered {
         line: b"span gregorian iso days reject none from era=xx era-year=1 month=M01 day=1 to year=2000 month=M01 day=1",
         answer: b"err from InvalidEra\n",
     },
-    Case {
+    Answered {
         line: b"span gregorian iso days reject none from era=ce month=M01 day=1 to year=2000 month=M01 day=1",
         answer: b"err from NotEnoughFields\n",
     },
-    Case {
+    Answered {
         line: b"span gregorian iso days reject none from era=bce era-year=5 month=M12 day=31 to year=1 month=M01 day=1",
         answer: b"ok -4/bce.5/M12/31@-1461 -4/default.-4/M12/31@-1461 1/ce.1/M01/01@1 1/default.1/M01/01@1 P1462D\n",
     },
-    Case {
+    Answered {
         line: b"span iso iso days none none from era= era-year=-1 month-code= day=0 to ordinal=255",
         answer: b"err from InvalidEra\n",
     },
-    Case {
+    Answered {
         line: b"span iso iso days none none from era=a=b era-year=000000001 to year=1 month=M01 day=1\r",
         answer: b"err from NotEnoughFields\n",
     },
-    Case {
+    Answered {
         line: b"span hebrew iso years reject none from year=5782 month=M05L day=9 to year=5783 month=M01 day=15",
         answer: b"ok 5782/am.5782/M05L/09@738196 2022/default.2022/M02/10@738196 5783/am.5783/M01/15@738438 2022/default.2022/M10/10@738438 P8M6D\n",
     },
-    Case {
+    Answered {
         line: b"span hebrew iso years reject none from year=5787 month=M05L day=10 to year=5788 month=M06 day=10",
         answer: b"ok 5787/am.5787/M05L/10@740029 2027/default.2027/M02/17@740029 5788/am.5788/M06/10@740414 2028/default.2028/M03/08@740414 P1Y\n",
     },
-    Case {
+    Answered {
         line: b"span hebrew iso days reject none from year=5788 month=M01 day=1 to year=5789 month=M01 day=1",
         answer: b"ok 5788/am.5788/M01/01@740256 2027/default.2027/M10/02@740256 5789/am.5789/M01/01@740611 2028/default.2028/M09/21@740611 P355D\n",
     },
-    Case {
+    Answered {
         line: b"span hebrew iso days constrain none from year=5783 month-code=M05L ordinal=5 day=1 to year=5783 ordinal=1 day=1",
         answer: b"err from InconsistentMonth\n",
     },
-    Case {
+    Answered {
         line: b"span coptic iso years constrain ecma from month=M13 day=7 to month=M13 day=7",
         answer: b"ok 1687/am.1687/M13/06@719781 1971/default.1971/M09/11@719781 1687/am.1687/M13/06@719781 1971/default.1971/M09/11@719781 P0D\n",
     },
-    Case {
+    Answered {
         line: b"span japanese iso days reject none from era=heisei era-year=1 month=M01 day=1 to era=meiji era-year=5 month=M01 day=1",
         answer: b"ok 1989/showa.64/M01/01@726103 1989/default.1989/M01/01@726103 1872/ce.1872/M01/01@683369 1872/default.1872/M01/01@683369 -P42734D\n",
     },
-    Case {
+    Answered {
         line: b"span persian persian days reject none from year=1502 month=M12 day=30 to year=1503 month=M01 day=1",
         answer: b"ok 1502/ap.1502/M12/30@775489 1502/ap.1502/M12/30@775489 1503/ap.1503/M01/01@775490 1503/ap.1503/M01/01@775490 P1D\n",
     },
-    Case {
+    Answered {
         line: b"span iso indian years none none from year=1992 month=M09 day=2 to year=2024 month=M03 day=1",
         answer: b"ok 1992/default.1992/M09/02@727443 1914/shaka.1914/M06/11@727443 2024/default.2024/M03/01@738946 1945/shaka.1945/M12/11@738946 P31Y5M28D\n",
     },
-    Case {
+    Answered {
         line: b"span chinese dangi days reject none from year=1911 ordinal=13 day=30 to year=1912 ordinal=1 day=1",
         answer: b"ok 1911/cycle.48/M12/30@698025 1911/cycle.48/M12/30@698025 1912/cycle.49/M01/01@698026 1912/cycle.49/M01/01@698026 P1D\n",
     },
-    Case {
+    Answered {
         line: b"span chinese iso years reject none from year=1900 month=M08L day=1 to year=1901 month=M08 day=1",
         answer: b"ok 1900/cycle.37/M08L/01@693862 1900/default.1900/M09/24@693862 1901/cycle.38/M08/01@694216 1901/default.1901/M09/13@694216 P12M\n",
     },
-    Case {
+    Answered {
         line: b"span chinese iso days reject ecma from month=M01L day=1 to month=M01 day=1",
         answer: b"err from MonthNotInYear\n",
     },
-    Case {
+    Answered {
         line: b"span islamic-simulated iso days reject none from year=1445 month=M02 day=1 to year=1446 month=M01 day=1",
         answer: b"ok 1445/ah.1445/M02/01@738750 2023/default.2023/M08/18@738750 1446/ah.1446/M01/01@739075 2024/default.2024/M07/08@739075 P325D\n",
     },
-    Case {
+    Answered {
         line: b"span islamic-civil islamic-tbla days reject none from year=1455 month=M12 day=30 to year=1456 month=M01 day=1",
         answer: b"err from InvalidDay 29\n",
     },
@@ -217,20 +210,13 @@ const CASES: [Case; 46] = [
 
 // What the line alone is answered, in pieces of any size.
 fn assert_answer(rt: &impl Abort, alloc: Global, line: &[u8], answer: &[u8]) -> Result<(), Fail> {
-    let words = span_word(alloc)?;
-    for cut in [1, 13, 4096] {
-        let mut room = [0u8; 512];
-        let mut source = MemorySource::new(line, cut, &[]);
-        let mut sink = MemorySink::new(&mut room, cut, &[]);
-        let status = run(alloc, &words, &mut source, &mut sink);
-        assert_eq!(rt; sink.taken(), answer);
-        let refused = answer.starts_with(b"err ");
-        let wanted = if refused {
-            Status::Refused
-        } else {
-            Status::Done
-        };
-        assert_eq!(rt; status, wanted);
+    let status = if answer.starts_with(b"err ") {
+        Status::Refused
+    } else {
+        Status::Done
+    };
+    for most in [1, 13, 4096] {
+        assert_answers(rt, alloc, line, most, status, answer)?;
     }
     Ok(())
 }
@@ -305,33 +291,50 @@ fn lines_on_and_off_the_grammar(rt: HostRuntime) -> Result<(), Fail> {
     Ok(())
 }
 
+// That the leap day's request, twice, is answered by a text, where these calls fail.
+fn assert_twice(
+    rt: &impl Abort,
+    alloc: Global,
+    reads: Calls<'_>,
+    writes: Calls<'_>,
+    status: Status,
+    text: &[u8],
+) -> Result<(), Fail> {
+    let mut input = Vec::new(alloc);
+    input.extend_from_slice(LEAP_DAY)?;
+    input.extend_from_slice(LEAP_DAY)?;
+    let case = Case {
+        words: &["span"],
+        input: &input,
+        reads,
+        writes,
+    };
+    let _left = assert_run(rt, alloc, case, status, text)?;
+    Ok(())
+}
+
 #[test]
 fn faults_keep_the_answers_to_whole_lines(rt: HostRuntime) -> Result<(), Fail> {
-    let words = span_word(rt.alloc())?;
-    let mut input = Vec::new(rt.alloc());
-    input.extend_from_slice(LEAP_DAY)?;
-    input.extend_from_slice(LEAP_DAY)?;
-
-    let mut room = [0u8; 512];
-    let mut source = MemorySource::new(&input, LEAP_DAY.len(), &[2]);
-    let mut sink = MemorySink::new(&mut room, 4096, &[]);
-    let status = run(rt.alloc(), &words, &mut source, &mut sink);
-    assert_eq!(rt; status, Status::ReadFault);
-    assert_eq!(rt; sink.taken(), LEAP_DAY_ANSWER);
-
-    let mut room = [0u8; 512];
-    let mut source = MemorySource::new(&input, 1, &[]);
-    let mut sink = MemorySink::new(&mut room, 4096, &[]);
-    let status = run(rt.alloc(), &words, &mut source, &mut sink);
-    assert_eq!(rt; status, Status::Done);
-    assert_eq!(rt; sink.taken().len(), 2 * LEAP_DAY_ANSWER.len());
-    assert_eq!(rt; &sink.taken()[LEAP_DAY_ANSWER.len()..], LEAP_DAY_ANSWER);
-
-    let mut room = [0u8; 512];
-    let mut source = MemorySource::new(&input, 4096, &[]);
-    let mut sink = MemorySink::new(&mut room, 4096, &[1]);
-    let status = run(rt.alloc(), &words, &mut source, &mut sink);
-    assert_eq!(rt; status, Status::WriteFault);
-    assert_eq!(rt; sink.taken(), b"".as_slice());
-    Ok(())
+    let cut_read = Calls {
+        most: LEAP_DAY.len(),
+        failing: &[2],
+    };
+    let no_write = Calls {
+        most: 4096,
+        failing: &[1],
+    };
+    let whole = calls_of(4096);
+    let mut answers = Vec::new(rt.alloc());
+    answers.extend_from_slice(LEAP_DAY_ANSWER)?;
+    answers.extend_from_slice(LEAP_DAY_ANSWER)?;
+    assert_twice(
+        &rt,
+        rt.alloc(),
+        cut_read,
+        whole,
+        Status::ReadFault,
+        LEAP_DAY_ANSWER,
+    )?;
+    assert_twice(&rt, rt.alloc(), calls_of(1), whole, Status::Done, &answers)?;
+    assert_twice(&rt, rt.alloc(), whole, no_write, Status::WriteFault, b"")
 }

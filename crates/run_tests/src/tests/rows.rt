@@ -1,13 +1,12 @@
 //! Row lines before requests, and what is written. The answers are worked by hand or by an independent implementation.
 
-use byte_io::{MemorySink, MemorySource, Source};
+use crate::tests::runs::{Calls, Case, assert_answers, assert_run, calls_of};
 use line_answers::Status;
-use span_run::run;
 use std::alloc::Global;
 use std::process::Abort;
 use std::test::Fail;
 
-struct Case {
+struct Answered {
     input: &'static [u8],
     text: &'static [u8],
     status: Status,
@@ -21,43 +20,43 @@ const LEAP_DAY_ANSWER: &[u8] =
 
 // A Hijri year, which the simulation doesn't take; a corrected Persian year; a Chinese year, which Korea doesn't take; an
 // era after Reiwa; rows among lines that give nothing, of several tables; an era that starts before 2026; and no request.
-const ANSWERED: [Case; 8] = [
-    Case {
+const ANSWERED: [Answered; 8] = [
+    Answered {
         input: b"row hijri 1445 738720 sllslslslsll\nspan islamic-umalqura iso days reject none from year=1445 month=M02 day=1 to year=1446 month=M01 day=1\n",
         text: b"ok 1445/ah.1445/M02/01@738749 2023/default.2023/M08/17@738749 1446/ah.1446/M01/01@739075 2024/default.2024/M07/08@739075 P326D\n",
         status: Status::Done,
     },
-    Case {
+    Answered {
         input: b"row hijri 1445 738720 sllslslslsll\nspan islamic-simulated iso days reject none from year=1445 month=M02 day=1 to year=1446 month=M01 day=1\n",
         text: b"ok 1445/ah.1445/M02/01@738750 2023/default.2023/M08/18@738750 1446/ah.1446/M01/01@739075 2024/default.2024/M07/08@739075 P325D\n",
         status: Status::Done,
     },
-    Case {
+    Answered {
         input: b"row persian 1502\nspan persian persian days reject none from year=1502 month=M12 day=30 to year=1503 month=M01 day=1",
         text: b"err from InvalidDay 29\n",
         status: Status::Refused,
     },
-    Case {
+    Answered {
         input: b"row china 1912 698026 lslslslslsls 0\nspan chinese dangi days reject none from year=1912 month=M01 day=30 to year=1912 month=M01 day=30\n",
         text: b"ok 1912/cycle.49/M01/30@698055 1912/cycle.49/M02/01@698055 1912/cycle.49/M01/30@698055 1912/cycle.49/M02/01@698055 P0D\n",
         status: Status::Done,
     },
-    Case {
+    Answered {
         input: b"row era 2086 11 1 fuzu 8\nspan japanese iso days reject none from era=fuzu era-year=1 month=M10 day=31 to era=fuzu era-year=1 month=M11 day=1\n",
         text: b"ok 2086/reiwa.68/M10/31@761835 2086/default.2086/M10/31@761835 2086/fuzu.1/M11/01@761836 2086/default.2086/M11/01@761836 P1D\n",
         status: Status::Done,
     },
-    Case {
+    Answered {
         input: b"# rows\n\nrow persian 1502\r\nrow hijri 1445 738720 sllslslslsll\nrow era 2086 11 1 fuzu 8\n#\nspan persian persian days reject none from year=1503 month=M01 day=1 to year=1503 month=M01 day=1\n",
         text: b"ok 1503/ap.1503/M01/01@775489 1503/ap.1503/M01/01@775489 1503/ap.1503/M01/01@775489 1503/ap.1503/M01/01@775489 P0D\n",
         status: Status::Done,
     },
-    Case {
+    Answered {
         input: b"row era 2020 99 200 zzz 0\nspan japanese japanese days reject none from era=zzz era-year=1 month=M10 day=31 to\n",
         text: b"err from InvalidEra\n",
         status: Status::Refused,
     },
-    Case {
+    Answered {
         input: b"row hijri 1445 738720 sllslslslsll\n",
         text: b"",
         status: Status::Done,
@@ -145,27 +144,16 @@ const REFUSED: [(&[u8], &[u8]); 26] = [
     (b"row persian 1234567890\r", b"table line 1 syntax\n"),
 ];
 
-fn span_word(alloc: Global) -> Result<Vec<String>, Fail> {
-    let mut words = Vec::new(alloc);
-    words.push(String::from_str(alloc, "span")?)?;
-    Ok(words)
-}
-
-fn assert_run(
+// What the lines are answered, in pieces of any size.
+fn assert_pieces(
     rt: &impl Abort,
     alloc: Global,
     input: &[u8],
     text: &[u8],
-    wanted: Status,
+    status: Status,
 ) -> Result<(), Fail> {
-    let words = span_word(alloc)?;
-    for cut in [1, 13, 4096] {
-        let mut room = [0u8; 512];
-        let mut source = MemorySource::new(input, cut, &[]);
-        let mut sink = MemorySink::new(&mut room, cut, &[]);
-        let status = run(alloc, &words, &mut source, &mut sink);
-        assert_eq!(rt; sink.taken(), text);
-        assert_eq!(rt; status, wanted);
+    for most in [1, 13, 4096] {
+        assert_answers(rt, alloc, input, most, status, text)?;
     }
     Ok(())
 }
@@ -173,7 +161,7 @@ fn assert_run(
 #[test]
 fn rows_stand_in_place_of_computed_years(rt: HostRuntime) -> Result<(), Fail> {
     for case in &ANSWERED {
-        assert_run(&rt, rt.alloc(), case.input, case.text, case.status)?;
+        assert_pieces(&rt, rt.alloc(), case.input, case.text, case.status)?;
     }
     Ok(())
 }
@@ -181,7 +169,7 @@ fn rows_stand_in_place_of_computed_years(rt: HostRuntime) -> Result<(), Fail> {
 #[test]
 fn bad_rows_end_the_run(rt: HostRuntime) -> Result<(), Fail> {
     for (input, text) in REFUSED {
-        assert_run(&rt, rt.alloc(), input, text, Status::TableRefused)?;
+        assert_pieces(&rt, rt.alloc(), input, text, Status::TableRefused)?;
     }
     Ok(())
 }
@@ -190,7 +178,6 @@ fn bad_rows_end_the_run(rt: HostRuntime) -> Result<(), Fail> {
 // stands behind it isn't read.
 #[test]
 fn late_rows_end_the_run(rt: HostRuntime) -> Result<(), Fail> {
-    let words = span_word(rt.alloc())?;
     for (first, answer) in [
         (LEAP_DAY, LEAP_DAY_ANSWER),
         (b"span iso\n".as_slice(), b"err line 1 syntax\n".as_slice()),
@@ -204,16 +191,17 @@ fn late_rows_end_the_run(rt: HostRuntime) -> Result<(), Fail> {
             input.extend_from_slice(first)?;
             input.extend_from_slice(late)?;
             input.extend_from_slice(b"\nspan iso\n")?;
-            let mut room = [0u8; 512];
-            let mut source = MemorySource::new(&input, 1, &[]);
-            let mut sink = MemorySink::new(&mut room, 4096, &[]);
-            let status = run(rt.alloc(), &words, &mut source, &mut sink);
-            assert_eq!(rt; status, Status::TableRefused);
-            assert!(rt; sink.taken().starts_with(answer));
-            assert!(rt; sink.taken().ends_with(b"\ntable line 2 late\n"));
-            assert_eq!(rt; sink.taken().len(), answer.len() + 18);
-            let mut buf = [0u8; 16];
-            assert_eq!(rt; source.read(&mut buf), Ok(1));
+            let mut text = Vec::new(rt.alloc());
+            text.extend_from_slice(answer)?;
+            text.extend_from_slice(b"table line 2 late\n")?;
+            let case = Case {
+                words: &["span"],
+                input: &input,
+                reads: calls_of(1),
+                writes: calls_of(4096),
+            };
+            let left = assert_run(&rt, rt.alloc(), case, Status::TableRefused, &text)?;
+            assert!(rt; left == 1);
         }
     }
     Ok(())
@@ -222,20 +210,30 @@ fn late_rows_end_the_run(rt: HostRuntime) -> Result<(), Fail> {
 // The tables aren't tested where the source failed, and a sink that takes nothing is a fault of its own.
 #[test]
 fn faults_among_rows(rt: HostRuntime) -> Result<(), Fail> {
-    let words = span_word(rt.alloc())?;
-    let input = b"row persian 0\n".as_slice();
-    let mut room = [0u8; 512];
-    let mut source = MemorySource::new(input, 4096, &[2]);
-    let mut sink = MemorySink::new(&mut room, 4096, &[]);
-    let status = run(rt.alloc(), &words, &mut source, &mut sink);
-    assert_eq!(rt; status, Status::ReadFault);
-    assert_eq!(rt; sink.taken(), b"".as_slice());
-
-    let mut room = [0u8; 512];
-    let mut source = MemorySource::new(input, 4096, &[]);
-    let mut sink = MemorySink::new(&mut room, 7, &[2]);
-    let status = run(rt.alloc(), &words, &mut source, &mut sink);
-    assert_eq!(rt; status, Status::WriteFault);
-    assert_eq!(rt; sink.taken(), b"table p".as_slice());
+    let failing = Calls {
+        most: 4096,
+        failing: &[2],
+    };
+    let full = Calls {
+        most: 7,
+        failing: &[2],
+    };
+    for (reads, writes, status, text) in [
+        (failing, calls_of(4096), Status::ReadFault, b"".as_slice()),
+        (
+            calls_of(4096),
+            full,
+            Status::WriteFault,
+            b"table p".as_slice(),
+        ),
+    ] {
+        let case = Case {
+            words: &["span"],
+            input: b"row persian 0\n",
+            reads,
+            writes,
+        };
+        let _left = assert_run(&rt, rt.alloc(), case, status, text)?;
+    }
     Ok(())
 }
