@@ -8,10 +8,10 @@ mod reference_years;
 mod subsets;
 
 use icu_calendar::{
-    AnyCalendarKind, Date, DateFields, DateFromFieldsError, DateFromFieldsOptions, Gregorian, Iso,
-    Julian, MissingFieldsStrategy, Month, Overflow,
+    AnyCalendar, AnyCalendarKind, Date, DateFields, DateFromFieldsError, DateFromFieldsOptions,
+    Gregorian, Iso, Julian, MissingFieldsStrategy, Month, Overflow,
 };
-use known_dates::{GREGORIAN, ISO, JULIAN, calendar_of};
+use known_dates::{GREGORIAN, ISO, JULIAN, calendar_of, number_of, parts_of};
 use std::process::Abort;
 
 /// The fields of a bag that speak of the year: era, era year and extended year.
@@ -80,14 +80,33 @@ const LENIENT: DateFromFieldsOptions = DateFromFieldsOptions {
     missing_fields_strategy: Some(MissingFieldsStrategy::Ecma),
 };
 
+/// The date that a bag names in the calendar of a kind, or its first fault.
+fn date_of(
+    fields: DateFields<'_>,
+    options: DateFromFieldsOptions,
+    calendar: AnyCalendarKind,
+) -> Result<Date<AnyCalendar<'static>>, DateFromFieldsError> {
+    Date::try_from_fields(fields, options, calendar_of(calendar))
+}
+
 /// The day number of the date that a bag names, or its first fault.
 fn day_of(
     fields: DateFields<'_>,
     options: DateFromFieldsOptions,
     calendar: AnyCalendarKind,
 ) -> Result<i64, DateFromFieldsError> {
-    match Date::try_from_fields(fields, options, calendar_of(calendar)) {
-        Ok(date) => Ok(date.to_rata_die().to_i64_date()),
+    match date_of(fields, options, calendar) {
+        Ok(date) => Ok(number_of(&date)),
         Err(cause) => Err(cause),
     }
+}
+
+/// Whether a bag names the date of this day, or has this first fault.
+fn is_day(
+    fields: DateFields<'_>,
+    options: DateFromFieldsOptions,
+    calendar: AnyCalendarKind,
+    want: Result<i64, DateFromFieldsError>,
+) -> bool {
+    day_of(fields, options, calendar) == want
 }

@@ -1,7 +1,5 @@
 //! Days of which the dates are known, and dates there and back.
 
-ghost use Rattle.icu_calendar.specs.Day.{IsValidDay};
-
 use super::*;
 use EthiopianEraStyle::{AmeteAlem, AmeteMihret};
 use TabularAlgorithmEpoch::{Friday, Thursday};
@@ -9,9 +7,9 @@ use TabularAlgorithmLeapYears::TypeII;
 use icu_calendar::{
     AsCalendar, Buddhist, Calendar, ChineseTraditional, Coptic, EastAsianTable, Ethiopian,
     EthiopianEraStyle, Hebrew, Hijri, HijriTable, Indian, Japanese, KoreanTraditional, Persian,
-    PersianCorrections, RataDie, Roc, Side, TabularAlgorithmEpoch, TabularAlgorithmLeapYears,
-    YearInput,
+    PersianCorrections, Roc, Side, TabularAlgorithmEpoch, TabularAlgorithmLeapYears, YearInput,
 };
+use known_dates::{day, number_in};
 use std::cmp::Ordering;
 
 /// What a date shows: its extended year, its month code, its day, and its era with the year in it.
@@ -36,11 +34,14 @@ where
 }
 
 /// The day that the fields of a day's date name in the calendar.
-fn day_from_fields<A: AsCalendar + Copy>(day: i64, calendar: A) -> Result<i64, DateFromFieldsError>
+fn day_from_fields<A: AsCalendar + Copy>(
+    number: i64,
+    calendar: A,
+) -> Result<i64, DateFromFieldsError>
 where
     A::Calendar: Calendar,
 {
-    let date = Date::from_rata_die(clamped(day), calendar);
+    let date = Date::from_rata_die(day(number), calendar);
     let month_code = date.month().standard_code;
     let fields = DateFields {
         extended_year: Some(date.year().extended_year()),
@@ -49,14 +50,9 @@ where
         ..DateFields::default()
     };
     match Date::try_from_fields(fields, STRICT, calendar) {
-        Ok(named) => Ok(named.to_rata_die().to_i64_date()),
+        Ok(named) => Ok(number_in(&named)),
         Err(cause) => Err(cause),
     }
-}
-
-/// The day number, brought to the valid range.
-fn clamped(day: i64) -> RataDie {
-    RataDie::new(day.clamp(-365242499, 365242134))
 }
 
 /// That dates of days show what is known of them.
@@ -64,9 +60,9 @@ fn assert_known<A: AsCalendar + Copy>(rt: &impl Abort, calendar: A, known: &[(i6
 where
     A::Calendar: Calendar,
 {
-    for (day, shown) in known {
-        let date = Date::from_rata_die(clamped(*day), calendar);
-        assert!(rt; shows(&date, *shown), "of {day}: {date:?}");
+    for (number, shown) in known {
+        let date = Date::from_rata_die(day(*number), calendar);
+        assert!(rt; shows(&date, *shown), "of {number}: {date:?}");
     }
 }
 
@@ -125,13 +121,13 @@ fn eras_of_buddha_and_of_japan_name_known_dates(rt: HostRuntime) {
         ..DateFields::default()
     };
     match Date::try_from_fields(year_0, STRICT, Buddhist) {
-        Ok(date) => assert_eq!(rt; date.year().extended_year(), 0),
+        Ok(date) => assert!(rt; date.year().extended_year() == 0),
         Err(cause) => assert!(rt; false, "{cause}"),
     }
     for (era, year) in [("ce", 2024), ("reiwa", 6)] {
         let year = YearInput::EraYear(era, year);
         match Date::try_new(year, Month::new(3), 1, Japanese::new()) {
-            Ok(date) => assert_eq!(rt; date.to_rata_die().to_i64_date(), 738946),
+            Ok(date) => assert!(rt; number_in(&date) == 738946, "of {era}"),
             Err(cause) => assert!(rt; false, "{cause}"),
         }
     }
@@ -160,23 +156,23 @@ fn known_days_have_known_hijri_dates(rt: HostRuntime) {
     );
 }
 
-/// A day number of the valid range.
-fn valid_day(rt: &impl Abort, number: i64) -> RataDie
-    ensures { IsValidDay result }
-{
-    assert!(rt; -365242499 <= number && number <= 365242134);
-    RataDie::new(number)
-}
-
-/// How the date of a day stands to that of the next day.
-fn order_to_next<A: AsCalendar + Copy>(rt: &impl Abort, day: i64, calendar: A) -> Option<Ordering>
+/// Whether the date of a day comes before that of the next day.
+fn is_before_next<A: AsCalendar + Copy>(number: i64, calendar: A) -> bool
 where
     A::Calendar: Calendar,
 {
-    let date = calendar.as_calendar().from_rata_die(valid_day(rt, day));
-    let after = valid_day(rt, day.saturating_add(1));
+    let date = calendar.as_calendar().from_rata_die(day(number));
+    let after = day(number.saturating_add(1));
     let next = calendar.as_calendar().from_rata_die(after);
-    date.partial_cmp(&next)
+    date.partial_cmp(&next) == Some(Ordering::Less)
+}
+
+/// Whether a day is the one that the fields of its date name.
+fn is_named_back<A: AsCalendar + Copy>(number: i64, calendar: A) -> bool
+where
+    A::Calendar: Calendar,
+{
+    day_from_fields(number, calendar) == Ok(number)
 }
 
 /// That days near year 1, near today and at both ends of the valid range come back from their fields, and that dates
@@ -188,16 +184,12 @@ where
     for first in [-1000i64, 0, 738000, -365242499, 365241133] {
         for after in 0..=1000i64 {
             let day = first.saturating_add(after);
-            assert_eq!(rt; day_from_fields(day, calendar), Ok(day), "of {day}");
-            assert_eq!(rt;
-                order_to_next(rt, day, calendar),
-                Some(Ordering::Less),
-                "of {day}"
-            );
+            assert!(rt; is_named_back(day, calendar), "of {day}");
+            assert!(rt; is_before_next(day, calendar), "of {day}");
         }
     }
     let last = 365242134;
-    assert_eq!(rt; day_from_fields(last, calendar), Ok(last), "of {last}");
+    assert!(rt; is_named_back(last, calendar), "of {last}");
 }
 
 #[test]

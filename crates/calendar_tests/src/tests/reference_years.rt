@@ -4,6 +4,21 @@
 use super::*;
 use DateFromFieldsError::{InvalidDay, NotEnoughFields};
 
+/// The extended year and the day of the month of the date that a bag names, or its first fault.
+fn year_and_day(
+    fields: DateFields<'_>,
+    options: DateFromFieldsOptions,
+    calendar: AnyCalendarKind,
+) -> Result<(i32, u8), DateFromFieldsError> {
+    match date_of(fields, options, calendar) {
+        Ok(date) => {
+            let (year, _, day) = parts_of(&date);
+            Ok((year, day))
+        }
+        Err(cause) => Err(cause),
+    }
+}
+
 #[test]
 fn a_month_and_a_day_are_in_the_reference_year(rt: HostRuntime) {
     for (calendar, number, day, options, want) in [
@@ -22,31 +37,25 @@ fn a_month_and_a_day_are_in_the_reference_year(rt: HostRuntime) {
         (JULIAN, 12, 0, LENIENT, Ok((1972, 1))),
         (JULIAN, 12, 32, FILLS, Err(InvalidDay { max: 31 })),
     ] {
-        let answer = Date::try_from_fields(
-            bag(NO_YEAR, month(number), Some(day)),
-            options,
-            calendar_of(calendar),
-        );
-        let found = match answer {
-            Ok(date) => Ok((date.year().extended_year(), date.day_of_month().0)),
-            Err(cause) => Err(cause),
-        };
-        assert_eq!(rt; found, want, "{number} and {day}");
+        let fields = bag(NO_YEAR, month(number), Some(day));
+        let found = year_and_day(fields, options, calendar);
+        assert!(rt; found == want, "{number} and {day}");
     }
 }
 
 #[test]
 fn a_year_and_a_month_are_their_first_day(rt: HostRuntime) {
-    for (calendar, year, month, want) in [
-        (GREGORIAN, extended(2005), month(1), 731947),
-        (GREGORIAN, of_era("ce", 2005), ordinal(1), 731947),
-        (ISO, of_era("default", 2022), code("M01"), 738156),
-        (JULIAN, extended(1), month(1), -1),
+    for (calendar, named, year, month, want) in [
+        (GREGORIAN, "2005", extended(2005), month(1), 731947),
+        (GREGORIAN, "2005 ce", of_era("ce", 2005), ordinal(1), 731947),
+        (ISO, "2022", of_era("default", 2022), code("M01"), 738156),
+        (JULIAN, "1", extended(1), month(1), -1),
     ] {
         let of_year = bag(year, month, None);
-        let found = day_of(of_year, FILLS, calendar);
-        assert_eq!(rt; found, Ok(want), "of {year:?}");
-        let whole = day_of(of_year, STRICT, calendar);
-        assert_eq!(rt; whole, Err(NotEnoughFields), "of {year:?}");
+        assert!(rt; is_day(of_year, FILLS, calendar, Ok(want)), "of {named}");
+        assert!(rt;
+            is_day(of_year, STRICT, calendar, Err(NotEnoughFields)),
+            "of {named}"
+        );
     }
 }

@@ -87,20 +87,19 @@ fn wanted(has: Subset, missing: MissingFieldsStrategy) -> Result<i64, DateFromFi
 
 #[test]
 fn subsets_that_name_year_month_and_day_are_dates(rt: HostRuntime) {
-    for (options, missing) in [
-        (STRICT, Reject),
-        (CLAMPS, Reject),
-        (FILLS, Ecma),
-        (LENIENT, Ecma),
-        (DateFromFieldsOptions::default(), Reject),
+    for (name, options, missing) in [
+        ("strict", STRICT, Reject),
+        ("clamps", CLAMPS, Reject),
+        ("fills", FILLS, Ecma),
+        ("lenient", LENIENT, Ecma),
+        ("default", DateFromFieldsOptions::default(), Reject),
     ] {
         for number in 0u8..128 {
             let has = of_number(number);
-            let found = day_of(fields_of(has), options, GREGORIAN);
-            assert_eq!(rt;
-                found,
-                wanted(has, missing),
-                "of {number} under {missing:?}"
+            let want = wanted(has, missing);
+            assert!(rt;
+                is_day(fields_of(has), options, GREGORIAN, want),
+                "of {number} under {name} options"
             );
         }
     }
