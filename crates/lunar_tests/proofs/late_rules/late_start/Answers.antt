@@ -1,8 +1,7 @@
-use Rattle.std.proofs.Common.{◌≡◌, pos, ◌-ℤ◌, ◌+ℤ◌, ◌*ℤ◌, ℤ, to_z, of_z, w64, arith}
+use Rattle.std.proofs.Common.{◌≡◌, pos, ◌-ℤ◌, ◌*ℤ◌, to_z, of_z, w64, arith}
 use Rattle.cal_days.specs.Islamic.{islamic_mean_start}
 use Rattle.cal_days.proofs.IslamicLemmas.{mean_start-bounds}
 use Rattle.cal_days.proofs.Signed.{signed}
-use Rattle.lunar_tests.specs.LateYears.{late_start}
 use Rattle.lunar_tests.proofs.late_rules.late_start.Goals as goal
 
 pub returns-clause-day : goal.returns-clause-day

@@ -1,4 +1,4 @@
-use Rattle.std.proofs.Common.{◌≡◌, ◌∙◌, ℤ, List, pos, neg_ℤ, ◌+ℤ◌, sym, ap, subst, to_z, of_z, w32, w64, arith}
+use Rattle.std.proofs.Common.{◌≡◌, ◌∙◌, ℤ, List, pos, neg_ℤ, ◌+ℤ◌, ap, to_z, of_z, w32, w64, arith}
 use Rattle.cal_days.specs.Day.{IsBetween, IsRuleYear}
 use Rattle.cal_days.proofs.Signed.{signed}
 use Rattle.cal_hijri.specs.MonthStarts.{AreMonthStarts, HasLengthsOf, start_at}
