@@ -12,6 +12,7 @@ use Rattle.cal_east_asian.specs.declared.east_asian_traditional_year.EastAsianTr
 use Rattle.cal_east_asian.specs.ComputedLaws.{computed_year}
 use Rattle.cal_east_asian.specs.declared.sides.Side.TheVariants.{China}
 use Rattle.cal_hijri.specs.HijriSystem as hijri
+use Rattle.cal_hijri.specs.PackedYears.{packed_year}
 use Rattle.cal_hijri.specs.TableFriday.{friday_year}
 use Rattle.cal_hijri.specs.declared.hijri_year.HijriYear.{HijriYear}
 use Rattle.cal_julian.specs.IndianSystem.{indian_date}
@@ -67,9 +68,9 @@ keeps_hebrew_length _ = true
 
 -- the year that a Hijri date keeps; of other dates, any
 abbrev pub hijri_year : AnyDateInner → HijriYear
-hijri_year (inner.HijriSimulated d) = d.0.packed.year
-hijri_year (inner.HijriTabular d) = d.0.packed.year
-hijri_year (inner.HijriUmmAlQura d) = d.0.packed.year
+hijri_year (inner.HijriSimulated d) = packed_year d.0.packed
+hijri_year (inner.HijriTabular d) = packed_year d.0.packed
+hijri_year (inner.HijriUmmAlQura d) = packed_year d.0.packed
 hijri_year _ = friday_year (pos 1)
 
 -- the year that a Chinese or Korean date keeps; of other dates, any

@@ -21,8 +21,8 @@ use std::hash::{Hash, Hasher};
 /// extended year.
 #[derive(Clone, Copy, Debug)]
 pub struct HijriYear {
-    pub(crate) extended_year: i32,
     pub(crate) first_day: i64,
+    pub(crate) extended_year: i32,
     /// A bit for each month with 30 days, the first month's the lowest.
     pub(crate) long_months: u16,
     ghost near: { IsNearMean extended_year first_day },
@@ -185,33 +185,46 @@ impl Hash for HijriYear {
     }
 }
 
-/// A year of a Hijri calendar, the place of a month in it, and a day of that month, both from 1.
+/// A date of a Hijri calendar as it is kept: its year's number, first day and months, the place of its month, and the
+/// day of that month, both from 1.
+///
+/// The dates of years from -1040000 to 1040000 are packed, so 32 bits hold the first day.
 #[derive(Clone, Copy, Debug)]
 pub struct PackedHijriDate {
-    year: HijriYear,
+    extended_year: i32,
+    first_day: i32,
+    long_months: u16,
     month: u8,
     day: u8,
+    ghost near: { IsNearMean extended_year first_day },
 }
 
 impl PackWithMD for HijriYear {
     ghost use Rattle.cal_arith.specs.Dates.{ymd};
+    ghost use Rattle.cal_hijri.specs.PackedYears.{packed_year};
 
     type Packed = PackedHijriDate;
 
     ghost stored = { λ y. y.extended_year };
 
-    ghost parts = { λ p. ymd p.year p.month p.day };
+    ghost parts = { λ p. ymd (packed_year p) p.month p.day };
 
     fn pack(self, month: u8, day: u8) -> PackedHijriDate {
         PackedHijriDate {
-            year: self,
+            extended_year: self.extended_year,
+            first_day: self.first_day as i32,
+            long_months: self.long_months,
             month,
             day,
         }
     }
 
     fn unpack_year(packed: PackedHijriDate) -> HijriYear {
-        packed.year
+        HijriYear {
+            first_day: i64::from(packed.first_day),
+            extended_year: packed.extended_year,
+            long_months: packed.long_months,
+        }
     }
 
     fn unpack_month(packed: PackedHijriDate) -> u8 {
