@@ -8,11 +8,12 @@ use Rattle.cal_coptic.specs.CopticSystem.{coptic_date}
 use Rattle.cal_coptic.specs.EthiopianSystem.{kept_date as in_coptic_years}
 use Rattle.cal_hebrew.specs.HebrewSystem.{hebrew_date, has_hebrew_length}
 use Rattle.cal_east_asian.specs.EastAsianSystem as east_asian
+use Rattle.cal_east_asian.specs.PackedYears as packed_east_asian
 use Rattle.cal_east_asian.specs.declared.east_asian_traditional_year.EastAsianTraditionalYear.{EastAsianTraditionalYear}
 use Rattle.cal_east_asian.specs.ComputedLaws.{computed_year}
 use Rattle.cal_east_asian.specs.declared.sides.Side.TheVariants.{China}
 use Rattle.cal_hijri.specs.HijriSystem as hijri
-use Rattle.cal_hijri.specs.PackedYears.{packed_year}
+use Rattle.cal_hijri.specs.PackedYears as packed_hijri
 use Rattle.cal_hijri.specs.TableFriday.{friday_year}
 use Rattle.cal_hijri.specs.declared.hijri_year.HijriYear.{HijriYear}
 use Rattle.cal_julian.specs.IndianSystem.{indian_date}
@@ -68,15 +69,15 @@ keeps_hebrew_length _ = true
 
 -- the year that a Hijri date keeps; of other dates, any
 abbrev pub hijri_year : AnyDateInner → HijriYear
-hijri_year (inner.HijriSimulated d) = packed_year d.0.packed
-hijri_year (inner.HijriTabular d) = packed_year d.0.packed
-hijri_year (inner.HijriUmmAlQura d) = packed_year d.0.packed
+hijri_year (inner.HijriSimulated d) = packed_hijri.packed_year d.0.packed
+hijri_year (inner.HijriTabular d) = packed_hijri.packed_year d.0.packed
+hijri_year (inner.HijriUmmAlQura d) = packed_hijri.packed_year d.0.packed
 hijri_year _ = friday_year (pos 1)
 
 -- the year that a Chinese or Korean date keeps; of other dates, any
 abbrev pub east_asian_year : AnyDateInner → EastAsianTraditionalYear
-east_asian_year (inner.Chinese d) = d.0.packed.year
-east_asian_year (inner.Dangi d) = d.0.packed.year
+east_asian_year (inner.Chinese d) = packed_east_asian.packed_year d.0.packed
+east_asian_year (inner.Dangi d) = packed_east_asian.packed_year d.0.packed
 east_asian_year _ = computed_year China (pos 1)
 
 -- equal dates of one kind of calendar

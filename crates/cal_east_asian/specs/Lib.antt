@@ -7,6 +7,7 @@ pub mod EastAsianEntryLaws
 pub mod MonthDayLaws
 pub mod EastAsianListLaws
 pub mod EastAsianStartLaws
+pub mod PackedYears
 pub mod SameYears
 pub mod SameYearLaws
 pub mod EastAsianSystem

@@ -26,10 +26,10 @@ use std::hash::{Hash, Hasher};
 /// Years are equal, ordered and hashed by the number.
 #[derive(Clone, Copy, Debug)]
 pub struct EastAsianTraditionalYear {
-    /// The ISO year in which it starts.
-    pub(crate) related_iso: i32,
     /// The rata die of its first day.
     pub(crate) new_year: i64,
+    /// The ISO year in which it starts.
+    pub(crate) related_iso: i32,
     /// A bit for each month of 30 days, the first month's lowest. The other months have 29 days.
     pub(crate) long_months: u16,
     /// The place of the leap month, or 0 without one.
@@ -183,33 +183,49 @@ impl EastAsianTraditionalYear {
     }
 }
 
-/// A year of a Chinese or Korean calendar, the place of a month in it, and a day of that month, both from 1.
+/// A year of a Chinese or Korean calendar that the fields of a date may name, the place of a month in it, and a day of
+/// that month, both from 1.
+///
+/// The first day of such a year fits 32 bits, where that of any year may need more.
 #[derive(Clone, Copy, Debug)]
 pub struct PackedEastAsianDate {
-    year: EastAsianTraditionalYear,
+    related_iso: i32,
+    new_year: i32,
+    long_months: u16,
+    leap_month: u8,
     month: u8,
     day: u8,
+    ghost valid: { IsEastAsianYear related_iso new_year leap_month },
 }
 
 impl PackWithMD for EastAsianTraditionalYear {
     ghost use Rattle.cal_arith.specs.Dates.{ymd};
+    ghost use Rattle.cal_east_asian.specs.PackedYears.{packed_year};
 
     type Packed = PackedEastAsianDate;
 
     ghost stored = { λ y. y.related_iso };
 
-    ghost parts = { λ p. ymd p.year p.month p.day };
+    ghost parts = { λ p. ymd (packed_year p) p.month p.day };
 
     fn pack(self, month: u8, day: u8) -> PackedEastAsianDate {
         PackedEastAsianDate {
-            year: self,
+            related_iso: self.related_iso,
+            new_year: self.new_year as i32,
+            long_months: self.long_months,
+            leap_month: self.leap_month,
             month,
             day,
         }
     }
 
     fn unpack_year(packed: PackedEastAsianDate) -> EastAsianTraditionalYear {
-        packed.year
+        EastAsianTraditionalYear {
+            related_iso: packed.related_iso,
+            new_year: i64::from(packed.new_year),
+            long_months: packed.long_months,
+            leap_month: packed.leap_month,
+        }
     }
 
     fn unpack_month(packed: PackedEastAsianDate) -> u8 {

@@ -1,0 +1,12 @@
+-- The year that a packed date keeps.
+use Rattle.cal_east_asian.specs.declared.east_asian_traditional_year.EastAsianTraditionalYear.{EastAsianTraditionalYear}
+use Rattle.cal_east_asian.specs.declared.east_asian_traditional_year.PackedEastAsianDate.{PackedEastAsianDate}
+
+abbrev pub packed_year : PackedEastAsianDate → EastAsianTraditionalYear
+packed_year p = record {
+  related_iso = p.related_iso;
+  new_year = p.new_year;
+  long_months = p.long_months;
+  leap_month = p.leap_month;
+  valid = p.valid;
+}
