@@ -1,5 +1,6 @@
 pub mod SplitLemmas
 pub mod TakingLemmas
+pub mod NumberLemmas
 pub mod KeyLemmas
 pub mod FieldLemmas
 pub mod BagLemmas

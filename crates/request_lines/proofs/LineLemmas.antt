@@ -6,7 +6,7 @@ use Rattle.std.proofs.lemmas.Bool.{ne_eqb}
 use borrow.Author.Tests.{ltb-true, ltb-false}
 use Rattle.request_lines.specs.Words.{words_of}
 use Rattle.request_lines.specs.Requests.{Request, request_read}
-use Rattle.request_lines.specs.Rows.{row_read}
+use Rattle.request_lines.specs.Rows.{Row, row_read}
 use Rattle.request_lines.specs.Lines.{Line, Nothing, GivesRow, Requests, Long, is_silent, is_row, SaysRequest, SaysNone, SaysAs, IsLine, asked, said_by, line_of}
 use Rattle.request_lines.proofs.FormLemmas.{one_form}
 
@@ -16,6 +16,16 @@ silent_is line e = ap (λ t. cond t Nothing (cond (nat_lt 512 (length line)) (Re
 pub loud_is : (line : List ℕ) → is_silent line ≡ false
     → line_of line ≡ cond (nat_lt 512 (length line)) (Requests Long) (said_by (strip_carriage_return line))
 loud_is line e = ap (λ t. cond t Nothing (cond (nat_lt 512 (length line)) (Requests Long) (said_by (strip_carriage_return line)))) e
+
+-- what a line of at most 512 bytes says
+pub short_is : (line : List ℕ) → is_silent line ≡ false → nat_lt 512 (length line) ≡ false → line_of line ≡ said_by (strip_carriage_return line)
+short_is line loud short = loud_is line loud ∙ ap (λ t. cond t (Requests Long) (said_by (strip_carriage_return line))) short
+
+pub row_said_by : (text : List ℕ) (row : Option Row) → is_row text ≡ true → row ≡ row_read (words_of text) → GivesRow row ≡ said_by text
+row_said_by text row e reads = ap GivesRow reads ∙ ap (λ t. cond t (GivesRow (row_read (words_of text))) (asked (request_read (words_of text)))) (sym e)
+
+pub request_said_by : (text : List ℕ) (request : Option Request) → is_row text ≡ false → request ≡ request_read (words_of text) → asked request ≡ said_by text
+request_said_by text request e reads = ap asked reads ∙ ap (λ t. cond t (GivesRow (row_read (words_of text))) (asked (request_read (words_of text)))) (sym e)
 
 -- a line of two bytes is more than a carriage return
 strip_some : (line : List ℕ) → 2 ≤ length line → (length (strip_carriage_return line) == 0) ≡ false

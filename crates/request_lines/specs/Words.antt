@@ -1,5 +1,5 @@
 -- The words of a line, and the numbers that words spell.
-use Rattle.std.specs.Prelude.{ℕ, ◌+◌, ◌*◌, ◌-◌, Bool, List, fold, ◌==◌, nat_eq, nat_lt, nat_le, ◌&&◌, length, drop, slice_index, Option, Some, None, if◌then◌else◌, ℤ, pos, neg_ℤ}
+use Rattle.std.specs.Prelude.{◌≡◌, ◌≤◌, ◌<◌, true, false, take, ℕ, ◌+◌, ◌*◌, ◌-◌, Bool, List, fold, ◌==◌, nat_eq, nat_lt, nat_le, ◌&&◌, length, drop, slice_index, Option, Some, None, if◌then◌else◌, ℤ, pos, neg_ℤ}
 use Rattle.std.specs.List.{slice_split, list_all}
 use Rattle.std.specs.Option.{option_map, option_and_then}
 use Rattle.std.specs.Char.{is_ascii_digit}
@@ -24,6 +24,13 @@ digits_value word = fold (λ n c. n * 10 + (c - 48)) 0 word
 -- the number of one to `most` digits
 abbrev pub number_of : ℕ → List ℕ → Option ℕ
 number_of most word = if is_number most word then Some (digits_value word) else None
+
+-- the first so many bytes are digits, and all that a text begins with, and they spell the number
+pub record AreLeadingDigits (text : List ℕ) (count value : ℕ) : Type 0 where
+  pub within : count ≤ length text
+  pub digits : list_all is_ascii_digit (take count text) ≡ true
+  pub spell : value ≡ digits_value (take count text)
+  pub stop : count < length text → is_ascii_digit (slice_index text count) ≡ false
 
 -- the number below zero
 abbrev pub minus : ℕ → ℤ

@@ -4,7 +4,7 @@ ghost use Rattle.std.specs.Option.{option_map};
 ghost use Rattle.cal_types.specs.Bag.{bag_of};
 ghost use Rattle.cal_types.specs.Month.{month_read};
 ghost use Rattle.cal_types.specs.MonthParts.{month_parts};
-ghost use Rattle.request_lines.specs.Bags.{with_field, with_word, with_rarer_word, no_fields, bag_before_to, bag_of_all};
+ghost use Rattle.request_lines.specs.Bags.{with_field, with_word, with_rarer_word, bag_before_to, bag_of_all};
 ghost use Rattle.request_lines.specs.Reading.{IsReading, next_word};
 ghost use Rattle.request_lines.specs.WordsLeft.{words_left};
 
@@ -56,7 +56,8 @@ fn next_month(words: &mut Words) -> Option<Month>
 }
 
 // Sets the field that the next word KEY=VALUE names, of those that name a date beside an extended year, a month
-// and a day.
+// and a day. What it needs is set up at the call, which the fields that are often given are spared.
+#[inline(never)]
 fn set_next_rarer_field<'a>(fields: &mut DateFields<'a>, words: &mut Words<'a>) -> Option<()>
     ensures { let reading = next_word (with_rarer_word (bag_of fields.old)) (words_left words.old) in
         IsReading reading (option_map (λ _. bag_of fields.new) result) (words_left words.new) }
@@ -94,27 +95,26 @@ fn set_next_field<'a>(fields: &mut DateFields<'a>, words: &mut Words<'a>) -> Opt
     set_next_rarer_field(fields, words)
 }
 
-/// The fields that the words before `to` name; that word is taken too. None where there is no such word,
-/// a word before it isn't `KEY=VALUE` of a known key and a value of it, or a key stands twice.
-pub fn read_bag_to<'a>(words: &mut Words<'a>) -> Option<DateFields<'a>>
-    ensures { let reading = bag_before_to (Some no_fields) (words_left words.old) in
-        IsReading reading (option_map bag_of result) (words_left words.new) }
+/// Sets the fields that the words before `to` name; that word is taken too. None where there is no such word,
+/// a word before it isn't `KEY=VALUE` of a known key and a value of it, or a key is set twice.
+pub fn read_bag_to<'a>(fields: &mut DateFields<'a>, words: &mut Words<'a>) -> Option<()>
+    ensures { let reading = bag_before_to (Some (bag_of fields.old)) (words_left words.old) in
+        IsReading reading (option_map (λ _. bag_of fields.new) result) (words_left words.new) }
 {
-    let mut fields = DateFields::default();
     while !words.take(b"to") {
-        set_next_field(&mut fields, words)?;
+        set_next_field(fields, words)?;
     }
-    Some(fields)
+    Some(())
 }
 
-/// The fields that all words that are left name. None where one of them isn't `KEY=VALUE` of a known key
-/// and a value of it, or a key stands twice.
-pub fn read_bag<'a>(words: &mut Words<'a>) -> Option<DateFields<'a>>
-    ensures { option_map bag_of result ≡ bag_of_all (Some no_fields) (words_left words.old) }
+/// Sets the fields that all words that are left name. None where one of them isn't `KEY=VALUE` of a known key
+/// and a value of it, or a key is set twice.
+pub fn read_bag<'a>(fields: &mut DateFields<'a>, words: &mut Words<'a>) -> Option<()>
+    ensures { let read = bag_of_all (Some (bag_of fields.old)) (words_left words.old) in
+        option_map (λ _. bag_of fields.new) result ≡ read }
 {
-    let mut fields = DateFields::default();
     while !words.is_done() {
-        set_next_field(&mut fields, words)?;
+        set_next_field(fields, words)?;
     }
-    Some(fields)
+    Some(())
 }

@@ -2,10 +2,11 @@
 ghost use Rattle.std.specs.Prelude.{◌≡◌, ℕ, List, false};
 ghost use Rattle.std.specs.Str.Lines.{strip_carriage_return};
 ghost use Rattle.line_reader.specs.Buffer.{Holds};
-ghost use Rattle.request_lines.specs.Lines.{is_row as text_is_row, is_silent as line_is_silent, said_by, line_of};
+ghost use Rattle.request_lines.specs.Lines.{is_row as text_is_row, is_silent as line_is_silent, line_of};
 
-use crate::request::{Request, read_request};
+use crate::request::{Request, read_into};
 use crate::row::{Row, read_row};
+use cal_types::DateFields;
 use line_reader::LineBuffer;
 
 /// What a request line says.
@@ -47,19 +48,6 @@ fn is_row(text: &[u8]) -> bool
     text == b"row".as_slice() || text.starts_with(b"row ")
 }
 
-// A line of at most 512 bytes, without the carriage return at its end.
-fn read_short<'a>(text: &'a [u8]) -> Line<'a>
-    ensures { line_said result ≡ said_by text.now }
-{
-    if is_row(text) {
-        return Line::GivesRow(read_row(text));
-    }
-    match read_request(text) {
-        Some(request) => Line::Requests(RequestLine::Asks(request)),
-        None => Line::Requests(RequestLine::Malformed),
-    }
-}
-
 // Whether bytes, as a line, give nothing.
 fn gives_nothing(line: &[u8]) -> bool
     ensures { result ≡ line_is_silent line.now }
@@ -82,8 +70,16 @@ pub fn read_line<'a>(line: &'a LineBuffer) -> Line<'a>
         → line_said result ≡ line_of whole }
 {
     if line.over {
-        Line::Requests(RequestLine::Long)
-    } else {
-        read_short(without_return(&line.prefix))
+        return Line::Requests(RequestLine::Long);
     }
+    let text = without_return(&line.prefix);
+    if is_row(text) {
+        return Line::GivesRow(read_row(text));
+    }
+    let mut from = DateFields::default();
+    let mut to = DateFields::default();
+    let Some(header) = read_into(&mut from, &mut to, text) else {
+        return Line::Requests(RequestLine::Malformed);
+    };
+    Line::Requests(RequestLine::Asks(Request { header, from, to }))
 }

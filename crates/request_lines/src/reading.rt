@@ -7,7 +7,7 @@ ghost use Rattle.request_lines.specs.Taking.{is_no_space};
 ghost use Rattle.request_lines.specs.Reading.{IsReading, next_word};
 ghost use Rattle.request_lines.specs.Requests.{fixed_word};
 
-use crate::words::{Words, byte, int};
+use crate::words::Words;
 
 /// A word that says nothing of its own: None where the next word isn't this one, which holds no space.
 pub fn next_is(words: &mut Words, name: &[u8]) -> Option<()>
@@ -21,12 +21,22 @@ pub fn next_is(words: &mut Words, name: &[u8]) -> Option<()>
 pub fn next_int(words: &mut Words) -> Option<i32>
     ensures { IsReading (next_word int_of (words_left words.old)) result (words_left words.new) }
 {
-    int(words.next()?)
+    if words.take_key(b"-") {
+        let size = words.next_number(9)?;
+        return Some(-(size as i32));
+    }
+    let size = words.next_number(9)?;
+    Some(size as i32)
 }
 
 /// The number up to 255 that the next word spells.
 pub fn next_byte(words: &mut Words) -> Option<u8>
     ensures { IsReading (next_word byte_of (words_left words.old)) result (words_left words.new) }
 {
-    byte(words.next()?)
+    let value = words.next_number(3)?;
+    if value <= 255 {
+        Some(value as u8)
+    } else {
+        None
+    }
 }

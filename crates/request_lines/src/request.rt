@@ -2,10 +2,12 @@
 ghost use Rattle.std.specs.Prelude.{◌≡◌};
 ghost use Rattle.std.specs.Option.{option_map};
 ghost use Rattle.cal_kinds.specs.KindNames.{kind_named};
+ghost use Rattle.cal_types.specs.Bag.{bag_of};
+ghost use Rattle.request_lines.specs.Bags.{no_fields};
 ghost use Rattle.request_lines.specs.Words.{words_of};
 ghost use Rattle.request_lines.specs.WordsLeft.{words_left};
 ghost use Rattle.request_lines.specs.Reading.{IsReading, next_word};
-ghost use Rattle.request_lines.specs.Requests.{unit_named, overflow_named, missing_fields_named, header_read, request_read};
+ghost use Rattle.request_lines.specs.Requests.{unit_named, overflow_named, missing_fields_named, header_read, request_of, request_read};
 
 use crate::bag::{read_bag, read_bag_to};
 use crate::reading::next_is;
@@ -124,18 +126,36 @@ fn read_header(words: &mut Words) -> Option<Header>
     })
 }
 
+/// Reads a request from a line's words into two bags that have no fields, and answers what stands before them. None
+/// exactly where the words say no request, as [`read_request`] has it.
+#[tactic(auto, unfolding(crate::specs::Requests::request_read))]
+pub fn read_into<'a>(
+    from: &mut DateFields<'a>,
+    to: &mut DateFields<'a>,
+    line: &'a [u8],
+) -> Option<Header>
+    requires from { bag_of from.old ≡ no_fields }
+    requires to { bag_of to.old ≡ no_fields }
+    ensures { option_map (λ h. request_of (header_said h) (bag_of from.new) (bag_of to.new)) result
+        ≡ request_read (words_of line.now) }
+{
+    let mut words = Words::new(line);
+    let header = read_header(&mut words)?;
+    read_bag_to(from, &mut words)?;
+    read_bag(to, &mut words)?;
+    Some(header)
+}
+
 /// The request that a line's words say, all of them. None exactly where they say no request:
 /// `span CAL SHOWN UNIT OVERFLOW MISSING from FIELDS to FIELDS`, with CAL and SHOWN names of calendars,
 /// UNIT `years`, `months`, `weeks`, `days` or `none`, OVERFLOW `constrain`, `reject` or `none`, MISSING
 /// `reject`, `ecma` or `none`, and FIELDS zero or more words, each key at most once and in any order:
 /// `era=BYTES era-year=INT year=INT month=CODE month-code=BYTES ordinal=BYTE day=BYTE`.
-#[tactic(auto, unfolding(crate::specs::Requests::request_read))]
 pub fn read_request<'a>(line: &'a [u8]) -> Option<Request<'a>>
     ensures { option_map request_said result ≡ request_read (words_of line.now) }
 {
-    let mut words = Words::new(line);
-    let header = read_header(&mut words)?;
-    let from = read_bag_to(&mut words)?;
-    let to = read_bag(&mut words)?;
+    let mut from = DateFields::default();
+    let mut to = DateFields::default();
+    let header = read_into(&mut from, &mut to, line)?;
     Some(Request { header, from, to })
 }

@@ -227,6 +227,8 @@ fn read_parts<'a>(kind: RowKind, words: &mut Words<'a>) -> Option<Row<'a>>
 /// `row persian YEAR`, or `row era YEAR MONTH DAY CODE INDEX`, with YEAR and START one to nine digits behind
 /// an optional `-`, LEAP, MONTH, DAY and INDEX numbers of one to three digits up to 255, LENGTHS letters `l`
 /// and `s`, 12 of them, or 13 where LEAP is above 0, and CODE one to eight letters `a` to `z`.
+// What it needs is set up at the call, which a request line is spared.
+#[inline(never)]
 #[tactic(auto, unfolding(crate::specs::Rows::row_read))]
 pub fn read_row<'a>(text: &'a [u8]) -> Option<Row<'a>>
     ensures { option_map row_said result ≡ row_read (words_of text.now) }

@@ -1,7 +1,25 @@
 //! The words of a line, and the numbers that words spell.
-ghost use Rattle.std.specs.Prelude.{◌≡◌, ◌≤◌, ◌<◌, ◌==◌, IfSome, position, length, ◌∷◌};
+ghost use Rattle.std.specs.Prelude.{◌≡◌, ◌≤◌, ◌<◌, ◌==◌, IfSome, position, length, take, ◌∷◌};
 ghost use Rattle.request_lines.specs.WordsLeft.{words_from};
-ghost use Rattle.request_lines.specs.Words.{number_of, int_of, byte_of, words_of};
+ghost use Rattle.request_lines.specs.Words.{number_of, int_of, byte_of, words_of, AreLeadingDigits};
+
+// The digits that a text begins with: how many, and the number that they spell.
+fn leading_digits(text: &[u8]) -> (usize, u32)
+    requires { length text.now ≤ 9 }
+    ensures digits { AreLeadingDigits text.now result.0 result.1 }
+    ensures small { result.1 < 1000000000 }
+{
+    let mut count = 0usize;
+    let mut value = 0u32;
+    for byte in text {
+        if !byte.is_ascii_digit() {
+            return (count, value);
+        }
+        value = value * 10 + u32::from(*byte - b'0');
+        count += 1;
+    }
+    (count, value)
+}
 
 /// The number that a word of one to `most` decimal digits spells, where leading zeros are allowed.
 /// None exactly where the word isn't of that form.
@@ -13,14 +31,12 @@ pub fn number(word: &[u8], most: usize) -> Option<u32>
     if word.is_empty() || word.len() > most {
         return None;
     }
-    let mut value = 0u32;
-    for byte in word {
-        if !byte.is_ascii_digit() {
-            return None;
-        }
-        value = value * 10 + u32::from(*byte - b'0');
+    let (count, value) = leading_digits(word);
+    if count == word.len() {
+        Some(value)
+    } else {
+        None
     }
-    Some(value)
 }
 
 /// The number that a word spells: an optional `-`, and one to nine decimal digits. None exactly where
@@ -66,6 +82,17 @@ fn cut(text: &[u8]) -> (&[u8], Option<&[u8]>)
     }
 }
 
+// The first bytes of a text, `most` of them where there are as many.
+fn first_bytes(text: &[u8], most: usize) -> &[u8]
+    ensures { result.now ≡ take most text.now }
+{
+    if text.len() <= most {
+        text
+    } else {
+        &text[..most]
+    }
+}
+
 /// The words of a line that are still to come. Words are parted by one space, so that between two
 /// spaces, and at a line's end behind a space, stands an empty word; an empty line is one empty word.
 #[derive(Drop)]
@@ -77,6 +104,7 @@ impl<'a> Words<'a> {
     ghost use Rattle.std.specs.Prelude.{[], MatchOption, IsTrue, ◌↔◌, true};
     ghost use Rattle.std.specs.List.{list_all};
     ghost use Rattle.request_lines.specs.WordsLeft.{words_left};
+    ghost use Rattle.request_lines.specs.Reading.{IsReading, next_word};
     ghost use Rattle.request_lines.specs.Taking.{is_no_space, after_key, after_word, IsTaken};
 
     /// The words of a line.
@@ -94,6 +122,33 @@ impl<'a> Words<'a> {
         let (word, others) = cut(self.rest?);
         self.rest = others;
         Some(word)
+    }
+
+    /// The number that the next word spells by one to `most` digits. None where it isn't of that form.
+    pub fn next_number(&mut self, most: usize) -> Option<u32>
+        requires { most ≤ 9 }
+        ensures value { let reading = next_word (number_of most) (words_left self.old) in
+            IsReading reading result (words_left self.new) }
+        ensures small { IfSome result (λ n. n < 1000000000) }
+    {
+        let text = self.rest?;
+        let (count, value) = leading_digits(first_bytes(text, most));
+        if count == 0 {
+            return None;
+        }
+        match text[count..].split_first() {
+            None => {
+                self.rest = None;
+                Some(value)
+            }
+            Some((first, others)) => {
+                if *first != b' ' {
+                    return None;
+                }
+                self.rest = Some(others);
+                Some(value)
+            }
+        }
     }
 
     /// Whether no word is left.

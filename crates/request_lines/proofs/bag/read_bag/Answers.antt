@@ -1,11 +1,10 @@
-use Rattle.std.proofs.Common.{Some, sym, ap, ◌∙◌}
+use Rattle.std.proofs.Common.{sym, ap, ◌∙◌}
 use Rattle.std.proofs.lemmas.Bool.{false≢true}
 use Rattle.std.specs.Option.{option_map}
-use Rattle.cal_types.specs.Bag.{Bag, bag_of}
-use Rattle.request_lines.specs.Bags.{with_word, bag_of_all}
+use Rattle.cal_types.specs.Bag.{bag_of}
+use Rattle.request_lines.specs.Bags.{with_word}
 use Rattle.request_lines.specs.WordsLeft.{words_left}
 use Rattle.request_lines.proofs.KeyLemmas.{all_go_on, all_fail, fewer_left}
-use Rattle.request_lines.proofs.FieldLemmas.{are_no_fields}
 use Rattle.request_lines.proofs.bag.read_bag.Goals as goal
 
 pub loop-fields-smaller : goal.loop-fields-smaller
@@ -19,8 +18,5 @@ loop-fields-preserved c =
 
 pub returns-in_err-set_next_field : goal.returns-in_err-set_next_field
 returns-in_err-set_next_field c =
-    let absent = c.default-fields.ensures in
-    let begun = ap (λ (b : Bag). bag_of_all (Some b) (words_left c.args.words.now))
-    (sym (are_no_fields _ _ _ _ _ _ _ absent.0 absent.1.0 absent.1.1.0 absent.1.1.1.0 absent.1.1.1.1.0 absent.1.1.1.1.1.0 absent.1.1.1.1.1.1)) in
     let fails = all_fail (bag_of c.loop-fields.fields) (words_left c.loop-fields.words) (λ e. false≢true (c.loop-fields-test.ensures.1 e)) c.in_err-set_next_field.ensures in
-    ap (option_map bag_of) c.from_residual.ensures ∙ sym (begun ∙ (c.loop-fields.invariant ∙ fails))
+    ap (option_map (λ _. bag_of c.set_next_field.new.fields)) c.from_residual.ensures ∙ sym (c.loop-fields.invariant ∙ fails)

@@ -1,10 +1,10 @@
-use Rattle.std.proofs.Common.{Some, sym, ap, ◌∙◌}
-use Rattle.cal_types.specs.Bag.{Bag, bag_of}
+use Rattle.std.proofs.Common.{sym, ap, ◌∙◌}
+use Rattle.cal_types.specs.Bag.{bag_of}
 use Rattle.request_lines.specs.Reading.{next_word}
-use Rattle.request_lines.specs.Bags.{with_word, bag_before_to}
+use Rattle.request_lines.specs.Bags.{with_word}
 use Rattle.request_lines.specs.WordsLeft.{words_left}
 use Rattle.request_lines.proofs.KeyLemmas.{bag_goes_on, bag_fails, fewer_left}
-use Rattle.request_lines.proofs.FieldLemmas.{are_no_fields, reads_nothing}
+use Rattle.request_lines.proofs.FieldLemmas.{sets_nothing}
 use Rattle.request_lines.proofs.bag.read_bag_to.Goals as goal
 
 pub loop-fields-smaller : goal.loop-fields-smaller
@@ -22,9 +22,6 @@ loop-fields-preserved c =
 
 pub returns-in_err-set_next_field : goal.returns-in_err-set_next_field
 returns-in_err-set_next_field c =
-    let absent = c.default-fields.ensures in
-    let begun = ap (λ (b : Bag). bag_before_to (Some b) (words_left c.args.words.now))
-    (sym (are_no_fields _ _ _ _ _ _ _ absent.0 absent.1.0 absent.1.1.0 absent.1.1.1.0 absent.1.1.1.1.0 absent.1.1.1.1.1.0 absent.1.1.1.1.1.1)) in
     let stays = c.loop-fields-test.ensures in
     let fails = ap (next_word (with_word (bag_of c.loop-fields.fields))) (sym stays.1) ∙ c.in_err-set_next_field.ensures in
-    reads_nothing _ bag_of _ _ c.from_residual.ensures (begun ∙ (c.loop-fields.invariant ∙ bag_fails (bag_of c.loop-fields.fields) (words_left c.loop-fields.words) stays.0 fails))
+    sets_nothing _ _ _ _ c.from_residual.ensures (c.loop-fields.invariant ∙ bag_fails (bag_of c.loop-fields.fields) (words_left c.loop-fields.words) stays.0 fails)

@@ -2,11 +2,12 @@ use Rattle.std.proofs.Common.{◌≡◌, ◌<◌, ◌^◌, take, true}
 use Rattle.std.specs.List.{list_all}
 use Rattle.std.specs.Char.{is_ascii_digit}
 use Rattle.request_lines.specs.Words.{digits_value}
-use Rattle.request_lines.proofs.words.number.Given as goal
+use Rattle.request_lines.proofs.words.leading_digits.Given as goal
 
 abbrev pub invariant-loop-byte : goal.invariant-loop-byte
 invariant-loop-byte l = record {
-  digits : list_all is_ascii_digit (take l.byte-index l.word) ≡ true;
-  value : l.value ≡ digits_value (take l.byte-index l.word);
+  count : l.count ≡ l.byte-index;
+  digits : list_all is_ascii_digit (take l.byte-index l.text) ≡ true;
+  value : l.value ≡ digits_value (take l.byte-index l.text);
   small : l.value < 10 ^ l.byte-index;
 }
