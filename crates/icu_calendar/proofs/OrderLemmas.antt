@@ -26,7 +26,7 @@ equal-same_date c t u equal days dated other e = day_number-injective c t u date
 pub on_same_day : (c : CalendarList) (n : ℤ) (t u : Date) → IsDate c t → n ≡ day_number c t → IsOn c n u → u ≡ t
 on_same_day c n t u dated day h = on-unique c n u t h (record { date = dated; day = sym day })
 
-clamped-valid : (n : ℤ) → IsValidDay n → clamped_day n ≡ n
+pub clamped-valid : (n : ℤ) → IsValidDay n → clamped_day n ≡ n
 clamped-valid n h = grind (arith, ints)
 
 -- which is valid, so that it isn't clamped

@@ -5,7 +5,7 @@ ghost use Rattle.cal_types.specs.Bag.{bag_of};
 ghost use Rattle.cal_model.specs.Adding.{IsSum};
 ghost use Rattle.cal_model.specs.CalendarList.{IsOn, day_number};
 ghost use Rattle.cal_model.specs.CalendarSystem.{resolve_fields};
-ghost use Rattle.cal_model.specs.Difference.{largest_unit_of};
+ghost use Rattle.cal_model.specs.Difference.{IsDifference, largest_unit_of};
 ghost use Rattle.cal_any.specs.AnySystem.{any_system, any_date};
 ghost use Rattle.icu_calendar.specs.Spans.{IsSpan, RefusesBag};
 ghost use Rattle.icu_calendar.specs.SpanAnswers.{span_answer, HasCalendars};
@@ -14,26 +14,73 @@ use crate::date::Date;
 use crate::span_parts::{BagSide, Span, SpanError};
 use cal_any::AnyCalendar;
 use cal_base::{AsCalendar, Calendar};
-use cal_types::{DateDifferenceOptions, DateFields, DateFromFieldsOptions, Overflow};
+use cal_types::{DateDifferenceOptions, DateDuration, DateFields, DateFromFieldsOptions, Overflow};
 
-/// The dates that two bags of fields name in a calendar, or the first fault.
-fn named_dates<A: AsCalendar + Copy>(
+/// The dates that two bags of fields name in one calendar.
+#[derive(Drop)]
+pub struct NamedDates<A: AsCalendar>
+where
+    A::Calendar: Calendar,
+{
+    from: Date<A>,
+    to: Date<A>,
+    ghost one_calendar: { from.calendar ≡ to.calendar },
+}
+
+impl<A: AsCalendar> NamedDates<A>
+where
+    A::Calendar: Calendar,
+{
+    /// The date of the first bag.
+    pub fn from(&self) -> &Date<A>
+        ensures { result.now ≡ self.now.from }
+    {
+        &self.from
+    }
+
+    /// The date of the second bag.
+    pub fn to(&self) -> &Date<A>
+        ensures { result.now ≡ self.now.to }
+    {
+        &self.to
+    }
+
+    /// The difference from the first date to the second, which leads back, as
+    /// [`Date::try_until_with_options`].
+    pub fn duration(&self, options: DateDifferenceOptions) -> DateDuration
+        ensures difference { let c = A.cal_of self.now.from.calendar in
+            let t = A.Calendar.date_of c self.now.from.inner in
+            let u = A.Calendar.date_of c self.now.to.inner in
+            IsDifference (A.Calendar.system c).list t u (largest_unit_of options.largest_unit) result }
+        ensures leads_back { let c = A.cal_of self.now.from.calendar in
+            let s = A.Calendar.system c in
+            let t = A.Calendar.date_of c self.now.from.inner in
+            let u = A.Calendar.date_of c self.now.to.inner in
+            IsSum s.list s.year_shift t result Overflow.Constrain (Ok u) }
+    {
+        self.from.until(&self.to, options)
+    }
+}
+
+/// The dates that two bags of fields name in a calendar. Where a bag names no date, the error has its side and its
+/// first fault; the first bag comes first.
+pub fn named_dates<A: AsCalendar + Copy>(
     from: DateFields<'_>,
     to: DateFields<'_>,
     options: DateFromFieldsOptions,
     calendar: A,
-) -> Result<(Date<A>, Date<A>), SpanError>
+) -> Result<NamedDates<A>, SpanError>
 where
     A::Calendar: Calendar,
     ensures from { let c = A.cal_of calendar in
         IfOk result (λ d. resolve_fields (A.Calendar.system c) (bag_of from.entry) options
-        ≡ Ok (A.Calendar.date_of c d.0.inner)) }
+        ≡ Ok (A.Calendar.date_of c d.from.inner)) }
     ensures to { let c = A.cal_of calendar in
         IfOk result (λ d. resolve_fields (A.Calendar.system c) (bag_of to.entry) options
-        ≡ Ok (A.Calendar.date_of c d.1.inner)) }
+        ≡ Ok (A.Calendar.date_of c d.to.inner)) }
     ensures refused { let system = A.Calendar.system (A.cal_of calendar) in
         IfErr result (λ e. RefusesBag system (bag_of from.entry) (bag_of to.entry) options e.side e.cause) }
-    ensures calendars { IfOk result (λ d. (d.0.calendar ≡ calendar) × (d.1.calendar ≡ calendar)) }
+    ensures calendars { IfOk result (λ d. (d.from.calendar ≡ calendar) × (d.to.calendar ≡ calendar)) }
 {
     let first = match Date::try_from_fields(from, options, calendar) {
         Ok(date) => date,
@@ -43,7 +90,10 @@ where
         }),
     };
     match Date::try_from_fields(to, options, calendar) {
-        Ok(second) => Ok((first, second)),
+        Ok(second) => Ok(NamedDates {
+            from: first,
+            to: second,
+        }),
         Err(cause) => Err(SpanError {
             side: BagSide::To,
             cause,
@@ -96,13 +146,13 @@ pub fn span<'t>(
         IsSpan c list (bag_of from.entry) (bag_of to.entry) options unit (span_answer result) }
 {
     match named_dates(from, to, options, calendar) {
-        Ok((first, second)) => {
-            let (from_shown, to_shown) = shown_days(&first, &second, shown);
-            let duration = first.until(&second, difference);
+        Ok(dates) => {
+            let (from_shown, to_shown) = shown_days(&dates.from, &dates.to, shown);
+            let duration = dates.duration(difference);
             Ok(Span {
-                from: first,
+                from: dates.from,
                 from_shown,
-                to: second,
+                to: dates.to,
                 to_shown,
                 duration,
             })

@@ -8,10 +8,11 @@ use Rattle.cal_types.specs.declared.year.YearInfo.TheVariants.{Era, Cyclic}
 use Rattle.cal_types.specs.declared.duration.DateDuration.{DateDuration}
 use Rattle.cal_errors.specs.declared.errors.DateFromFieldsError.{DateFromFieldsError}
 use Rattle.cal_errors.specs.declared.errors.DateFromFieldsError.TheVariants as cause
-use Rattle.cal_model.specs.CalendarList.{Date, month_at, day_number}
+use Rattle.cal_model.specs.CalendarList.{Date, IsOn, month_at, day_number}
 use Rattle.cal_model.specs.CalendarSystem.{CalendarSystem}
 use Rattle.cal_types.specs.declared.options.DateFromFieldsOptions.{DateFromFieldsOptions}
-use Rattle.cal_model.specs.Difference.{largest_unit_of}
+use Rattle.cal_model.specs.Difference.{IsDifference, largest_unit_of}
+use Rattle.cal_types.specs.declared.duration.DateDurationUnit.{DateDurationUnit}
 use Rattle.icu_calendar.specs.Spans.{SpanDates, IsSpan}
 use Rattle.icu_calendar.specs.declared.span_parts.BagSide.{BagSide}
 use Rattle.icu_calendar.specs.declared.span_parts.BagSide.TheVariants.{From, To}
@@ -91,10 +92,21 @@ abbrev pub is_refusal : Result SpanDates SpanError → Bool
 is_refusal (Ok s) = false
 is_refusal (Err e) = true
 
--- the shown dates have the day numbers of the dates
-pub record ShowsDays (c shown : CalendarSystem) (s : SpanDates) : Type 0 where
-  pub from : day_number shown.list s.from_shown ≡ day_number c.list s.from
-  pub to : day_number shown.list s.to_shown ≡ day_number c.list s.to
+-- behind a text stand a date, and the date of the same day in a second calendar
+pub record SaysDay (c shown : CalendarSystem) (t : Date) (old new : List ℕ) : Type 0 where
+  pub shown_date : Date
+  pub on : IsOn shown.list (day_number c.list t) shown_date
+  pub says : new ≡ old ++ day_text c shown t shown_date
+
+-- behind a text stand two dates with the same days in a second calendar, and their difference
+pub record SaysSpan (c shown : CalendarSystem) (t u : Date) (unit : DateDurationUnit) (old new : List ℕ) : Type 0 where
+  pub from_shown : Date
+  pub to_shown : Date
+  pub duration : DateDuration
+  pub from_on : IsOn shown.list (day_number c.list t) from_shown
+  pub to_on : IsOn shown.list (day_number c.list u) to_shown
+  pub difference : IsDifference c.list t u unit duration
+  pub says : new ≡ old ++ span_text c shown (record { from = t; from_shown = from_shown; to = u; to_shown = to_shown; duration = duration })
 
 -- how a request's bags are to be resolved
 abbrev pub options_of : Request → DateFromFieldsOptions

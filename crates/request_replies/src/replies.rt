@@ -4,16 +4,16 @@ ghost use Rattle.std.specs.Fmt.{signed_decimal};
 ghost use Rattle.arrayvec.specs.ArrayVec.{array_vec_len};
 ghost use Rattle.cal_types.specs.declared.duration.DateDuration.{DateDuration};
 ghost use Rattle.cal_any.specs.AnySystem.{any_system, any_date};
-ghost use Rattle.icu_calendar.specs.SpanAnswers.{span_dates, HasCalendars};
-ghost use Rattle.cal_any.specs.declared.any_calendar.AnyCalendar.{AnyCalendar};
-ghost use Rattle.cal_model.specs.CalendarList.{day_number};
-ghost use Rattle.request_replies.specs.Replies.{year_text, numbered_text, day_text, part_text, parts_text, duration_text, cause_text, side_text, error_text, span_text, ShowsDays, IsReply};
+ghost use Rattle.cal_model.specs.Difference.{largest_unit_of};
+ghost use Rattle.cal_types.specs.Month.{code_text};
+ghost use Rattle.cal_types.specs.MonthParts.{month_parts};
+ghost use Rattle.request_replies.specs.Replies.{year_text, numbered_text, part_text, parts_text, duration_text, cause_text, side_text, error_text, SaysDay, SaysSpan, IsReply};
 ghost use Rattle.cal_any.specs.Kinds.{kind_system, table_contents};
 ghost use Rattle.request_lines.specs.RequestSaid.{request_said};
 
-use crate::text::{Pending, push_all, push_few, push_number, push_signed, push_two_digits};
-use cal_types::{DateDuration, DateFromFieldsError, YearInfo};
-use icu_calendar::{AnyCalendar, BagSide, Date, Span, SpanError, Tables, span};
+use crate::text::{Pending, push_all, push_number, push_signed, push_two_digits};
+use cal_types::{DateDifferenceOptions, DateDuration, DateFromFieldsError, Month, YearInfo};
+use icu_calendar::{AnyCalendar, BagSide, Date, NamedDates, Ref, SpanError, Tables, named_dates};
 use request_lines::Request;
 
 // A year of an era, or of a cycle.
@@ -24,7 +24,7 @@ fn push_year(text: &mut Pending, year: &YearInfo)
 {
     match year {
         YearInfo::Era(era) => {
-            push_few(text, era.era.as_bytes());
+            push_all(text, era.era.as_bytes());
             text.push(b'.');
             push_signed(text, i64::from(era.year));
         }
@@ -143,54 +143,76 @@ fn push_error(text: &mut Pending, error: SpanError)
     text.push(b'\n');
 }
 
+// A month's code.
+fn push_month(text: &mut Pending, month: Month)
+    requires { array_vec_len text.old + 4 ≤ 8192 }
+    ensures items { text.new.items ≡ text.old.items ++ code_text (month_parts month) }
+    ensures len { array_vec_len text.new ≤ array_vec_len text.old + 4 }
+{
+    text.push(b'M');
+    push_two_digits(text, month.number());
+    if month.is_leap() {
+        text.push(b'L');
+    }
+}
+
 // A date: its extended year, the year that it is printed in, its month code, its day, and the text of
 // its day number.
-fn push_date(text: &mut Pending, date: &Date<AnyCalendar<'_>>, number: i64)
+fn push_date(text: &mut Pending, date: &Date<Ref<'_, AnyCalendar<'_>>>, number: i64)
     requires { array_vec_len text.old + 92 ≤ 8192 }
-    ensures items { let c = any_system date.now.calendar in let t = any_date date.now.calendar date.now.inner in
+    ensures items { let k = date.now.calendar.0.now in let c = any_system k in let t = any_date k date.now.inner in
         text.new.items ≡ text.old.items ++ numbered_text c t (signed_decimal number) }
     ensures len { array_vec_len text.new ≤ array_vec_len text.old + 92 }
 {
-    let year = date.year();
-    push_signed(text, i64::from(year.extended_year()));
+    let parts = date.calendar().date_parts(date.inner());
+    push_signed(text, i64::from(parts.year.extended_year()));
     text.push(b'/');
-    push_year(text, &year);
+    push_year(text, &parts.year);
     text.push(b'/');
-    push_all(text, date.month().standard_code.0.as_bytes());
+    push_month(text, parts.month);
     text.push(b'/');
-    push_two_digits(text, date.day_of_month().0);
+    push_two_digits(text, parts.day);
     text.push(b'@');
     push_signed(text, number);
 }
 
-// A date of the first calendar, and the same day in the second. Both have one day number.
-fn push_day(text: &mut Pending, date: &Date<AnyCalendar<'_>>, shown: &Date<AnyCalendar<'_>>)
+// A date, and the same day in a second calendar. Both have one day number.
+fn push_day(
+    text: &mut Pending,
+    date: &Date<Ref<'_, AnyCalendar<'_>>>,
+    shown: Ref<'_, AnyCalendar<'_>>,
+)
     requires { array_vec_len text.old + 185 ≤ 8192 }
-    ensures items { let c = any_system date.now.calendar in let t = any_date date.now.calendar date.now.inner in
-        let other = any_system shown.now.calendar in let u = any_date shown.now.calendar shown.now.inner in
-        day_number other.list u ≡ day_number c.list t
-        → text.new.items ≡ text.old.items ++ day_text c other t u }
+    ensures items { let from = date.now.calendar.0.now in
+        let c = any_system from in let t = any_date from date.now.inner in let other = any_system shown.entry.0.now in
+        SaysDay c other t text.old.items text.new.items }
     ensures len { array_vec_len text.new ≤ array_vec_len text.old + 185 }
 {
-    let number = date.to_rata_die().to_i64_date();
+    let day = date.to_rata_die();
+    let number = day.to_i64_date();
     push_date(text, date, number);
     text.push(b' ');
-    push_date(text, shown, number);
+    push_date(text, &Date::from_rata_die(day, shown), number);
 }
 
-// Both days, and the difference.
-fn push_span(text: &mut Pending, span: &Span<'_>)
+// Both dates, the same days in the second calendar, and the difference.
+fn push_span(
+    text: &mut Pending,
+    dates: &NamedDates<Ref<'_, AnyCalendar<'_>>>,
+    shown: Ref<'_, AnyCalendar<'_>>,
+    difference: DateDifferenceOptions,
+)
     requires { array_vec_len text.old + 470 ≤ 8192 }
-    ensures { (c shown : AnyCalendar) → HasCalendars c shown span.now
-        → ShowsDays (any_system c) (any_system shown) (span_dates span.now)
-        → text.new.items ≡ text.old.items ++ span_text (any_system c) (any_system shown) (span_dates span.now) }
+    ensures { let d = dates.now in let k = d.from.calendar.0.now in let unit = largest_unit_of difference.largest_unit in
+        SaysSpan (any_system k) (any_system shown.entry.0.now) (any_date k d.from.inner) (any_date k d.to.inner) unit
+        text.old.items text.new.items }
 {
     push_all(text, b"ok ");
-    push_day(text, &span.from, &span.from_shown);
+    push_day(text, dates.from(), shown);
     text.push(b' ');
-    push_day(text, &span.to, &span.to_shown);
+    push_day(text, dates.to(), shown);
     text.push(b' ');
-    push_duration(text, &span.duration);
+    push_duration(text, &dates.duration(difference));
     text.push(b'\n');
 }
 
@@ -202,16 +224,11 @@ pub fn reply(text: &mut Pending, request: &Request, tables: &Tables<'_>) -> bool
         × IsReply (kind_system t r.calendar) (kind_system t r.shown) r answer result }
 {
     let header = request.header;
-    match span(
-        request.from,
-        request.to,
-        header.options,
-        header.difference,
-        AnyCalendar::new(header.calendar, *tables),
-        AnyCalendar::new(header.shown, *tables),
-    ) {
-        Ok(span) => {
-            push_span(text, &span);
+    let calendar = AnyCalendar::new(header.calendar, *tables);
+    match named_dates(request.from, request.to, header.options, Ref(&calendar)) {
+        Ok(dates) => {
+            let shown = AnyCalendar::new(header.shown, *tables);
+            push_span(text, &dates, Ref(&shown), header.difference);
             false
         }
         Err(error) => {

@@ -22,16 +22,6 @@ pub fn push_all(text: &mut Pending, bytes: &[u8])
     let _fits = text.try_extend_from_slice(bytes);
 }
 
-/// Appends a few bytes one by one, which is less work than a copy.
-pub fn push_few(text: &mut Pending, bytes: &[u8])
-    requires { array_vec_len text.old + length bytes.now ≤ 8192 }
-    ensures { text.new.items ≡ text.old.items ++ bytes.now }
-{
-    for byte in bytes {
-        text.push(*byte);
-    }
-}
-
 // Appends a number below 100 in decimal.
 fn push_below_100(text: &mut Pending, number: u64)
     requires room { array_vec_len text.old + 2 ≤ 8192 }

@@ -2,7 +2,8 @@
 
 use icu_calendar::{
     AnyCalendar, AnyCalendarKind, BagSide, Date, DateDifferenceOptions, DateDuration,
-    DateDurationUnit, DateFromFieldsError, DateFromFieldsOptions, Overflow, Span, SpanError, span,
+    DateDurationUnit, DateFromFieldsError, DateFromFieldsOptions, Overflow, Span, SpanError,
+    named_dates, span,
 };
 use known_dates::{
     GREGORIAN, IN_DAYS, ISO, JULIAN, REJECT, calendar_of, date_named, duration, fields, has_parts,
@@ -86,6 +87,25 @@ fn span_has_the_days_and_both_dates(rt: HostRuntime) {
     ] {
         let want = duration(is_negative, 0, 0, 0, days);
         assert_span(&rt, (from, to), IN_DAYS, want);
+    }
+}
+
+/// The year, the month and the day of a date.
+fn ymd_of(date: &AnyDate) -> Ymd {
+    let parts = date.calendar().date_parts(date.inner());
+    (parts.year.extended_year(), parts.month.number(), parts.day)
+}
+
+#[test]
+fn two_bags_name_two_dates_of_a_calendar(rt: HostRuntime) {
+    let (from, to) = (fields(2020, 2, 29), fields(2021, 2, 28));
+    match named_dates(from, to, REJECT, calendar_of(GREGORIAN)) {
+        Ok(dates) => {
+            assert!(rt; ymd_of(dates.from()) == LEAP_DAY);
+            assert!(rt; ymd_of(dates.to()) == YEAR_LATER);
+            assert!(rt; dates.duration(IN_DAYS) == duration(false, 0, 0, 0, 365));
+        }
+        Err(fault) => assert!(rt; false, "{}", fault.cause),
     }
 }
 
