@@ -48,6 +48,9 @@ impl LineBuffer {
     pub fn extend(&mut self, bytes: &[u8])
         ensures { (line : List ℕ) → Holds self.old line → Holds self.new (line ++ bytes.now) }
     {
+        if bytes.is_empty() {
+            return;
+        }
         let count = bytes.len().min(self.prefix.remaining_capacity());
         push_all(&mut self.prefix, &bytes[..count]);
         if count < bytes.len() {

@@ -49,10 +49,14 @@ pub struct Reader {
     ghost few: { lines + (end - at) ≤ total },
 }
 
+// The search is set up at its call, which an empty line is spared.
 fn first_line_feed(bytes: &[u8]) -> Option<usize>
     ensures value { result ≡ position (λ b. b == 10) bytes.now }
     ensures within { IfSome result (λ i. i < length bytes.now) }
 {
+    if bytes.first() == Some(&b'\n') {
+        return Some(0);
+    }
     memchr(b'\n', bytes)
 }
 
