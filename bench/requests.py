@@ -15,7 +15,10 @@ import tempfile
 import time
 from pathlib import Path
 
-PROGRAM = [str(Path(__file__).resolve().parent.parent / "calspan"), "span"]
+TOP = Path(__file__).resolve().parent.parent
+# The script builds the program where a source is newer; what it built is run without it.
+BUILD = [str(TOP / "calspan"), "span"]
+PROGRAM = [str(TOP / "crates/calspan/out/calspan"), "span"]
 REQUESTS = 130_000
 ROUNDS = 5
 CALENDARS = ["iso", "gregorian"]
@@ -107,8 +110,7 @@ def seconds(path: Path) -> float:
 
 
 def instructions(path: Path) -> int:
-    binary = Path(PROGRAM[0]).parent / "crates/calspan/out/calspan"
-    command = ["valgrind", "--tool=callgrind", "--callgrind-out-file=/dev/null", str(binary), "span"]
+    command = ["valgrind", "--tool=callgrind", "--callgrind-out-file=/dev/null", *PROGRAM]
     with path.open("rb") as data:
         run = subprocess.run(command, stdin=data, stdout=subprocess.DEVNULL, stderr=subprocess.PIPE, check=False, text=True)
     found = re.search(r"Collected : (\d+)", run.stderr)
@@ -144,7 +146,7 @@ def main() -> int:
     kinds.add_argument("--all", action="store_const", const="all", dest="kind", help="all calendars, in all units")
     kinds.add_argument("--bags", action="store_const", const="bags", dest="kind", help="the same, with bags of all kinds")
     kind = arguments.parse_args().kind
-    subprocess.run(PROGRAM, stdin=subprocess.DEVNULL, check=False)
+    subprocess.run(BUILD, stdin=subprocess.DEVNULL, check=False)
     with tempfile.TemporaryDirectory() as name:
         folder = Path(name)
         large = write(folder, REQUESTS, kind)
