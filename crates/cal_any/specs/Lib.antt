@@ -4,5 +4,4 @@ pub mod AnyOrder
 pub mod AnyOrderLaws
 pub mod ByKind
 pub mod Kinds
-pub mod Parts
 pub mod KindHeld

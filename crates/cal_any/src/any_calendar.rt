@@ -1,10 +1,9 @@
 //! Any of the calendars, chosen at run time.
 
-ghost use Rattle.std.specs.Prelude.{◌≡◌, IsTrue};
+ghost use Rattle.std.specs.Prelude.{◌≡◌};
 ghost use Rattle.cal_any.specs.AnyOrder.{any_eq, any_cmp};
 ghost use Rattle.cal_any.specs.AnyOrderLaws.{any_alike, any_equal, any_partial_order};
 ghost use Rattle.cal_any.specs.AnySystem.{any_system, any_date, any_belongs, any_compatible};
-ghost use Rattle.cal_any.specs.Parts.{IsParts};
 ghost use Rattle.cal_any.specs.AnySystem.{any_is_cheap, any_algorithm, any_name};
 
 use cal_arith::Steps;
@@ -461,40 +460,6 @@ impl<'t> Calendar for AnyCalendar<'t> {
     ghost shared = { any_shared };
 
     ghost shared_day = { any_shared_day };
-}
-
-/// The year, the month and the day of a date.
-#[derive(Clone, Copy, Debug)]
-pub struct DateParts {
-    /// The year, in its era or cycle.
-    pub year: YearInfo,
-    /// The month.
-    pub month: Month,
-    /// The day of the month, from 1.
-    pub day: u8,
-}
-
-/// The year, the month and the day of an inner date.
-fn parts_of<C: Calendar>(calendar: &C, date: &C::DateInner) -> DateParts
-    requires { IsTrue (C.belongs calendar.now date.now) }
-    ensures { let s = C.system calendar.now in let t = C.date_of calendar.now date.now in
-        IsParts s t result }
-{
-    DateParts {
-        year: calendar.year_info(date).into_year_info(),
-        month: calendar.month(date).to_input(),
-        day: calendar.day_of_month(date).0,
-    }
-}
-
-impl<'t> AnyCalendar<'t> {
-    /// The year, the month and the day of an inner date of this calendar, by one question in place of three.
-    pub fn date_parts(&self, date: &AnyDateInner<'t>) -> DateParts
-        requires { IsTrue (any_belongs self.now date.now) }
-        ensures { IsParts (any_system self.now) (any_date self.now date.now) result }
-    {
-        with_date!(self, date, calendar => parts_of(calendar, date))
-    }
 }
 
 impl<'t> AsCalendar for AnyCalendar<'t> {

@@ -6,6 +6,6 @@ mod any_calendar_new;
 mod kind_held;
 mod tables;
 
-pub use any_calendar::{AnyCalendar, AnyDateInner, DateParts};
+pub use any_calendar::{AnyCalendar, AnyDateInner};
 pub use cal_kinds::AnyCalendarKind;
 pub use tables::Tables;

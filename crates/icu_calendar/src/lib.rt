@@ -20,7 +20,6 @@ mod weeks;
 pub use cal_any::AnyCalendar;
 pub use cal_any::AnyCalendarKind;
 pub use cal_any::AnyDateInner;
-pub use cal_any::DateParts;
 pub use cal_any::Tables;
 pub use cal_arith::Steps;
 pub use cal_base::AsCalendar;

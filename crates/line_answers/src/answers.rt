@@ -2,6 +2,7 @@
 ghost use Rattle.std.specs.Prelude.{◌≡◌, ◌+◌, ◌≤◌, ◌++◌, ℕ, List, false, length};
 ghost use Rattle.arrayvec.specs.ArrayVec.{array_vec_len};
 ghost use Rattle.line_reader.specs.Buffer.{Holds};
+ghost use Rattle.cal_types.specs.Bag.{bag_of};
 ghost use Rattle.cal_any.specs.Kinds.{table_contents};
 ghost use Rattle.request_lines.specs.Lines.{is_silent as line_is_silent, line_of};
 ghost use Rattle.line_answers.specs.Answers.{Answering, IsAnswerTo, IsRequestAnswer, refusal};
@@ -10,6 +11,7 @@ ghost use Rattle.line_answers.specs.TableRows.{TableRows, contents_of};
 
 use crate::status::Status;
 use crate::table::{RowFault, push_row_refusal};
+use cal_types::DateFields;
 use icu_calendar::Tables;
 use line_reader::LineBuffer;
 use request_lines::{Line, RequestLine, is_silent, read_line};
@@ -81,19 +83,22 @@ fn refuse(pending: &mut Pending, number: u64, why: &[u8])
     push_about(pending, b"err line ", number, why);
 }
 
-// Answers a request line, and whether that is a refusal.
+// Answers a request line, whose bags were read, and whether that is a refusal.
 fn answer_request(
     pending: &mut Pending,
     number: u64,
-    line: &RequestLine<'_>,
+    line: &RequestLine,
+    from: &DateFields<'_>,
+    to: &DateFields<'_>,
     tables: &Tables<'_>,
 ) -> bool
     requires { array_vec_len pending.old + 512 ≤ 8192 }
     ensures { (text : List ℕ) × (pending.new.items ≡ pending.old.items ++ text)
-        × IsRequestAnswer (table_contents tables.now) (request_line_said line.now) number text result }
+        × IsRequestAnswer (table_contents tables.now) (request_line_said line.now (bag_of from.now) (bag_of to.now)) number
+        text result }
 {
     match line {
-        RequestLine::Asks(request) => reply(pending, request, tables),
+        RequestLine::Asks(header) => reply(pending, header, from, to, tables),
         RequestLine::Long => {
             refuse(pending, number, b"long");
             true
@@ -120,13 +125,15 @@ fn answer_line(
         × (pending.new.items ≡ pending.old.items ++ text)
         × IsAnswerTo (line_of whole) number (Answering rows progress.refused) text (stage_of rows result) }
 {
-    match read_line(line) {
+    let mut from = DateFields::default();
+    let mut to = DateFields::default();
+    match read_line(line, &mut from, &mut to) {
         Line::GivesRow(_) => {
             push_row_refusal(pending, number, RowFault::Late);
             Answered::Stopped
         }
         Line::Requests(request) => {
-            let refused = answer_request(pending, number, &request, tables);
+            let refused = answer_request(pending, number, &request, &from, &to, tables);
             Answered::GoesOn(progress.replied(refused))
         }
     }

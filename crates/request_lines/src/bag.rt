@@ -79,6 +79,7 @@ fn set_next_rarer_field<'a>(fields: &mut DateFields<'a>, words: &mut Words<'a>) 
 
 // Sets the field that the next word KEY=VALUE names. None where the key isn't known, the value isn't one of it,
 // or the field is set.
+#[inline(always)]
 fn set_next_field<'a>(fields: &mut DateFields<'a>, words: &mut Words<'a>) -> Option<()>
     ensures { let reading = next_word (with_word (bag_of fields.old)) (words_left words.old) in
         IsReading reading (option_map (λ _. bag_of fields.new) result) (words_left words.new) }

@@ -1,21 +1,23 @@
 //! What a line says.
 ghost use Rattle.std.specs.Prelude.{◌≡◌, ℕ, List, false};
 ghost use Rattle.std.specs.Str.Lines.{strip_carriage_return};
+ghost use Rattle.cal_types.specs.Bag.{bag_of};
 ghost use Rattle.line_reader.specs.Buffer.{Holds};
+ghost use Rattle.request_lines.specs.Bags.{no_fields};
 ghost use Rattle.request_lines.specs.Lines.{is_row as text_is_row, is_silent as line_is_silent, line_of};
 
-use crate::request::{Request, read_into};
+use crate::request::{Header, read_into};
 use crate::row::{Row, read_row};
 use cal_types::DateFields;
 use line_reader::LineBuffer;
 
 /// What a request line says.
 #[derive(Clone, Copy, Debug)]
-pub enum RequestLine<'a> {
+pub enum RequestLine {
     /// It has more than 512 bytes.
     Long,
-    /// It is a request.
-    Asks(Request<'a>),
+    /// It is a request for two bags of fields, of which this stands before them.
+    Asks(Header),
     /// It is no request.
     Malformed,
 }
@@ -26,7 +28,7 @@ pub enum Line<'a> {
     /// It is a row line, with its row, if it says one.
     GivesRow(Option<Row<'a>>),
     /// It is a request line.
-    Requests(RequestLine<'a>),
+    Requests(RequestLine),
 }
 
 ghost use Rattle.request_lines.specs.LineSaid.{line_said};
@@ -62,12 +64,18 @@ pub fn is_silent(line: &LineBuffer) -> bool
     gives_nothing(&line.prefix)
 }
 
-/// What a line says that isn't silent. One of more than 512 bytes, with a carriage return at its end, is too
-/// long; of the others, one that is `row` or begins with `row ` is a row line, and each other one is a request
-/// or malformed.
-pub fn read_line<'a>(line: &'a LineBuffer) -> Line<'a>
+/// What a line says that isn't silent, where the two bags of a request are read into bags that have no fields. One of
+/// more than 512 bytes, with a carriage return at its end, is too long; of the others, one that is `row` or begins with
+/// `row ` is a row line, and each other one is a request or malformed.
+pub fn read_line<'a>(
+    line: &'a LineBuffer,
+    from: &mut DateFields<'a>,
+    to: &mut DateFields<'a>,
+) -> Line<'a>
+    requires from { bag_of from.old ≡ no_fields }
+    requires to { bag_of to.old ≡ no_fields }
     ensures { (whole : List ℕ) → Holds line.now whole → line_is_silent whole ≡ false
-        → line_said result ≡ line_of whole }
+        → line_said result (bag_of from.new) (bag_of to.new) ≡ line_of whole }
 {
     if line.over {
         return Line::Requests(RequestLine::Long);
@@ -76,10 +84,8 @@ pub fn read_line<'a>(line: &'a LineBuffer) -> Line<'a>
     if is_row(text) {
         return Line::GivesRow(read_row(text));
     }
-    let mut from = DateFields::default();
-    let mut to = DateFields::default();
-    let Some(header) = read_into(&mut from, &mut to, text) else {
-        return Line::Requests(RequestLine::Malformed);
-    };
-    Line::Requests(RequestLine::Asks(Request { header, from, to }))
+    match read_into(from, to, text) {
+        Some(header) => Line::Requests(RequestLine::Asks(header)),
+        None => Line::Requests(RequestLine::Malformed),
+    }
 }

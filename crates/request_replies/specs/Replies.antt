@@ -25,15 +25,11 @@ abbrev pub year_text : YearInfo → List ℕ
 year_text (Era y) = y.era ++ 46 ∷ signed_decimal y.year
 year_text (Cyclic y) = codes "cycle." ++ decimal y.year
 
--- extended year, printed year, month code, day and the text of a day number, as `2020/ce.2020/M02/29@737484`
-abbrev pub numbered_text : CalendarSystem → Date → List ℕ → List ℕ
-numbered_text s t number =
-    signed_decimal t.year ++ 47 ∷ year_text (s.year_info t) ++ 47 ∷ code_text (month_at s.list t.year t.month)
-    ++ 47 ∷ two_digits t.day ++ 64 ∷ number
-
--- a date, with its day number
+-- a date: extended year, printed year, month code, day and day number, as `2020/ce.2020/M02/29@737484`
 abbrev pub date_text : CalendarSystem → Date → List ℕ
-date_text s t = numbered_text s t (signed_decimal (day_number s.list t))
+date_text s t =
+    signed_decimal t.year ++ 47 ∷ year_text (s.year_info t) ++ 47 ∷ code_text (month_at s.list t.year t.month)
+    ++ 47 ∷ two_digits t.day ++ 64 ∷ signed_decimal (day_number s.list t)
 
 -- a part of a duration, where it isn't 0
 abbrev pub part_text : ℕ → ℕ → List ℕ
@@ -91,12 +87,6 @@ reply_text c shown (Err e) = error_text e
 abbrev pub is_refusal : Result SpanDates SpanError → Bool
 is_refusal (Ok s) = false
 is_refusal (Err e) = true
-
--- behind a text stand a date, and the date of the same day in a second calendar
-pub record SaysDay (c shown : CalendarSystem) (t : Date) (old new : List ℕ) : Type 0 where
-  pub shown_date : Date
-  pub on : IsOn shown.list (day_number c.list t) shown_date
-  pub says : new ≡ old ++ day_text c shown t shown_date
 
 -- behind a text stand two dates with the same days in a second calendar, and their difference
 pub record SaysSpan (c shown : CalendarSystem) (t u : Date) (unit : DateDurationUnit) (old new : List ℕ) : Type 0 where

@@ -1,20 +1,26 @@
 //! The reply to a request: the texts of dates, durations and causes.
 ghost use Rattle.std.specs.Prelude.{◌≡◌, ◌+◌, ◌≤◌, ◌<◌, ◌++◌, ◌∷◌, [], ◌↔◌, IsTrue, List, ℕ, if◌then◌else◌};
-ghost use Rattle.std.specs.Fmt.{signed_decimal};
 ghost use Rattle.arrayvec.specs.ArrayVec.{array_vec_len};
 ghost use Rattle.cal_types.specs.declared.duration.DateDuration.{DateDuration};
-ghost use Rattle.cal_any.specs.AnySystem.{any_system, any_date};
-ghost use Rattle.cal_model.specs.Difference.{largest_unit_of};
+ghost use Rattle.cal_types.specs.Bag.{Bag, bag_of};
+ghost use Rattle.cal_types.specs.declared.duration.DateDurationUnit.{DateDurationUnit};
+ghost use Rattle.cal_types.specs.declared.options.DateFromFieldsOptions.{DateFromFieldsOptions};
+ghost use Rattle.cal_any.specs.AnySystem.{any_system};
+ghost use Rattle.cal_model.specs.CalendarList.{Date};
+ghost use Rattle.cal_model.specs.CalendarSystem.{CalendarSystem};
+ghost use Rattle.request_dates.specs.Parts.{AreNamed, IsDay, IsDayParts};
 ghost use Rattle.cal_types.specs.Month.{code_text};
 ghost use Rattle.cal_types.specs.MonthParts.{month_parts};
-ghost use Rattle.request_replies.specs.Replies.{year_text, numbered_text, part_text, parts_text, duration_text, cause_text, side_text, error_text, SaysDay, SaysSpan, IsReply};
+ghost use Rattle.request_replies.specs.Replies.{year_text, date_text, day_text, part_text, parts_text, duration_text, cause_text, side_text, error_text, SaysSpan, IsReply};
 ghost use Rattle.cal_any.specs.Kinds.{kind_system, table_contents};
-ghost use Rattle.request_lines.specs.RequestSaid.{request_said};
+ghost use Rattle.request_lines.specs.Requests.{request_of};
+ghost use Rattle.request_lines.specs.RequestSaid.{header_said};
 
 use crate::text::{Pending, push_all, push_number, push_signed, push_two_digits};
-use cal_types::{DateDifferenceOptions, DateDuration, DateFromFieldsError, Month, YearInfo};
-use icu_calendar::{AnyCalendar, BagSide, Date, NamedDates, Ref, SpanError, Tables, named_dates};
-use request_lines::Request;
+use cal_types::{DateDuration, DateFields, DateFromFieldsError, Month, YearInfo};
+use icu_calendar::{AnyCalendar, BagSide, SpanError, Tables};
+use request_dates::{DayParts, SpanParts, name_dates, show_days};
+use request_lines::Header;
 
 // A year of an era, or of a cycle.
 fn push_year(text: &mut Pending, year: &YearInfo)
@@ -156,15 +162,14 @@ fn push_month(text: &mut Pending, month: Month)
     }
 }
 
-// A date: its extended year, the year that it is printed in, its month code, its day, and the text of
-// its day number.
-fn push_date(text: &mut Pending, date: &Date<Ref<'_, AnyCalendar<'_>>>, number: i64)
-    requires { array_vec_len text.old + 92 ≤ 8192 }
-    ensures items { let k = date.now.calendar.0.now in let c = any_system k in let t = any_date k date.now.inner in
-        text.new.items ≡ text.old.items ++ numbered_text c t (signed_decimal number) }
+// A date: its extended year, the year that it is printed in, its month code, its day, and its day number.
+fn push_date(text: &mut Pending, parts: &DayParts)
+    requires room { array_vec_len text.old + 92 ≤ 8192 }
+    requires day { parts.now.day < 100 }
+    ensures items { (s : CalendarSystem) (t : Date) → IsDayParts s t parts.now
+        → text.new.items ≡ text.old.items ++ date_text s t }
     ensures len { array_vec_len text.new ≤ array_vec_len text.old + 92 }
 {
-    let parts = date.calendar().date_parts(date.inner());
     push_signed(text, i64::from(parts.year.extended_year()));
     text.push(b'/');
     push_year(text, &parts.year);
@@ -173,62 +178,63 @@ fn push_date(text: &mut Pending, date: &Date<Ref<'_, AnyCalendar<'_>>>, number: 
     text.push(b'/');
     push_two_digits(text, parts.day);
     text.push(b'@');
-    push_signed(text, number);
+    push_signed(text, parts.rata_die.to_i64_date());
 }
 
-// A date, and the same day in a second calendar. Both have one day number.
-fn push_day(
-    text: &mut Pending,
-    date: &Date<Ref<'_, AnyCalendar<'_>>>,
-    shown: Ref<'_, AnyCalendar<'_>>,
-)
-    requires { array_vec_len text.old + 185 ≤ 8192 }
-    ensures items { let from = date.now.calendar.0.now in
-        let c = any_system from in let t = any_date from date.now.inner in let other = any_system shown.entry.0.now in
-        SaysDay c other t text.old.items text.new.items }
+// A date, and the same day in a second calendar.
+fn push_day(text: &mut Pending, parts: &DayParts, shown: &DayParts)
+    requires room { array_vec_len text.old + 185 ≤ 8192 }
+    requires day { parts.now.day < 100 }
+    requires shown { shown.now.day < 100 }
+    ensures items { (c other : CalendarSystem) (t u : Date) → IsDayParts c t parts.now → IsDayParts other u shown.now
+        → text.new.items ≡ text.old.items ++ day_text c other t u }
     ensures len { array_vec_len text.new ≤ array_vec_len text.old + 185 }
 {
-    let day = date.to_rata_die();
-    let number = day.to_i64_date();
-    push_date(text, date, number);
+    push_date(text, parts);
     text.push(b' ');
-    push_date(text, &Date::from_rata_die(day, shown), number);
+    push_date(text, shown);
 }
 
 // Both dates, the same days in the second calendar, and the difference.
-fn push_span(
-    text: &mut Pending,
-    dates: &NamedDates<Ref<'_, AnyCalendar<'_>>>,
-    shown: Ref<'_, AnyCalendar<'_>>,
-    difference: DateDifferenceOptions,
-)
-    requires { array_vec_len text.old + 470 ≤ 8192 }
-    ensures { let d = dates.now in let k = d.from.calendar.0.now in let unit = largest_unit_of difference.largest_unit in
-        SaysSpan (any_system k) (any_system shown.entry.0.now) (any_date k d.from.inner) (any_date k d.to.inner) unit
-        text.old.items text.new.items }
+fn push_span(text: &mut Pending, parts: &SpanParts, shown: &AnyCalendar<'_>)
+    requires room { array_vec_len text.old + 470 ≤ 8192 }
+    requires from { IsDay parts.now.from }
+    requires to { IsDay parts.now.to }
+    ensures { (c : CalendarSystem) (first second : Bag) (options : DateFromFieldsOptions) (unit : DateDurationUnit)
+        → (named : AreNamed c first second options unit parts.now)
+        → SaysSpan c (any_system shown.now) named.from_date named.to_date unit text.old.items text.new.items }
 {
+    let mut from_shown = DayParts::unnamed(parts.from.rata_die);
+    let mut to_shown = DayParts::unnamed(parts.to.rata_die);
+    show_days(&mut from_shown, &mut to_shown, shown);
     push_all(text, b"ok ");
-    push_day(text, dates.from(), shown);
+    push_day(text, &parts.from, &from_shown);
     text.push(b' ');
-    push_day(text, dates.to(), shown);
+    push_day(text, &parts.to, &to_shown);
     text.push(b' ');
-    push_duration(text, &dates.duration(difference));
+    push_duration(text, &parts.duration);
     text.push(b'\n');
 }
 
-/// Appends the reply to a request, over the tables of the input, and answers whether it is a refusal.
-pub fn reply(text: &mut Pending, request: &Request, tables: &Tables<'_>) -> bool
+/// Appends the reply to a request for two bags, over the tables of the input, and answers whether it is a refusal.
+pub fn reply(
+    text: &mut Pending,
+    header: &Header,
+    from: &DateFields<'_>,
+    to: &DateFields<'_>,
+    tables: &Tables<'_>,
+) -> bool
     requires { array_vec_len text.old + 512 ≤ 8192 }
-    ensures { let r = request_said request.now in let t = table_contents tables.now in
+    ensures { let r = request_of (header_said header.now) (bag_of from.now) (bag_of to.now) in let t = table_contents tables.now in
         (answer : List ℕ) × (text.new.items ≡ text.old.items ++ answer)
         × IsReply (kind_system t r.calendar) (kind_system t r.shown) r answer result }
 {
-    let header = request.header;
     let calendar = AnyCalendar::new(header.calendar, *tables);
-    match named_dates(request.from, request.to, header.options, Ref(&calendar)) {
-        Ok(dates) => {
-            let shown = AnyCalendar::new(header.shown, *tables);
-            push_span(text, &dates, Ref(&shown), header.difference);
+    let mut parts = SpanParts::unnamed();
+    let (options, difference) = (header.options, header.difference);
+    match name_dates(&mut parts, &calendar, from, to, options, difference) {
+        Ok(()) => {
+            push_span(text, &parts, &AnyCalendar::new(header.shown, *tables));
             false
         }
         Err(error) => {

@@ -1,14 +1,16 @@
 //! The row lines before the first request line.
-ghost use Rattle.std.specs.Prelude.{◌≡◌, ◌≤◌, ℕ, List, [], Option};
+ghost use Rattle.std.specs.Prelude.{◌≡◌, ◌≤◌, ℕ, List, [], Option, false};
 ghost use Rattle.line_reader.specs.Buffer.{Holds};
 ghost use Rattle.std.specs.Io.KnownBytes.{Consumes, IsAtEnd};
 ghost use Rattle.line_reader.specs.Reader.{GivesAll, lines_given};
 ghost use Rattle.line_reader.specs.declared.buffer.LineBuffer.{LineBuffer};
 ghost use Rattle.line_reader.specs.declared.reader.Reader.{Reader};
+ghost use Rattle.request_lines.specs.Lines.{is_silent as line_is_silent};
 ghost use Rattle.line_answers.specs.RowsSaid.{rows_said};
 ghost use Rattle.span_run.specs.Stages.{IsGathering};
 
 use byte_io::Source;
+use cal_types::DateFields;
 use line_answers::{RowFault, Status, TableRows, Taken};
 use line_reader::{Filled, LineBuffer, Next, Reader};
 use request_lines::{Line, is_silent, read_line};
@@ -43,20 +45,32 @@ enum LineGathered {
 
 ghost use Rattle.span_run.specs.Gathering.{Gathers, IsGathered};
 
-fn gather_line(rows: &mut TableRows, line: &LineBuffer) -> LineGathered
-    ensures { (whole : List ℕ) → Holds line.now whole
+// What a line did that isn't silent. What its row needs is set up at the call, which a silent line is spared.
+#[inline(never)]
+fn gather_said(rows: &mut TableRows, line: &LineBuffer) -> LineGathered
+    ensures { (whole : List ℕ) → Holds line.now whole → line_is_silent whole ≡ false
         → IsGathered result whole (rows_said rows.old) (rows_said rows.new) }
 {
-    if is_silent(line) {
-        return LineGathered::GoesOn;
-    }
-    match read_line(line) {
+    let mut from = DateFields::default();
+    let mut to = DateFields::default();
+    match read_line(line, &mut from, &mut to) {
         Line::GivesRow(row) => match rows.take(row) {
             Taken::Kept => LineGathered::GoesOn,
             Taken::Refused(why) => LineGathered::Refused(why),
             Taken::NoMemory => LineGathered::NoMemory,
         },
         Line::Requests(_) => LineGathered::Request,
+    }
+}
+
+fn gather_line(rows: &mut TableRows, line: &LineBuffer) -> LineGathered
+    ensures { (whole : List ℕ) → Holds line.now whole
+        → IsGathered result whole (rows_said rows.old) (rows_said rows.new) }
+{
+    if is_silent(line) {
+        LineGathered::GoesOn
+    } else {
+        gather_said(rows, line)
     }
 }
 

@@ -1,5 +1,7 @@
 //! Differences of two bags in each unit, and the first fault of two bags.
 
+ghost use Rattle.cal_days.specs.Day.{IsValidDay};
+
 use icu_calendar::{
     AnyCalendar, AnyCalendarKind, BagSide, Date, DateDifferenceOptions, DateDuration,
     DateDurationUnit, DateFromFieldsError, DateFromFieldsOptions, Overflow, Span, SpanError,
@@ -7,8 +9,9 @@ use icu_calendar::{
 };
 use known_dates::{
     GREGORIAN, IN_DAYS, ISO, JULIAN, REJECT, calendar_of, date_named, duration, fields, has_parts,
-    is_named, number_of,
+    is_named, number_of, parts_of,
 };
+use request_dates::{DayParts, SpanParts, name_dates, show_days};
 use std::process::Abort;
 
 /// A year, a month and a day.
@@ -90,20 +93,56 @@ fn span_has_the_days_and_both_dates(rt: HostRuntime) {
     }
 }
 
-/// The year, the month and the day of a date.
-fn ymd_of(date: &AnyDate) -> Ymd {
-    let parts = date.calendar().date_parts(date.inner());
-    (parts.year.extended_year(), parts.month.number(), parts.day)
-}
-
 #[test]
 fn two_bags_name_two_dates_of_a_calendar(rt: HostRuntime) {
     let (from, to) = (fields(2020, 2, 29), fields(2021, 2, 28));
     match named_dates(from, to, REJECT, calendar_of(GREGORIAN)) {
         Ok(dates) => {
-            assert!(rt; ymd_of(dates.from()) == LEAP_DAY);
-            assert!(rt; ymd_of(dates.to()) == YEAR_LATER);
+            assert!(rt; parts_of(dates.from()) == LEAP_DAY);
+            assert!(rt; parts_of(dates.to()) == YEAR_LATER);
             assert!(rt; dates.duration(IN_DAYS) == duration(false, 0, 0, 0, 365));
+        }
+        Err(fault) => assert!(rt; false, "{}", fault.cause),
+    }
+}
+
+/// Whether parts are those of a day of an extended year and a month.
+fn is_day(parts: &DayParts, (year, month, day): Ymd) -> bool {
+    parts.year.extended_year() == year && parts.month.number() == month && parts.day == day
+}
+
+/// Whether parts are those of two days and of the difference between them.
+fn are_days(parts: &SpanParts, from: Ymd, to: Ymd, between: DateDuration) -> bool {
+    is_day(&parts.from, from) && is_day(&parts.to, to) && parts.duration == between
+}
+
+/// Whether the same two days have these dates in the Julian calendar.
+fn are_in_julian(parts: &SpanParts, from: Ymd, to: Ymd) -> bool
+    requires from { IsValidDay parts.now.from.rata_die }
+    requires to { IsValidDay parts.now.to.rata_die }
+{
+    let mut from_shown = DayParts::unnamed(parts.from.rata_die);
+    let mut to_shown = DayParts::unnamed(parts.to.rata_die);
+    show_days(&mut from_shown, &mut to_shown, &calendar_of(JULIAN));
+    is_day(&from_shown, from) && is_day(&to_shown, to)
+}
+
+#[test]
+fn parts_of_two_named_days_are_shown_in_another_calendar(rt: HostRuntime) {
+    let (from, to) = (fields(2020, 2, 29), fields(2021, 2, 28));
+    let between = duration(false, 0, 0, 0, 365);
+    let mut parts = SpanParts::unnamed();
+    match name_dates(
+        &mut parts,
+        &calendar_of(GREGORIAN),
+        &from,
+        &to,
+        REJECT,
+        IN_DAYS,
+    ) {
+        Ok(()) => {
+            assert!(rt; are_days(&parts, LEAP_DAY, YEAR_LATER, between));
+            assert!(rt; are_in_julian(&parts, (2020, 2, 16), (2021, 2, 15)));
         }
         Err(fault) => assert!(rt; false, "{}", fault.cause),
     }

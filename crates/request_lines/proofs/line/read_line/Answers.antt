@@ -16,16 +16,16 @@ returns-then-is_row c whole hold loud =
     row_said_by c.without_return-text.result.now (option_map row_said c.read_row.result) (sym c.is_row.ensures ∙ c.if-is_row.true) c.read_row.ensures
     ∙ (ap said_by text ∙ sym (short_is whole loud over))
 
-pub returns-in_default : goal.returns-in_default
-returns-in_default c whole hold loud =
+pub returns-in-None : goal.returns-in-None
+returns-in-None c whole hold loud =
     let over : nat_lt 512 (length whole) ≡ false = sym hold.over ∙ c.if-line.false in
     let prefix = c.deref.ensures.0 ∙ (hold.prefix ∙ take_all 512 whole (ltb-false 512 (length whole) over)) in
     let text = c.without_return-text.ensures ∙ ap strip_carriage_return prefix in
-    request_said_by c.without_return-text.result.now None (sym c.is_row.ensures ∙ c.if-is_row.false) c.in_default.ensures
+    request_said_by c.without_return-text.result.now None (sym c.is_row.ensures ∙ c.if-is_row.false) c.in-None.ensures
     ∙ (ap said_by text ∙ sym (short_is whole loud over))
 
-pub returns : goal.returns
-returns c whole hold loud =
+pub returns-in-Some : goal.returns-in-Some
+returns-in-Some c whole hold loud =
     let over : nat_lt 512 (length whole) ≡ false = sym hold.over ∙ c.if-line.false in
     let prefix = c.deref.ensures.0 ∙ (hold.prefix ∙ take_all 512 whole (ltb-false 512 (length whole) over)) in
     let text = c.without_return-text.ensures ∙ ap strip_carriage_return prefix in

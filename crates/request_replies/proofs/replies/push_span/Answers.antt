@@ -1,6 +1,6 @@
-use Rattle.std.proofs.Common.{◌≡◌, ℕ, List, [], ◌∷◌, ◌++◌, sym, subst, append_assoc}
-use Rattle.cal_any.specs.AnySystem.{any_system, any_date}
-use Rattle.request_replies.specs.Replies.{SaysDay}
+use Rattle.std.proofs.Common.{◌≡◌, ℕ, List, [], ◌∷◌, ◌++◌, subst, ◌∙◌, append_assoc}
+use Rattle.cal_model.specs.CalendarList.{IsOn}
+use Rattle.cal_any.specs.AnySystem.{any_system}
 use Rattle.request_replies.proofs.replies.push_span.Goals as goal
 
 -- the parts of a reply, one after another
@@ -9,19 +9,19 @@ pushed : (old head x y z a b d e f g all : List ℕ) → a ≡ old ++ head → b
 pushed old head x y z a b d e f g all e1 e2 e3 e4 e5 e6 e7 = rw (e7, e6, e5, e4, e3, e2, e1) (simp append_assoc)
 
 pub returns : goal.returns
-returns c =
-    let old = c.args.text.now.items in
-    let d = c.args.dates.now in
-    let other = any_system c.args.shown.0.now in
-    let first = subst (λ x. SaysDay (any_system x.calendar.0.now) other (any_date x.calendar.0.now x.inner) c.push_all.new.text.items c.push_day.new.text.items) c.from.ensures c.push_day.ensures.items in
-    let last = subst (λ x. SaysDay (any_system x.calendar.0.now) other (any_date x.calendar.0.now x.inner) c.push.new.self.items c.push_day-2.new.text.items) c.to.ensures c.push_day-2.ensures.items in
-    let second = subst (λ r. SaysDay (any_system r.0.now) other (any_date r.0.now d.to.inner) c.push.new.self.items c.push_day-2.new.text.items) (sym d.one_calendar) last in
+returns c s first second options unit named =
+    let other = any_system c.args.shown.now in
+    let from = c.show_days.ensures.from in
+    let to = c.show_days.ensures.to in
     record {
-      from_shown = first.shown_date;
-      to_shown = second.shown_date;
-      duration = c.duration.result;
-      from_on = first.on;
-      to_on = second.on;
-      difference = c.duration.ensures.difference;
-      says = pushed old _ _ _ _ _ _ _ _ _ _ c.push-3.new.self.items c.push_all.ensures first.says c.push.ensures.items second.says c.push-2.ensures.items c.push_duration.ensures.items c.push-3.ensures.items;
+      from_shown = from.date;
+      to_shown = to.date;
+      duration = c.args.parts.now.duration;
+      from_on = subst (λ n. IsOn other.list n from.date) (c.unnamed-from_shown.ensures ∙ named.from_parts.rata_die) from.on;
+      to_on = subst (λ n. IsOn other.list n to.date) (c.unnamed-to_shown.ensures ∙ named.to_parts.rata_die) to.on;
+      difference = named.difference;
+      says = pushed c.args.text.now.items _ _ _ _ _ _ _ _ _ _ c.push-3.new.self.items c.push_all.ensures
+          (c.push_day.ensures.items s other named.from_date from.date named.from_parts from.parts) c.push.ensures.items
+          (c.push_day-2.ensures.items s other named.to_date to.date named.to_parts to.parts) c.push-2.ensures.items
+          c.push_duration.ensures.items c.push-3.ensures.items;
     }
