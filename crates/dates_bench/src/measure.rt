@@ -132,43 +132,24 @@ fn far_after(day: u64) -> i64
     day as i64 + 364000000
 }
 
-/// The result of the operation on the date of a day.
-fn result_on<A: AsCalendar + Copy>(operation: Operation, turn_day: u64, calendar: A) -> i64
+/// The sum of the results of an operation on the days of the first turns, in a loop of its own.
+macro_rules! sum_of {
+    ($turns:ident, $turn_day:ident => $result:expr) => {{
+        let mut sum = 0i64;
+        for turn in 0..$turns {
+            let $turn_day = day_of_turn(turn);
+            sum = sum.wrapping_add($result);
+        }
+        sum
+    }};
+}
+
+/// The sum of the results of adding a duration.
+fn sum_of_sums<A: AsCalendar + Copy>(turns: u32, duration: DateDuration, calendar: A) -> i64
 where
     A::Calendar: Calendar,
-    requires { turn_day < 900000 }
-    ensures { operation ≡ Operation.Day → result ≡ pos turn_day }
 {
-    let day = turn_day as i64;
-    match operation {
-        Operation::Day => day_and_back(day, calendar),
-        Operation::AddYear => day_of_sum(day, DateDuration::for_years(1), calendar),
-        Operation::AddMonth => day_of_sum(day, DateDuration::for_months(1), calendar),
-        Operation::AddDay => day_of_sum(day, DateDuration::for_days(1), calendar),
-        Operation::AddMonthsOfAYear => day_of_sum(day, DateDuration::for_months(12), calendar),
-        Operation::AddFarMonths => day_of_sum(
-            far_before(turn_day),
-            DateDuration::for_months(FAR_MONTHS),
-            calendar,
-        ),
-        Operation::Pair => days_of_both(other_day(turn_day), day, calendar),
-        Operation::Difference => parts_between(
-            other_day(turn_day),
-            day,
-            DateDurationUnit::Years,
-            calendar,
-        ),
-        Operation::MonthsOverAYear => {
-            parts_between(day, day + 366, DateDurationUnit::Months, calendar)
-        }
-        Operation::FarMonths => parts_between(
-            far_before(turn_day),
-            far_after(turn_day),
-            DateDurationUnit::Months,
-            calendar,
-        ),
-        Operation::Text => day_of_text(turn_day, calendar),
-    }
+    sum_of!(turns, day => day_of_sum(day as i64, duration, calendar))
 }
 
 /// The sum of the results of an operation on the days of the first turns.
@@ -176,9 +157,25 @@ pub fn measure<A: AsCalendar + Copy>(operation: Operation, turns: u32, calendar:
 where
     A::Calendar: Calendar,
 {
-    let mut sum = 0i64;
-    for turn in 0..turns {
-        sum = sum.wrapping_add(result_on(operation, day_of_turn(turn), calendar));
+    match operation {
+        Operation::Day => sum_of!(turns, day => day_and_back(day as i64, calendar)),
+        Operation::AddYear => sum_of_sums(turns, DateDuration::for_years(1), calendar),
+        Operation::AddMonth => sum_of_sums(turns, DateDuration::for_months(1), calendar),
+        Operation::AddDay => sum_of_sums(turns, DateDuration::for_days(1), calendar),
+        Operation::AddMonthsOfAYear => sum_of_sums(turns, DateDuration::for_months(12), calendar),
+        Operation::AddFarMonths => {
+            let months = DateDuration::for_months(FAR_MONTHS);
+            sum_of!(turns, day => day_of_sum(far_before(day), months, calendar))
+        }
+        Operation::Pair => {
+            sum_of!(turns, day => days_of_both(other_day(day), day as i64, calendar))
+        }
+        Operation::Difference => sum_of!(turns, day =>
+            parts_between(other_day(day), day as i64, DateDurationUnit::Years, calendar)),
+        Operation::MonthsOverAYear => sum_of!(turns, day =>
+            parts_between(day as i64, day as i64 + 366, DateDurationUnit::Months, calendar)),
+        Operation::FarMonths => sum_of!(turns, day =>
+            parts_between(far_before(day), far_after(day), DateDurationUnit::Months, calendar)),
+        Operation::Text => sum_of!(turns, day => day_of_text(day, calendar)),
     }
-    sum
 }
