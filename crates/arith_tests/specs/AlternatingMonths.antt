@@ -1,7 +1,7 @@
 -- A small calendar for tests: each year has twelve months of 30 and 29 days in turn.
 use Rattle.std.proofs.Common.{◌≡◌, ℕ, zero, suc, ◌+◌, ◌-◌, ◌*◌, ◌/◌, ◌%◌, ◌≤◌, Bool, true, false, not, ◌&&◌, nat_le, Some, Ok, Err, List, [], ◌∷◌, refl, sym, ap, ◌∙◌, arith, unsigned_abs, ℤ, pos, neg_ℤ, ◌+ℤ◌, ◌-ℤ◌, ◌*ℤ◌, ◌≤ℤ◌, ◌<ℤ◌}
 use Rattle.std.proofs.lemmas.Bool.Decides.{nat_tests}
-use Rattle.cal_days.specs.Day.{IsBetween, IsFieldYear, IsRuleYear, IsValidDay}
+use Rattle.cal_days.specs.Day.{IsBetween, IsFieldYear, IsRuleYear, IsValidDay, IsCoveredYear}
 use Rattle.cal_days.specs.Sums.{total}
 use Rattle.cal_days.proofs.Signed.{signed, by_years}
 use Rattle.cal_days.proofs.SumLemmas.{span-same}
@@ -160,7 +160,7 @@ alternating-apart t u h k =
     let from = month_number-place alternating t.year t.month h.date.place.0 in let to = month_number-place alternating u.year u.month k.date.place.0 in
     omega (arith, signed, first, last, from, to, month_number-first t.year, month_number-first u.year, h.date.place, k.date.place, month_count-alternating t.year, month_count-alternating u.year)
 
-pub alternating-covered : (t : Date) → IsBetween (neg_ℤ (pos 20000)) (pos 20000) t.year → IsDate alternating t → IsValidDay (day_number alternating t)
+pub alternating-covered : (t : Date) → IsCoveredYear t.year → IsDate alternating t → IsValidDay (day_number alternating t)
 alternating-covered t y h =
     let year = in_year t h in let start = start_of_year-alternating t.year in
     (omega (arith, signed, year, start, y), omega (arith, signed, year, start, y))

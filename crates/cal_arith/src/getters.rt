@@ -120,7 +120,7 @@ fn is_listed<C: YearShapes>(date: Ymd<C::YearInfo>, cal: &C) -> bool
         && is_up_to(date.day, cal.days_in_provided_month(date.year, date.month))
 }
 
-/// Whether a date of the calendar has a valid day. Each date of the years from -20000 to 20000 has one, so that its
+/// Whether a date of the calendar has a valid day. Each date of the years from -980000 to 980000 has one, so that its
 /// day number isn't computed.
 pub(crate) fn has_valid_day<C: YearShapes>(date: Ymd<C::YearInfo>, cal: &C) -> bool
     requires { IsGivenDate (C.years cal.now) date }
@@ -132,7 +132,7 @@ pub(crate) fn has_valid_day<C: YearShapes>(date: Ymd<C::YearInfo>, cal: &C) -> b
     is_in_range(to_rata_die(date, cal))
 }
 
-/// Whether a year lies from -20000 to 20000.
+/// Whether a year lies from -980000 to 980000.
 fn is_covered(year: i32) -> bool
     ensures { result ≡ is_covered_year year }
 {

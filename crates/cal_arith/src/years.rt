@@ -197,7 +197,7 @@ pub trait YearShapes {
         let number = month_number (years s).list in
         unsigned_abs (number u.year u.month -ℤ number t.year t.month) ≤ 27040000 };
 
-    /// The days of years from -20000 to 20000 are valid.
+    /// The days of years from -980000 to 980000 are valid.
     ghost covered: { (s : Self) (t : Date) → IsCoveredYear t.year →
         IsDate (years s).list t → IsValidDay (day_number (years s).list t) };
 }
@@ -250,7 +250,7 @@ pub trait DateFieldsResolver: Years {
 
     /// The extended year that an era's code and a year in that era, from -1040000 to 1040000, read as.
     /// [`UnknownEraError`] comes for a code that isn't one of the calendar's (CLDR, UTS 35). For a year from
-    /// -9999 to 9999 the extended year lies from -20000 to 20000.
+    /// -9999 to 9999 the days of the extended year are valid: it lies from -980000 to 980000.
     fn extended_year_from_era_year_unchecked(
         &self,
         era: &[u8],

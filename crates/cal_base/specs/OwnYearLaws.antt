@@ -3,7 +3,7 @@ use Rattle.std.proofs.Common.{◌≡◌, ◌↔◌, Bool, true, false, sym, ap, 
 use Rattle.std.specs.Prelude.{◌&&◌, ◌==◌, IsTrue, List, length, take, sum_by, slice_index_or, nat_le}
 use Rattle.std.specs.Ordering.{nat_cmp, int_cmp, int_eq, on, then_cmp, eq_of_both}
 use Rattle.std.specs.declared.cmp.Ordering.{Ordering}
-use Rattle.cal_days.specs.Day.{IsBetween, IsFieldYear, IsValidDay, is_field_year, is_valid_day}
+use Rattle.cal_days.specs.Day.{IsFieldYear, IsValidDay, is_field_year, is_valid_day, IsCoveredYear}
 use Rattle.cal_days.proofs.RangeLemmas.{true-is_between}
 use Rattle.cal_days.proofs.Signed.{signed}
 use Rattle.cal_model.specs.CalendarList.{Entry, no_entry, days_of, Date, date, day_number, days_before, start_of_year, IsDate, IsLawful, IsValidDate, is_date, is_valid_date}
@@ -86,7 +86,7 @@ module _ {Y : Type 0} (years other : CalendarYears Y) (d : Ymd Y) (share : IsSha
       (shared_valid ∙ and-right (has_year d.year) (is_valid_date years.list (date_of years d)) h)
 
 -- what leads to stored years is a field year, since a date of year 0 is valid
-pub offset_field : {Y : Type 0} (years : CalendarYears Y) → IsLawful years.list → ((t : Date) → IsBetween (neg_ℤ (pos 20000)) (pos 20000) t.year → IsDate years.list t → IsValidDay (day_number years.list t)) → ((t : Date) → IsValidDate years.list t → IsFieldYear t.year × IsFieldYear (t.year +ℤ years.offset)) → IsFieldYear years.offset
+pub offset_field : {Y : Type 0} (years : CalendarYears Y) → IsLawful years.list → ((t : Date) → IsCoveredYear t.year → IsDate years.list t → IsValidDay (day_number years.list t)) → ((t : Date) → IsValidDate years.list t → IsFieldYear t.year × IsFieldYear (t.year +ℤ years.offset)) → IsFieldYear years.offset
 offset_field years lawful covered ranged =
     let first = first-date years.list (pos 0) lawful in
     let valid : IsValidDate years.list (date (pos 0) 1 1) = record { date = first; valid = covered (date (pos 0) 1 1) (omega (arith, signed), omega (arith, signed)) first } in

@@ -286,7 +286,7 @@ pub trait Calendar: UnstableSealed + Drop {
     /// The extended years of dates with valid days lie from -1040000 to 1040000.
     ghost ranged: { (s : Self) (t : Date) → IsValidDate (system s).list t → IsFieldYear t.year };
 
-    /// The days of years from -20000 to 20000 are valid.
+    /// The days of years from -980000 to 980000 are valid.
     ghost covered: { (s : Self) (t : Date) → IsCoveredYear t.year → IsDate (system s).list t →
         IsValidDay (day_number (system s).list t) };
 

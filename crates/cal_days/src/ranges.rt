@@ -17,9 +17,9 @@ pub const MAX_RULE_YEAR: i32 = 8000000;
 /// The greatest year, with either sign, that constructors take.
 pub const MAX_CONSTRUCTOR_YEAR: i32 = 9999;
 
-/// The greatest extended year, with either sign, up to which each day of each calendar is valid: an era's year that
-/// a constructor takes lies within it.
-pub const MAX_COVERED_YEAR: i32 = 20000;
+/// The greatest extended year, with either sign, up to which each day of each calendar is valid, so that the year alone
+/// shows it. An era's year that a constructor takes lies within it, too.
+pub const MAX_COVERED_YEAR: i32 = 980000;
 
 /// The most years that are added: from one field year to any other.
 pub const MAX_ADDED_YEARS: u32 = 2080000;

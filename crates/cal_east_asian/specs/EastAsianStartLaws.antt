@@ -3,7 +3,7 @@ use Rattle.std.proofs.Common.{◌≡◌, ℕ, zero, suc, ◌+◌, ◌*◌, ◌/�
 use Rattle.std.specs.Prelude.{sum_by, nat_eq}
 use Rattle.std.proofs.lemmas.Int.{by_lt_z}
 use Rattle.std.proofs.lemmas.Bool.Decides.{nat_tests}
-use Rattle.cal_days.specs.Day.{IsBetween, IsValidDay, IsFieldYear, IsRuleYear}
+use Rattle.cal_days.specs.Day.{IsBetween, IsValidDay, IsFieldYear, IsRuleYear, IsCoveredYear}
 use Rattle.cal_days.specs.Gregorian.{gregorian_start}
 use Rattle.cal_days.specs.Sums.{years_up, total, span}
 use Rattle.cal_days.proofs.GregorianLemmas.{gregorian_start-bounds}
@@ -133,7 +133,7 @@ module _ (year_of : ℤ → EastAsianTraditionalYear) (law : AreYears year_of) w
       let high = not-later t h in
       ((omega (arith, signed, low), omega (arith, signed, high)), (omega (arith, signed, low, high), omega (arith, signed, low, high)))
 
-  pub days-covered : (t : Date) → IsBetween (neg_ℤ (pos 20000)) (pos 20000) t.year → IsDate (east_asian_list year_of) t → IsValidDay (day_number (east_asian_list year_of) t)
+  pub days-covered : (t : Date) → IsCoveredYear t.year → IsDate (east_asian_list year_of) t → IsValidDay (day_number (east_asian_list year_of) t)
   days-covered t year h =
       let within = day-bounds t h in
       let start = start-near t.year (omega (arith, signed, year), omega (arith, signed, year)) in

@@ -1,6 +1,6 @@
 -- The bounds of the Hebrew list, and the months between its years.
 use Rattle.std.proofs.Common.{◌≡◌, ℕ, zero, suc, ◌*◌, ◌≤◌, refl, sym, ap, ◌∙◌, arith, ℤ, pos, neg_ℤ, ◌+ℤ◌, ◌-ℤ◌, ◌*ℤ◌, ◌≤ℤ◌, ◌<ℤ◌, unsigned_abs}
-use Rattle.cal_days.specs.Day.{IsBetween, IsValidDay, IsFieldYear, IsRuleYear}
+use Rattle.cal_days.specs.Day.{IsBetween, IsValidDay, IsFieldYear, IsRuleYear, IsCoveredYear}
 use Rattle.cal_days.specs.Division.{floor_div}
 use Rattle.cal_days.specs.Hebrew.{months_before, hebrew_start}
 use Rattle.cal_days.specs.Sums.{total}
@@ -39,7 +39,7 @@ years-ranged t h =
     ((omega (arith, signed, year), omega (arith, signed, year)), (omega (arith, signed, year), omega (arith, signed, year)))
 
 -- the days of the years around year 1 are valid
-pub days-covered : (t : Date) → IsBetween (neg_ℤ (pos 20000)) (pos 20000) t.year → IsDate hebrew_list t → IsValidDay (day_number hebrew_list t)
+pub days-covered : (t : Date) → IsCoveredYear t.year → IsDate hebrew_list t → IsValidDay (day_number hebrew_list t)
 days-covered t year h =
     let within = day_number-hebrew t h in
     let low = hebrew_start-bounds t.year in

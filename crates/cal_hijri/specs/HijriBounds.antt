@@ -1,7 +1,7 @@
 -- The bounds on the days and months of a Hijri list, since each year starts within 5 days of its mean start.
 use Rattle.std.proofs.Common.{◌≡◌, ◌≤◌, subst, arith, ℤ, pos, neg_ℤ, ◌+ℤ◌, ◌-ℤ◌, ◌*ℤ◌, ◌≤ℤ◌, ◌<ℤ◌, unsigned_abs}
 use Rattle.std.proofs.lemmas.Int.{by_lt_z}
-use Rattle.cal_days.specs.Day.{IsBetween, IsValidDay, IsFieldYear, IsRuleYear}
+use Rattle.cal_days.specs.Day.{IsBetween, IsValidDay, IsFieldYear, IsRuleYear, IsCoveredYear}
 use Rattle.cal_days.proofs.IslamicLemmas.{mean_start-bounds}
 use Rattle.cal_days.proofs.Signed.{signed}
 use Rattle.cal_model.specs.CalendarList.{Date, month_number, year_length, start_of_year, day_number, IsDate, IsValidDate}
@@ -58,7 +58,7 @@ module _ (year_of : ℤ → HijriYear) (numbered : Numbered year_of) (joins : Jo
       let year = year_of_valid_date t h in
       ((omega (arith, signed, year), omega (arith, signed, year)), (omega (arith, signed, year), omega (arith, signed, year)))
 
-  pub days-covered : (t : Date) → IsBetween (neg_ℤ (pos 20000)) (pos 20000) t.year → IsDate (hijri_list year_of) t → IsValidDay (day_number (hijri_list year_of) t)
+  pub days-covered : (t : Date) → IsCoveredYear t.year → IsDate (hijri_list year_of) t → IsValidDay (day_number (hijri_list year_of) t)
   days-covered t within h =
       let bounds = day-bounds t h in
       let start = start-bounds t.year (omega (arith, signed, within), omega (arith, signed, within)) in

@@ -2,7 +2,7 @@
 -- Source: the era codes of CLDR (UTS 35).
 use Rattle.std.specs.Prelude.{◌≡◌, ◌↔◌, ℕ, Bool, true, false, List, codes, Option, Some, None, Result, Ok, Err, if◌then◌else◌, ℤ, pos, neg_ℤ, ◌-ℤ◌, int_lt}
 use Rattle.std.proofs.Common.{refl, sym, ◌∙◌, arith}
-use Rattle.cal_days.specs.Day.{IsBetween, IsFieldYear, IsRuleYear}
+use Rattle.cal_days.specs.Day.{IsFieldYear, IsRuleYear, IsCoveredYear, IsConstructorYear}
 use Rattle.cal_days.proofs.Signed.{signed}
 use Rattle.cal_types.specs.Month.{MonthParts}
 use Rattle.cal_types.specs.Year.{extended_year_of}
@@ -51,13 +51,10 @@ hijri_reads-in_range era n y h e =
     year_in_era-some IsRuleYear _ n _ (omega (arith, signed, h), omega (arith, signed, h))
     (year_in_era-some IsRuleYear (is_code era (codes "bh")) (pos 1 -ℤ n) None (omega (arith, signed, h), omega (arith, signed, h)) (no_era-some IsRuleYear)) y e
 
-abbrev IsNearYear : ℤ → Type 0
-IsNearYear = IsBetween (neg_ℤ (pos 20000)) (pos 20000)
-
-pub hijri_reads-covered : (era : List ℕ) (n y : ℤ) → IsBetween (neg_ℤ (pos 9999)) (pos 9999) n → hijri_reads era n ≡ Some y → IsBetween (neg_ℤ (pos 20000)) (pos 20000) y
+pub hijri_reads-covered : (era : List ℕ) (n y : ℤ) → IsConstructorYear n → hijri_reads era n ≡ Some y → IsCoveredYear y
 hijri_reads-covered era n y h e =
-    year_in_era-some IsNearYear _ n _ (omega (arith, signed, h), omega (arith, signed, h))
-    (year_in_era-some IsNearYear (is_code era (codes "bh")) (pos 1 -ℤ n) None (omega (arith, signed, h), omega (arith, signed, h)) (no_era-some IsNearYear)) y e
+    year_in_era-some IsCoveredYear _ n _ (omega (arith, signed, h), omega (arith, signed, h))
+    (year_in_era-some IsCoveredYear (is_code era (codes "bh")) (pos 1 -ℤ n) None (omega (arith, signed, h), omega (arith, signed, h)) (no_era-some IsCoveredYear)) y e
 
 named_by : (before : Bool) (y : ℤ) → extended_year_of (Era (era_year_by before y)) ≡ y
 named_by true y = refl

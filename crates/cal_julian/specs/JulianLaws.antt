@@ -1,7 +1,7 @@
 -- The months and the first days of the years of the Julian list, its bounds, and the names of its years.
 use Rattle.std.proofs.Common.{◌≡◌, ℕ, ◌≤◌, Bool, true, false, if◌then◌else◌, refl, sym, ap, ◌∙◌, arith, ℤ, pos, neg_ℤ, ◌+ℤ◌, ◌-ℤ◌, ◌≤ℤ◌, ◌<ℤ◌, unsigned_abs}
 use Rattle.std.specs.Prelude.{int_lt}
-use Rattle.cal_days.specs.Day.{IsBetween, IsValidDay, IsFieldYear, IsRuleYear}
+use Rattle.cal_days.specs.Day.{IsBetween, IsValidDay, IsFieldYear, IsRuleYear, IsCoveredYear}
 use Rattle.cal_days.specs.Division.{floor_div}
 use Rattle.cal_days.specs.Julian.{julian_leap, julian_start, julian_year_length}
 use Rattle.cal_days.proofs.Signed.{signed}
@@ -70,7 +70,7 @@ years-ranged t h =
     ((omega (arith, signed, year), omega (arith, signed, year)), (omega (arith, signed, year), omega (arith, signed, year)))
 
 -- the days of the years around year 1 are valid
-pub days-covered : (t : Date) → IsBetween (neg_ℤ (pos 20000)) (pos 20000) t.year → IsDate julian_list t → IsValidDay (day_number julian_list t)
+pub days-covered : (t : Date) → IsCoveredYear t.year → IsDate julian_list t → IsValidDay (day_number julian_list t)
 days-covered t year h =
     let within = day_number-julian t h in
     let low = julian_start-bounds t.year in

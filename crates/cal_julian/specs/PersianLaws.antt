@@ -2,7 +2,7 @@
 use Rattle.std.proofs.Common.{◌≡◌, ℕ, ◌+◌, ◌-◌, ◌<◌, ◌≤◌, Bool, true, false, if◌then◌else◌, List, [], ◌∷◌, refl, sym, ap, subst, ◌∙◌, arith, ℤ, pos, neg_ℤ, ◌+ℤ◌, ◌-ℤ◌, ◌≤ℤ◌, ◌<ℤ◌, unsigned_abs, inl}
 use Rattle.std.specs.Ordering.{int_eq}
 use Rattle.std.specs.Cmp.Lexicographic.{pointwise}
-use Rattle.cal_days.specs.Day.{IsBetween, IsValidDay, IsFieldYear, IsRuleYear}
+use Rattle.cal_days.specs.Day.{IsBetween, IsValidDay, IsFieldYear, IsRuleYear, IsCoveredYear}
 use Rattle.cal_days.specs.Persian.{persian_start}
 use Rattle.cal_days.proofs.Signed.{signed}
 use Rattle.cal_days.proofs.PersianLemmas.{persian_start-bounds}
@@ -105,7 +105,7 @@ module _ (years : List ℤ) where
         ((omega (arith, signed, year), omega (arith, signed, year)), (omega (arith, signed, year), omega (arith, signed, year)))
 
     -- the days of the years around year 1 are valid
-    pub days-covered : (t : Date) → IsBetween (neg_ℤ (pos 20000)) (pos 20000) t.year → IsDate (persian_list years) t → IsValidDay (day_number (persian_list years) t)
+    pub days-covered : (t : Date) → IsCoveredYear t.year → IsDate (persian_list years) t → IsValidDay (day_number (persian_list years) t)
     days-covered t year h =
         let within = day_number-persian t h in
         let low = persian_start-bounds t.year in

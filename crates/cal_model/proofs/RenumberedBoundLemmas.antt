@@ -1,6 +1,6 @@
 -- The bounds of a renumbered list, which follow from those of the given one.
 use Rattle.std.proofs.Common.{◌≤◌, arith, sym, subst, unsigned_abs, ℤ, pos, neg_ℤ, ◌+ℤ◌, ◌-ℤ◌}
-use Rattle.cal_days.specs.Day.{IsBetween, IsFieldYear, IsRuleYear, IsValidDay}
+use Rattle.cal_days.specs.Day.{IsBetween, IsFieldYear, IsRuleYear, IsValidDay, IsCoveredYear}
 use Rattle.cal_days.proofs.Signed.{signed}
 use Rattle.cal_model.specs.CalendarList.{CalendarList, Date, day_number, month_number, IsDate, IsValidDate}
 use Rattle.cal_model.specs.Renumbered.{renumbered, shifted_date}
@@ -26,8 +26,8 @@ module _ (shift : ℤ) (small : IsShift shift) (c : CalendarList) (bounds : IsBo
       rw (month_number-renumbered shift c u.year u.month, month_number-renumbered shift c t.year t.month)
       (bounds.apart (shifted_date shift t) (shifted_date shift u) (renumbered-valid shift c t h) (renumbered-valid shift c u k))
 
-  -- the days of years from -20000 to 20000 are valid
-  pub covered-renumbered : (t : Date) → IsBetween (neg_ℤ (pos 20000)) (pos 20000) t.year → IsDate (renumbered shift c) t → IsValidDay (day_number (renumbered shift c) t)
+  -- the days of years from -980000 to 980000 are valid
+  pub covered-renumbered : (t : Date) → IsCoveredYear t.year → IsDate (renumbered shift c) t → IsValidDay (day_number (renumbered shift c) t)
   covered-renumbered t year h =
       subst IsValidDay (sym (day_number-renumbered shift c t))
       (bounds.covered (shifted_date shift t) (omega (arith, signed, small, year), omega (arith, signed, small, year)) (renumbered-date shift c t h))

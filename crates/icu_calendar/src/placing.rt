@@ -133,7 +133,7 @@ where
 }
 
 /// The date of a year of an era, the place of a month and a day, or the first of them that is out of its range or
-/// unknown. The calendar reads years that constructors take as extended years from -20000 to 20000.
+/// unknown. The calendar reads years that constructors take as extended years from -980000 to 980000.
 pub(crate) fn placed_in_era<A: AsCalendar>(
     era: &str,
     year: i32,
