@@ -21,11 +21,11 @@ OPERATIONS = {
     "month": ("addition of one month, less `day`", "day"),
     "add-day": ("addition of one day, less `day`", "day"),
     "add-months": ("addition of twelve months, less `day`", "day"),
-    "add-far-months": ("addition of the months of about two million years, less `day`", "day"),
+    "add-far-months": ("addition of the months of nearly two million years, less `day`", "day"),
     "pair": ("two day numbers to fields", None),
     "difference": ("difference in years, some centuries apart, less `pair`", "pair"),
     "months": ("difference in months over a year, less `pair`", "pair"),
-    "far-months": ("difference in months over about two million years, less `pair`", "pair"),
+    "far-months": ("difference in months over nearly two million years, less `pair`", "pair"),
     "text": ("a plain ISO date text read, and its day number", None),
 }
 CALENDARS = [

@@ -1,9 +1,9 @@
 //! The sequence of all months.
 
-ghost use Rattle.std.specs.Prelude.{◌≡◌, ◌≤◌, ◌<◌, pos, neg_ℤ, ◌+ℤ◌, ◌*ℤ◌, ◌≤ℤ◌};
+ghost use Rattle.std.specs.Prelude.{◌≡◌, ◌≤◌, ◌<◌, ◌*◌, IfSome, IsSome, pos, neg_ℤ, ◌+ℤ◌, ◌*ℤ◌, ◌≤ℤ◌};
 ghost use Rattle.cal_model.specs.CalendarList.{IsMonthsAfter, month_count, month_number};
 ghost use Rattle.cal_model.specs.Difference.{toward};
-ghost use Rattle.cal_arith.specs.Counting.{IsCountable};
+ghost use Rattle.cal_arith.specs.Counting.{IsCountable, IsMonthsFrom};
 ghost use Rattle.cal_arith.specs.Given.{IsGiven};
 ghost use Rattle.cal_arith.specs.Directions.{is_backward};
 
@@ -60,38 +60,74 @@ struct MonthsFrom<Y> {
     months: u32,
 }
 
+/// The year so many years ahead, and the months from its first one to the month that some lead to from a year's first
+/// one. None where it begins past that month.
+fn years_ahead<C: Years>(
+    year: C::YearInfo,
+    months: u32,
+    ahead: u32,
+    cal: &C,
+) -> Option<MonthsFrom<C::YearInfo>>
+    requires year { IsGiven (C.years cal.now) year }
+    requires range { (pos 12 *ℤ (C.years cal.now).extended year +ℤ pos months) ≤ℤ pos 95000000 }
+    requires some { 1 ≤ ahead }
+    requires few { 12 * ahead ≤ months }
+    ensures later { IfSome result (IsMonthsFrom (C.years cal.now) year months) }
+    ensures there { 13 * ahead ≤ months → IsSome result }
+{
+    let number = cal.extended_from_year_info(year);
+    let there = cal.year_info_from_extended(number + ahead as i32);
+    let between = months_between_years(year, there, cal);
+    if between > months {
+        return None;
+    }
+    Some(MonthsFrom {
+        year: there,
+        months: months - between,
+    })
+}
+
+/// A later year from whose first month fewer months lead to the month that at least 26 lead to from a year's first one.
+///
+/// It is the year that the calendar estimates, unless that begins past the month, and else the one a thirteenth of the
+/// months ahead: no year has more than 13.
+fn estimated<C: Years>(year: C::YearInfo, months: u32, cal: &C) -> MonthsFrom<C::YearInfo>
+    requires year { IsGiven (C.years cal.now) year }
+    requires range { (pos 12 *ℤ (C.years cal.now).extended year +ℤ pos months) ≤ℤ pos 95000000 }
+    requires many { 26 ≤ months }
+    ensures { IsMonthsFrom (C.years cal.now) year months result }
+{
+    let estimate = cal.estimated_years(year, months).min(months / 12).max(1);
+    match years_ahead(year, months, estimate, cal) {
+        Some(there) => there,
+        None => match years_ahead(year, months, months / 13, cal) {
+            Some(there) => there,
+            None => unreachable!(),
+        },
+    }
+}
+
 /// A later year from whose first month fewer months lead to the month that some lead to from a year's first one. The
 /// months of that year are given, and do not lead past it.
-///
-/// The later year lies a thirteenth of the months ahead: no year has more than 13, so it doesn't begin past the month.
 fn jumped<C: Years>(year: C::YearInfo, months: u32, count: u32, cal: &C) -> MonthsFrom<C::YearInfo>
     requires year { IsGiven (C.years cal.now) year }
     requires range { (pos 12 *ℤ (C.years cal.now).extended year +ℤ pos months) ≤ℤ pos 95000000 }
     requires count { let y = C.years cal.now in count ≡ month_count y.list (y.extended year) }
     requires within { count ≤ months }
-    ensures year { IsGiven (C.years cal.now) result.year }
-    ensures moved { let y = C.years cal.now in
-        month_number y.list (y.extended result.year) 1 +ℤ pos result.months
-        ≡ month_number y.list (y.extended year) 1 +ℤ pos months }
-    ensures fewer { result.months < months }
-    ensures bound { let y = C.years cal.now in
-        (pos 12 *ℤ y.extended result.year +ℤ pos result.months) ≤ℤ (pos 12 *ℤ y.extended year +ℤ pos months) }
+    ensures { IsMonthsFrom (C.years cal.now) year months result }
 {
-    let number = cal.extended_from_year_info(year);
-    if months < 26 {
-        return MonthsFrom {
-            year: cal.year_info_from_extended(number + 1),
-            months: months - count,
-        };
+    if months >= 26 {
+        return estimated(year, months, cal);
     }
-    let ahead = cal.year_info_from_extended(number + (months / 13) as i32);
+    let number = cal.extended_from_year_info(year);
     MonthsFrom {
-        year: ahead,
-        months: months - months_between_years(year, ahead, cal),
+        year: cal.year_info_from_extended(number + 1),
+        months: months - count,
     }
 }
 
-/// The month so many months after the first one of a year. Each jump leaves about a thirteenth of the months.
+/// The month so many months after the first one of a year. Where the calendar estimates well, one or two years are looked
+/// up; each jump leaves a thirteenth of the months at most.
 fn month_after_first<C: Years>(year: C::YearInfo, months: u32, cal: &C) -> YearMonth<C::YearInfo>
     requires year { IsGiven (C.years cal.now) year }
     requires range { (pos 12 *ℤ (C.years cal.now).extended year +ℤ pos months) ≤ℤ pos 95000000 }

@@ -209,6 +209,16 @@ pub trait Years: YearShapes {
         requires { IsRuleYear extended_year }
         ensures { result ≡ (Self.years self.now).year_of extended_year };
 
+    /// About how many years so many months take from a given year's first one on. A sum tests what it answers, so that
+    /// none is wrong by it: the closer it is from below, the fewer years are looked up.
+    fn estimated_years(&self, from: Self::YearInfo, months: u32) -> u32
+        requires from { IsGiven (Self.years self.now) from }
+        requires months { months ≤ 200000000 }
+    {
+        let _any_year = from;
+        months / 12
+    }
+
     /// The year that contains a valid day.
     fn year_containing_rd(&self, rd: RataDie) -> Self::YearInfo
         requires { IsValidDay rd }

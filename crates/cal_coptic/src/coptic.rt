@@ -126,6 +126,10 @@ impl Years for Coptic {
     fn month_and_day(&self, _year: CopticYear, day_of_year: u16) -> (u8, u8) {
         month_and_day(day_of_year)
     }
+
+    fn estimated_years(&self, _from: CopticYear, months: u32) -> u32 {
+        months / 13
+    }
 }
 
 impl DateFieldsResolver for Coptic {

@@ -202,6 +202,10 @@ impl Years for Ethiopian {
     fn month_and_day(&self, _year: CopticYear, day_of_year: u16) -> (u8, u8) {
         month_and_day(day_of_year)
     }
+
+    fn estimated_years(&self, _from: CopticYear, months: u32) -> u32 {
+        months / 13
+    }
 }
 
 /// The extended year of a year, from -1040000 to 1040000, in the Incarnation Era (`am`) or the Era of the World

@@ -9,6 +9,7 @@ use crate::east_asian_months::{
     place_of_month,
 };
 use crate::east_asian_traditional_year::EastAsianTraditionalYear;
+use crate::mean_moons::{MONTH, YEAR};
 use crate::rules::Rules;
 use crate::same_rows::is_same_year;
 use cal_arith::{ArithmeticDate, DateFieldsResolver, Steps, YearShapes, Years, can_be_named};
@@ -30,6 +31,12 @@ use std::sync::ledger::Ledger;
 /// [`Overflow::Constrain`] the plain month of its number stands in for a leap month that a year lacks.
 #[derive(Clone, Copy, Debug)]
 pub struct EastAsianTraditional<R>(pub R);
+
+/// A mean month, in milliseconds.
+const MEAN_MONTH: u64 = MONTH as u64;
+
+/// A mean year, in milliseconds.
+const MEAN_YEAR: u64 = YEAR as u64;
 
 /// A date of the calendar of some rules: its year, the place of its month and its day.
 #[derive_where(Clone, Copy, Debug, PartialEq, Eq, PartialOrd, Ord, Hash)]
@@ -123,6 +130,11 @@ impl<R: Rules> Years for EastAsianTraditional<R> {
 
     fn year_containing_rd(&self, rd: RataDie) -> EastAsianTraditionalYear {
         self.0.year_containing_rd(rd)
+    }
+
+    /// By the mean month and year, less two months, since a year starts at most 34 days later in the Gregorian year than another.
+    fn estimated_years(&self, _from: EastAsianTraditionalYear, months: u32) -> u32 {
+        (u64::from(months.saturating_sub(2)) * MEAN_MONTH / MEAN_YEAR) as u32
     }
 }
 

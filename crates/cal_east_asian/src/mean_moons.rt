@@ -16,7 +16,7 @@ pub(crate) const MONTH: i64 = 2_551_442_876;
 const TERM: i64 = 2_629_746_000;
 
 /// A mean year of 365.2425 days.
-const YEAR: i64 = 31_556_952_000;
+pub(crate) const YEAR: i64 = 31_556_952_000;
 
 /// Mean new moon 0 at Greenwich: on 2000-01-06 at 18:14.
 const MOON_0: i64 = 63_082_865_640_000;

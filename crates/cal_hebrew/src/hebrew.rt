@@ -9,7 +9,8 @@ ghost use Rattle.cal_hebrew.specs.HebrewNames.{hebrew_reference_year};
 
 use crate::hebrew_months::{
     days_before_month, days_in_month, formatted_month, is_hebrew, is_leap, leap_status,
-    month_and_day, month_in_place, months_before_year, months_in_year, place_of_month,
+    month_and_day, month_in_place, months_before_year, months_in_year, months_left_over,
+    place_of_month,
 };
 use crate::hebrew_year::HebrewYear;
 use cal_arith::eras::year_in_only_era;
@@ -161,6 +162,11 @@ impl Years for Hebrew {
 
     fn month_and_day(&self, year: HebrewYear, day_of_year: u16) -> (u8, u8) {
         month_and_day(year.length, day_of_year)
+    }
+
+    /// Exactly: 19 years have 235 months.
+    fn estimated_years(&self, from: HebrewYear, months: u32) -> u32 {
+        (19 * months + months_left_over(from.extended_year)) / 235
     }
 }
 

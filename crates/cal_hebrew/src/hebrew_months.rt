@@ -236,3 +236,13 @@ pub(crate) fn months_before_year(year: i32) -> i64
 {
     (235 * i64::from(year) - 234).div_euclid(19)
 }
+
+/// 18 less what the division by 19 leaves that counts the months before a year: by so many nineteenths of a month the
+/// year could begin later with as many months before it.
+#[tactic(auto, using(cal_days::proofs::Signed::signed_casts))]
+pub(crate) fn months_left_over(year: i32) -> u32
+    requires { IsRuleYear year }
+    ensures { result ≤ 18 }
+{
+    18 - (235 * i64::from(year) - 234).rem_euclid(19) as u32
+}

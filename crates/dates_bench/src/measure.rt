@@ -17,8 +17,8 @@ const CONSTRAIN: DateAddOptions = DateAddOptions {
 /// Plain ISO date texts.
 const TEXTS: [&[u8]; 4] = [b"1643-01-05", b"1992-09-02", b"2024-02-29", b"2465-12-31"];
 
-/// The months of about two million years.
-const FAR_MONTHS: i32 = 23900000;
+/// The months of nearly two million years.
+const FAR_MONTHS: i32 = 23400000;
 
 /// The day number of a turn, from 1643 to 2465. Turn follows turn by 7919 days.
 fn day_of_turn(turn: u32) -> u64
@@ -116,20 +116,20 @@ fn other_day(day: u64) -> i64
     (day * 2 / 3) as i64
 }
 
-/// A day about a million years earlier.
+/// A day nearly a million years earlier.
 fn far_before(day: u64) -> i64
     requires { day < 900000 }
     ensures { IsValidDay result }
 {
-    day as i64 - 365000000
+    day as i64 - 356800000
 }
 
-/// A day about a million years later.
+/// A day nearly a million years later.
 fn far_after(day: u64) -> i64
     requires { day < 900000 }
     ensures { IsValidDay result }
 {
-    day as i64 + 364000000
+    day as i64 + 356800000
 }
 
 /// The sum of the results of an operation on the days of the first turns, in a loop of its own.
