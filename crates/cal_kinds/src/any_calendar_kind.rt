@@ -1,9 +1,11 @@
 //! The kinds of calendars.
 
-ghost use Rattle.std.specs.Prelude.{◌≡◌, ok_or};
+ghost use Rattle.std.specs.Prelude.{◌≡◌, ◌<◌, length, ok_or, Some};
+ghost use Rattle.std.specs.Option.{option_map};
 ghost use Rattle.cal_model.specs.YearNames.{is_code};
 ghost use Rattle.cal_algorithms.specs.declared.algorithm.CalendarAlgorithm.TheVariants.{Hijri};
 ghost use Rattle.cal_kinds.specs.KindNames.{kind_named, kind_of_algorithm};
+ghost use Rattle.cal_kinds.specs.NamePlaces.{kind_if, named_at, place_of};
 
 use cal_types::{CalendarAlgorithm, HijriCalendarAlgorithm};
 use std::fmt;
@@ -58,18 +60,53 @@ fn is_name(bytes: &[u8], name: &[u8]) -> bool
     bytes == name
 }
 
-/// The kind of the first of the names that a text is, if it is one of them.
-macro_rules! first_named {
-    ($bytes:ident) => {
+/// A kind, where a word is its name.
+fn kind_if(word: &[u8], name: &[u8], kind: AnyCalendarKind) -> Option<AnyCalendarKind>
+    ensures { result ≡ kind_if word.now (Some (name.now, kind)) }
+{
+    if is_name(word, name) {
+        Some(kind)
+    } else {
         None
-    };
-    ($bytes:ident, $name:literal => $kind:ident $($others:tt)*) => {
-        if is_name($bytes, $name) {
-            Some(AnyCalendarKind::$kind)
-        } else {
-            first_named!($bytes $($others)*)
-        }
-    };
+    }
+}
+
+/// The place in the table of names that a word would have, by its length, its first byte and its last. The names have
+/// places of their own, so that a word is compared with one of them alone, whichever it is.
+fn place_of(word: &[u8]) -> usize
+    requires { 0 < length word.now }
+    ensures { result ≡ place_of word.now }
+{
+    let first = usize::from(word[0]);
+    let last = usize::from(word[word.len() - 1]);
+    (4 * (word.len() % 8) + 2 * first + 3 * last) % 32
+}
+
+/// The name that has a place in the table of names, and its kind.
+fn named_at(place: usize) -> Option<(&'static [u8], AnyCalendarKind)>
+    ensures { option_map (λ named. (named.0.now, named.1)) result ≡ named_at place }
+{
+    match place {
+        0 => Some((b"buddhist", AnyCalendarKind::Buddhist)),
+        2 => Some((b"islamic-simulated", AnyCalendarKind::HijriSimulatedMecca)),
+        3 => Some((b"japanese", AnyCalendarKind::Japanese)),
+        5 => Some((b"islamic-tbla", AnyCalendarKind::HijriTabularTypeIIThursday)),
+        6 => Some((b"persian", AnyCalendarKind::Persian)),
+        7 => Some((b"coptic", AnyCalendarKind::Coptic)),
+        9 => Some((b"ethioaa", AnyCalendarKind::EthiopianAmeteAlem)),
+        10 => Some((b"islamic-civil", AnyCalendarKind::HijriTabularTypeIIFriday)),
+        11 => Some((b"iso", AnyCalendarKind::Iso)),
+        13 => Some((b"hebrew", AnyCalendarKind::Hebrew)),
+        17 => Some((b"chinese", AnyCalendarKind::Chinese)),
+        19 => Some((b"ethiopic", AnyCalendarKind::Ethiopian)),
+        20 => Some((b"indian", AnyCalendarKind::Indian)),
+        21 => Some((b"islamic-umalqura", AnyCalendarKind::HijriUmmAlQura)),
+        22 => Some((b"julian", AnyCalendarKind::Julian)),
+        23 => Some((b"dangi", AnyCalendarKind::Dangi)),
+        25 => Some((b"roc", AnyCalendarKind::Roc)),
+        28 => Some((b"gregorian", AnyCalendarKind::Gregorian)),
+        _ => None,
+    }
 }
 
 impl AnyCalendarKind {
@@ -81,26 +118,13 @@ impl AnyCalendarKind {
     pub fn from_program_name(bytes: &[u8]) -> Option<AnyCalendarKind>
         ensures { result ≡ kind_named bytes.now }
     {
-        first_named!(bytes,
-            b"iso" => Iso,
-            b"gregorian" => Gregorian,
-            b"julian" => Julian,
-            b"buddhist" => Buddhist,
-            b"chinese" => Chinese,
-            b"coptic" => Coptic,
-            b"dangi" => Dangi,
-            b"ethiopic" => Ethiopian,
-            b"ethioaa" => EthiopianAmeteAlem,
-            b"hebrew" => Hebrew,
-            b"indian" => Indian,
-            b"islamic-civil" => HijriTabularTypeIIFriday,
-            b"islamic-simulated" => HijriSimulatedMecca,
-            b"islamic-tbla" => HijriTabularTypeIIThursday,
-            b"islamic-umalqura" => HijriUmmAlQura,
-            b"japanese" => Japanese,
-            b"persian" => Persian,
-            b"roc" => Roc
-        )
+        if bytes.is_empty() {
+            return None;
+        }
+        match named_at(place_of(bytes)) {
+            Some((name, kind)) => kind_if(bytes, name, kind),
+            None => None,
+        }
     }
 }
 
