@@ -12,11 +12,10 @@ use crate::any_calendar::AnyCalendar;
 use crate::tables::Tables;
 use cal_base::Iso;
 use cal_coptic::{Coptic, Ethiopian, EthiopianEraStyle};
-use cal_east_asian::{ChineseTraditional, KoreanTraditional};
-use cal_gregory::{Buddhist, Gregorian, Japanese, Roc};
+use cal_gregory::{Buddhist, Gregorian, Roc};
 use cal_hebrew::Hebrew;
-use cal_hijri::{Hijri, HijriTable, TabularAlgorithmEpoch, TabularAlgorithmLeapYears};
-use cal_julian::{Indian, Julian, Persian};
+use cal_hijri::{Hijri, TabularAlgorithmEpoch, TabularAlgorithmLeapYears};
+use cal_julian::{Indian, Julian};
 use cal_kinds::AnyCalendarKind;
 
 /// The Ethiopian calendar in a style.
@@ -51,9 +50,9 @@ impl<'t> AnyCalendar<'t> {
     {
         match kind {
             AnyCalendarKind::Buddhist => AnyCalendar::Buddhist(Buddhist),
-            AnyCalendarKind::Chinese => AnyCalendar::Chinese(ChineseTraditional::new(tables.china)),
+            AnyCalendarKind::Chinese => AnyCalendar::Chinese(tables.chinese()),
             AnyCalendarKind::Coptic => AnyCalendar::Coptic(Coptic),
-            AnyCalendarKind::Dangi => AnyCalendar::Dangi(KoreanTraditional::new(tables.korea)),
+            AnyCalendarKind::Dangi => AnyCalendar::Dangi(tables.korean()),
             AnyCalendarKind::Ethiopian => ethiopian(EthiopianEraStyle::AmeteMihret),
             AnyCalendarKind::EthiopianAmeteAlem => ethiopian(EthiopianEraStyle::AmeteAlem),
             AnyCalendarKind::Gregorian => AnyCalendar::Gregorian(Gregorian),
@@ -61,18 +60,16 @@ impl<'t> AnyCalendar<'t> {
             AnyCalendarKind::Indian => AnyCalendar::Indian(Indian),
             AnyCalendarKind::HijriTabularTypeIIFriday => tabular(TabularAlgorithmEpoch::Friday),
             AnyCalendarKind::HijriSimulatedMecca => {
-                AnyCalendar::HijriSimulated(Hijri::new_simulated_mecca(HijriTable::none()))
+                AnyCalendar::HijriSimulated(tables.simulated_mecca())
             }
             AnyCalendarKind::HijriTabularTypeIIThursday => tabular(TabularAlgorithmEpoch::Thursday),
-            AnyCalendarKind::HijriUmmAlQura => {
-                AnyCalendar::HijriUmmAlQura(Hijri::new_umm_al_qura(tables.umm_al_qura))
-            }
+            AnyCalendarKind::HijriUmmAlQura => AnyCalendar::HijriUmmAlQura(tables.umm_al_qura()),
             AnyCalendarKind::Iso => AnyCalendar::Iso(Iso),
             AnyCalendarKind::Japanese | AnyCalendarKind::JapaneseExtended => {
-                AnyCalendar::Japanese(Japanese::with_eras(tables.eras))
+                AnyCalendar::Japanese(tables.japanese())
             }
             AnyCalendarKind::Julian => AnyCalendar::Julian(Julian),
-            AnyCalendarKind::Persian => AnyCalendar::Persian(Persian::new(tables.persian)),
+            AnyCalendarKind::Persian => AnyCalendar::Persian(tables.persian()),
             AnyCalendarKind::Roc => AnyCalendar::Roc(Roc),
         }
     }

@@ -3,20 +3,20 @@
 ghost use Rattle.std.specs.Prelude.{◌≡◌};
 ghost use Rattle.cal_east_asian.specs.declared.sides.Side.TheVariants as side;
 
-use cal_east_asian::{EastAsianTable, Side};
-use cal_gregory::JapaneseEras;
-use cal_hijri::HijriTable;
-use cal_julian::PersianCorrections;
+use cal_east_asian::{ChineseTraditional, EastAsianTable, KoreanTraditional, Side};
+use cal_gregory::{Japanese, JapaneseEras};
+use cal_hijri::{AstronomicalSimulation, Hijri, HijriTable, UmmAlQura};
+use cal_julian::{Persian, PersianCorrections};
 
 /// The tables that calendars are made with: the years of China, of Korea and of Umm al-Qura that stand in place of the
 /// computed ones, the corrected Persian years, and the eras that Japan lists.
 #[derive(Clone, Copy, Debug)]
 pub struct Tables<'t> {
-    pub(crate) china: EastAsianTable<'t>,
-    pub(crate) korea: EastAsianTable<'t>,
-    pub(crate) umm_al_qura: HijriTable<'t>,
-    pub(crate) persian: PersianCorrections<'t>,
-    pub(crate) eras: JapaneseEras,
+    china: EastAsianTable<'t>,
+    korea: EastAsianTable<'t>,
+    umm_al_qura: HijriTable<'t>,
+    persian: PersianCorrections<'t>,
+    eras: JapaneseEras,
     ghost of_china: { china.side ≡ side.China },
     ghost of_korea: { korea.side ≡ side.Korea },
 }
@@ -24,6 +24,10 @@ pub struct Tables<'t> {
 impl<'t> Tables<'t> {
     ghost use Rattle.std.specs.Prelude.{IsSome, IfSome, ◌↔◌};
     ghost use Rattle.cal_any.specs.Kinds.{table_contents, no_contents, contents_of};
+    ghost use Rattle.cal_any.specs.AnySystem.{any_system};
+    ghost use Rattle.cal_any.specs.Kinds.{kind_system};
+    ghost use Rattle.cal_any.specs.declared.any_calendar.AnyCalendar.TheVariants as any;
+    ghost use Rattle.cal_kinds.specs.declared.any_calendar_kind.AnyCalendarKind.TheVariants as kind;
 
     /// No table has a row, no Persian year is corrected, and the eras are those up to Reiwa.
     pub fn none() -> Tables<'t>
@@ -60,5 +64,48 @@ impl<'t> Tables<'t> {
             }),
             _ => None,
         }
+    }
+
+    /// The Chinese calendar, with the rows of China.
+    pub fn chinese(&self) -> ChineseTraditional<'t>
+        ensures { any_system (any.Chinese result) ≡ kind_system (table_contents self.now) kind.Chinese }
+    {
+        ChineseTraditional::new(self.china)
+    }
+
+    /// The Korean calendar, with the rows of Korea.
+    pub fn korean(&self) -> KoreanTraditional<'t>
+        ensures { any_system (any.Dangi result) ≡ kind_system (table_contents self.now) kind.Dangi }
+    {
+        KoreanTraditional::new(self.korea)
+    }
+
+    /// The Hijri calendar of Umm al-Qura, with its rows.
+    pub fn umm_al_qura(&self) -> Hijri<UmmAlQura<'t>>
+        ensures { any_system (any.HijriUmmAlQura result) ≡ kind_system (table_contents self.now) kind.HijriUmmAlQura }
+    {
+        Hijri::new_umm_al_qura(self.umm_al_qura)
+    }
+
+    /// The Hijri calendar as it is simulated for Mecca, which has no rows.
+    pub fn simulated_mecca(&self) -> Hijri<AstronomicalSimulation<'t>>
+        ensures { any_system (any.HijriSimulated result)
+            ≡ kind_system (table_contents self.now) kind.HijriSimulatedMecca }
+    {
+        Hijri::new_simulated_mecca(HijriTable::none())
+    }
+
+    /// The Persian calendar, with the corrected years.
+    pub fn persian(&self) -> Persian<'t>
+        ensures { any_system (any.Persian result) ≡ kind_system (table_contents self.now) kind.Persian }
+    {
+        Persian::new(self.persian)
+    }
+
+    /// The Japanese calendar, with the eras that Japan lists.
+    pub fn japanese(&self) -> Japanese
+        ensures { any_system (any.Japanese result) ≡ kind_system (table_contents self.now) kind.Japanese }
+    {
+        Japanese::with_eras(self.eras)
     }
 }

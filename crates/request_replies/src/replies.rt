@@ -5,7 +5,6 @@ ghost use Rattle.cal_types.specs.declared.duration.DateDuration.{DateDuration};
 ghost use Rattle.cal_types.specs.Bag.{Bag, bag_of};
 ghost use Rattle.cal_types.specs.declared.duration.DateDurationUnit.{DateDurationUnit};
 ghost use Rattle.cal_types.specs.declared.options.DateFromFieldsOptions.{DateFromFieldsOptions};
-ghost use Rattle.cal_any.specs.AnySystem.{any_system};
 ghost use Rattle.cal_model.specs.CalendarList.{Date};
 ghost use Rattle.cal_model.specs.CalendarSystem.{CalendarSystem};
 ghost use Rattle.request_dates.specs.Parts.{AreNamed, IsDay, IsDayParts};
@@ -18,7 +17,7 @@ ghost use Rattle.request_lines.specs.RequestSaid.{header_said};
 
 use crate::text::{Pending, push_all, push_number, push_signed, push_two_digits};
 use cal_types::{DateDuration, DateFields, DateFromFieldsError, Month, YearInfo};
-use icu_calendar::{AnyCalendar, BagSide, SpanError, Tables};
+use icu_calendar::{AnyCalendarKind, BagSide, SpanError, Tables};
 use request_dates::{DayParts, SpanParts, name_dates, show_days};
 use request_lines::Header;
 
@@ -196,17 +195,18 @@ fn push_day(text: &mut Pending, parts: &DayParts, shown: &DayParts)
 }
 
 // Both dates, the same days in the second calendar, and the difference.
-fn push_span(text: &mut Pending, parts: &SpanParts, shown: &AnyCalendar<'_>)
+fn push_span(text: &mut Pending, parts: &SpanParts, shown: AnyCalendarKind, tables: &Tables<'_>)
     requires room { array_vec_len text.old + 470 ≤ 8192 }
     requires from { IsDay parts.now.from }
     requires to { IsDay parts.now.to }
     ensures { (c : CalendarSystem) (first second : Bag) (options : DateFromFieldsOptions) (unit : DateDurationUnit)
         → (named : AreNamed c first second options unit parts.now)
-        → SaysSpan c (any_system shown.now) named.from_date named.to_date unit text.old.items text.new.items }
+        → SaysSpan c (kind_system (table_contents tables.now) shown) named.from_date named.to_date unit
+        text.old.items text.new.items }
 {
     let mut from_shown = DayParts::unnamed(parts.from.rata_die);
     let mut to_shown = DayParts::unnamed(parts.to.rata_die);
-    show_days(&mut from_shown, &mut to_shown, shown);
+    show_days(&mut from_shown, &mut to_shown, shown, tables);
     push_all(text, b"ok ");
     push_day(text, &parts.from, &from_shown);
     text.push(b' ');
@@ -229,12 +229,19 @@ pub fn reply(
         (answer : List ℕ) × (text.new.items ≡ text.old.items ++ answer)
         × IsReply (kind_system t r.calendar) (kind_system t r.shown) r answer result }
 {
-    let calendar = AnyCalendar::new(header.calendar, *tables);
     let mut parts = SpanParts::unnamed();
     let (options, difference) = (header.options, header.difference);
-    match name_dates(&mut parts, &calendar, from, to, options, difference) {
+    match name_dates(
+        &mut parts,
+        header.calendar,
+        tables,
+        from,
+        to,
+        options,
+        difference,
+    ) {
         Ok(()) => {
-            push_span(text, &parts, &AnyCalendar::new(header.shown, *tables));
+            push_span(text, &parts, header.shown, tables);
             false
         }
         Err(error) => {

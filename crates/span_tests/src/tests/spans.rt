@@ -5,7 +5,7 @@ ghost use Rattle.cal_days.specs.Day.{IsValidDay};
 use icu_calendar::{
     AnyCalendar, AnyCalendarKind, BagSide, Date, DateDifferenceOptions, DateDuration,
     DateDurationUnit, DateFromFieldsError, DateFromFieldsOptions, Overflow, Span, SpanError,
-    named_dates, span,
+    Tables, named_dates, span,
 };
 use known_dates::{
     GREGORIAN, IN_DAYS, ISO, JULIAN, REJECT, calendar_of, date_named, duration, fields, has_parts,
@@ -123,7 +123,7 @@ fn are_in_julian(parts: &SpanParts, from: Ymd, to: Ymd) -> bool
 {
     let mut from_shown = DayParts::unnamed(parts.from.rata_die);
     let mut to_shown = DayParts::unnamed(parts.to.rata_die);
-    show_days(&mut from_shown, &mut to_shown, &calendar_of(JULIAN));
+    show_days(&mut from_shown, &mut to_shown, JULIAN, &Tables::none());
     is_day(&from_shown, from) && is_day(&to_shown, to)
 }
 
@@ -134,7 +134,8 @@ fn parts_of_two_named_days_are_shown_in_another_calendar(rt: HostRuntime) {
     let mut parts = SpanParts::unnamed();
     match name_dates(
         &mut parts,
-        &calendar_of(GREGORIAN),
+        GREGORIAN,
+        &Tables::none(),
         &from,
         &to,
         REJECT,

@@ -1,6 +1,6 @@
 use Rattle.std.proofs.Common.{◌≡◌, ℕ, List, [], ◌∷◌, ◌++◌, subst, ◌∙◌, append_assoc}
 use Rattle.cal_model.specs.CalendarList.{IsOn}
-use Rattle.cal_any.specs.AnySystem.{any_system}
+use Rattle.cal_any.specs.Kinds.{kind_system, table_contents}
 use Rattle.request_replies.proofs.replies.push_span.Goals as goal
 
 -- the parts of a reply, one after another
@@ -10,7 +10,7 @@ pushed old head x y z a b d e f g all e1 e2 e3 e4 e5 e6 e7 = rw (e7, e6, e5, e4,
 
 pub returns : goal.returns
 returns c s first second options unit named =
-    let other = any_system c.args.shown.now in
+    let other = kind_system (table_contents c.args.tables.now) c.args.shown in
     let from = c.show_days.ensures.from in
     let to = c.show_days.ensures.to in
     record {
