@@ -167,6 +167,7 @@ where
     }
 
     /// The date of a day number, which is clamped to the valid range, -365242499 to 365242134.
+    #[inline(always)]
     pub fn from_rata_die(rd: RataDie, calendar: A) -> Self
         ensures on { let c = A.cal_of calendar in
             IsOn (A.Calendar.system c).list (clamped_day rd) (A.Calendar.date_of c result.inner) }
