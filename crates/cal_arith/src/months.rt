@@ -89,16 +89,17 @@ fn years_ahead<C: Years>(
 
 /// A later year from whose first month fewer months lead to the month that at least 26 lead to from a year's first one.
 ///
-/// It is the year that the calendar estimates, unless that begins past the month, and else the one a thirteenth of the
-/// months ahead: no year has more than 13.
+/// It is the year that the calendar estimates, or the one a thirteenth of the months ahead where the estimate is nearer
+/// or begins past the month: no year has more than 13.
 fn estimated<C: Years>(year: C::YearInfo, months: u32, cal: &C) -> MonthsFrom<C::YearInfo>
     requires year { IsGiven (C.years cal.now) year }
     requires range { (pos 12 *ℤ (C.years cal.now).extended year +ℤ pos months) ≤ℤ pos 95000000 }
     requires many { 26 ≤ months }
     ensures { IsMonthsFrom (C.years cal.now) year months result }
 {
-    let estimate = cal.estimated_years(year, months).min(months / 12).max(1);
-    match years_ahead(year, months, estimate, cal) {
+    let estimate = cal.estimated_years(year, months);
+    let ahead = estimate.min(months / 12).max(months / 13);
+    match years_ahead(year, months, ahead, cal) {
         Some(there) => there,
         None => match years_ahead(year, months, months / 13, cal) {
             Some(there) => there,

@@ -1,4 +1,4 @@
-use Rattle.std.proofs.Common.{◌≡◌, ℕ, ℤ, Option, Some, Result, Ok, Err, to_z, of_z, w32, sym, ap, ◌∙◌, arith}
+use Rattle.std.proofs.Common.{◌≡◌, ℕ, ℤ, Option, Result, Ok, Err, to_z, of_z, w32, sym, ap, ◌∙◌, arith}
 use Rattle.cal_days.proofs.Signed.{signed}
 use Rattle.cal_errors.specs.RangeParts.{RangeParts, DateFault, date_fault}
 use Rattle.cal_errors.specs.declared.errors.DateError.{DateError}
