@@ -1,2 +1,1 @@
 mod AnyAnswers
-pub mod KindLemmas

@@ -3,5 +3,4 @@ pub mod AnyLaws
 pub mod AnyOrder
 pub mod AnyOrderLaws
 pub mod ByKind
-pub mod Kinds
 pub mod KindHeld

@@ -6,10 +6,9 @@ ghost use Rattle.cal_hijri.specs.TabularRules.{tabular_system};
 ghost use Rattle.cal_hijri.specs.declared.tabular_algorithm.TabularAlgorithmLeapYears.TheVariants.{TypeII};
 ghost use Rattle.cal_any.specs.AnySystem.{any_system};
 ghost use Rattle.cal_any.specs.KindHeld.{is_extended, kind_held, kind_made, kind_of_epoch, kind_of_style};
-ghost use Rattle.cal_any.specs.Kinds.{kind_system, table_contents};
+ghost use Rattle.cal_tables.specs.Kinds.{kind_system, table_contents};
 
 use crate::any_calendar::AnyCalendar;
-use crate::tables::Tables;
 use cal_base::Iso;
 use cal_coptic::{Coptic, Ethiopian, EthiopianEraStyle};
 use cal_gregory::{Buddhist, Gregorian, Roc};
@@ -17,6 +16,7 @@ use cal_hebrew::Hebrew;
 use cal_hijri::{Hijri, TabularAlgorithmEpoch, TabularAlgorithmLeapYears};
 use cal_julian::{Indian, Julian};
 use cal_kinds::AnyCalendarKind;
+use cal_tables::Tables;
 
 /// The Ethiopian calendar in a style.
 fn ethiopian<'t>(style: EthiopianEraStyle) -> AnyCalendar<'t>

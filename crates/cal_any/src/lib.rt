@@ -4,8 +4,6 @@
 mod any_calendar;
 mod any_calendar_new;
 mod kind_held;
-mod tables;
 
 pub use any_calendar::{AnyCalendar, AnyDateInner};
 pub use cal_kinds::AnyCalendarKind;
-pub use tables::Tables;

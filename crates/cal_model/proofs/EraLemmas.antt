@@ -1,5 +1,5 @@
 -- The ranges of what eras read as.
-use Rattle.std.proofs.Common.{◌≡◌, ℕ, ℤ, pos, neg_ℤ, ◌-ℤ◌, List, None, Some, arith}
+use Rattle.std.proofs.Common.{◌≡◌, ℕ, ℤ, pos, ◌-ℤ◌, List, None, Some, arith}
 use Rattle.std.specs.Prelude.{◌||◌, codes}
 use Rattle.cal_days.specs.Day.{IsFieldYear, IsRuleYear, IsCoveredYear, IsConstructorYear}
 use Rattle.cal_days.proofs.Signed.{signed}

@@ -7,7 +7,6 @@ pub mod ResolvingLemmas
 pub mod YearNameLemmas
 pub mod EraLemmas
 pub mod DateTests
-pub mod ListedLemmas
 pub mod RenumberedLemmas
 pub mod OrderLemmas
 pub mod MonthCases

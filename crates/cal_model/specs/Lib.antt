@@ -6,8 +6,6 @@ pub mod Resolving
 pub mod CalendarSystem
 pub mod Difference
 pub mod WithinYear
-pub mod YearList
-pub mod ListedYears
 pub mod Adding
 pub mod Constructing
 pub mod Placing

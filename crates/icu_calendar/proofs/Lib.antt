@@ -1,4 +1,3 @@
-pub mod SpanLemmas
 pub mod SumLemmas
 pub mod OrderLemmas
 pub mod PlacingLemmas
@@ -10,3 +9,4 @@ pub mod RecordLemmas
 pub mod DateTextLemmas
 pub mod WeekLemmas
 pub use Rattle.cal_days.proofs.Signed
+pub use Rattle.cal_spans.proofs.SpanLemmas

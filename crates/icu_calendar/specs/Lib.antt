@@ -1,4 +1,3 @@
-pub mod Spans
 pub mod SpanAnswers
 pub mod Clamping
 pub mod Comparing
@@ -88,5 +87,6 @@ pub use Rattle.cal_east_asian.specs.TableYears
 pub use Rattle.cal_any.specs.AnySystem
 pub use Rattle.cal_any.specs.AnyOrder
 pub use Rattle.cal_any.specs.AnyLaws
-pub use Rattle.cal_any.specs.Kinds
+pub use Rattle.cal_tables.specs.Kinds
+pub use Rattle.cal_spans.specs.Spans
 pub use Rattle.cal_kinds.specs.KindNames

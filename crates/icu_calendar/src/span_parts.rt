@@ -3,7 +3,7 @@
 use crate::date::Date;
 use cal_any::AnyCalendar;
 use cal_base::{AsCalendar, Calendar};
-use cal_types::{DateDuration, DateFromFieldsError};
+use cal_types::DateDuration;
 use std::fmt;
 
 /// Two dates, the same days in a second calendar, and the difference from the first date to the second.
@@ -46,22 +46,4 @@ impl<'t> fmt::Debug for Span<'t> {
         let to = (&self.to, &self.to_shown);
         fmt_fields(from, to, &self.duration, f)
     }
-}
-
-/// Which of two bags of fields.
-#[derive(Clone, Copy, Debug, PartialEq, Eq)]
-pub enum BagSide {
-    /// The first.
-    From,
-    /// The second.
-    To,
-}
-
-/// The first bag that names no date, and why.
-#[derive(Clone, Copy, Debug, PartialEq)]
-pub struct SpanError {
-    /// Which bag. The second comes only where the first names a date.
-    pub side: BagSide,
-    /// The first fault of that bag.
-    pub cause: DateFromFieldsError,
 }

@@ -7,13 +7,14 @@ ghost use Rattle.cal_model.specs.CalendarList.{IsOn, day_number};
 ghost use Rattle.cal_model.specs.CalendarSystem.{resolve_fields};
 ghost use Rattle.cal_model.specs.Difference.{IsDifference, largest_unit_of};
 ghost use Rattle.cal_any.specs.AnySystem.{any_system, any_date};
-ghost use Rattle.icu_calendar.specs.Spans.{IsSpan, RefusesBag};
+ghost use Rattle.cal_spans.specs.Spans.{IsSpan, RefusesBag};
 ghost use Rattle.icu_calendar.specs.SpanAnswers.{span_answer, HasCalendars};
 
 use crate::date::Date;
-use crate::span_parts::{BagSide, Span, SpanError};
+use crate::span_parts::Span;
 use cal_any::AnyCalendar;
 use cal_base::{AsCalendar, Calendar};
+use cal_spans::{BagSide, SpanError};
 use cal_types::{DateDifferenceOptions, DateDuration, DateFields, DateFromFieldsOptions, Overflow};
 
 /// The dates that two bags of fields name in one calendar.

@@ -3,21 +3,21 @@ use Rattle.std.proofs.Common.{◌≡◌, ℕ, ◌+◌, Bool, true, false, cond, 
 use Rattle.std.proofs.lemmas.List.{append-nil, append_assoc}
 use Rattle.line_reader.specs.Lines.{closed_lines, open_line, lines_in}
 use Rattle.line_reader.proofs.PartLemmas.{closed_lines-prefix}
-use Rattle.cal_any.specs.Kinds.{TableContents, kind_system}
-use Rattle.cal_any.proofs.KindLemmas.{kind_lawful}
+use Rattle.cal_tables.specs.Kinds.{TableContents, kind_system}
+use Rattle.cal_tables.proofs.KindLemmas.{kind_lawful}
 use Rattle.cal_gregory.specs.JapaneseEraList.{ListedEra}
-use Rattle.cal_gregory.specs.LastEra.{eras_with_last}
 use Rattle.cal_model.specs.Difference.{largest_unit_of}
-use Rattle.icu_calendar.proofs.SpanLemmas.{span-exists, span-unique}
+use Rattle.cal_spans.proofs.SpanLemmas.{span-exists, span-unique}
 use Rattle.request_lines.specs.Lines.{Line, Nothing, GivesRow, Requests, RequestLine, Long, Asks, Malformed, line_of}
 use Rattle.request_lines.proofs.LineLemmas.{line_says, line_is}
-use Rattle.request_replies.specs.Replies.{reply_text, is_refusal, options_of}
+use Rattle.reply_texts.specs.DateTexts.{reply_text, is_refusal}
+use Rattle.request_replies.specs.Replies.{options_of}
 use Rattle.request_lines.specs.Rows.{Row, China, Korea, Hijri, Persian, Era}
 use Rattle.line_answers.specs.RowYears.{IsHijriYear, IsEastAsianYear}
 use Rattle.line_answers.proofs.RowYearLemmas.{hijri_year-decided, hijri_year-unique, east_asian_year-decided, east_asian_year-unique}
 use Rattle.cal_errors.specs.declared.errors.TableFault.{TableFault}
 use Rattle.line_answers.specs.declared.table.Table.{Table}
-use Rattle.line_answers.specs.TableRows.{TableRows, AreAccepted, IsFirstRefused, contents_of, with_china, with_korea, with_hijri, with_persian, with_eras}
+use Rattle.line_answers.specs.TableRows.{TableRows, AreAccepted, IsFirstRefused, contents_of, with_china, with_korea, with_hijri, with_persian, with_eras, eras_of_row}
 use Rattle.line_answers.specs.TableTexts.{row_refusal, table_refusal}
 use Rattle.line_answers.proofs.TableLemmas.{tables_decided, tables_refuse, tables_unique}
 use Rattle.line_answers.specs.Answers.{Stage, Gathering, Answering, Ended, begin, refusal, IsRequestAnswer, AnswersRequest, AnswersFirst, RefusesTables, TakesYear, TakesEras, TakesRow, IsAnswerTo, AnswersLine, AreAnswers, Closes, status_of}
@@ -106,7 +106,7 @@ row_exists rows (Some (China r)) n = year_exists (IsEastAsianYear r) (with_china
 row_exists rows (Some (Korea r)) n = year_exists (IsEastAsianYear r) (with_korea rows) n (east_asian_year-decided r)
 row_exists rows (Some (Hijri r)) n = year_exists (IsHijriYear r) (with_hijri rows) n (hijri_year-decided r)
 row_exists rows (Some (Persian y)) n = ([], Gathering (with_persian rows y), (refl, refl))
-row_exists rows (Some (Era r)) n = eras_exist rows rows.eras (eras_with_last r.start r.code r.index) n
+row_exists rows (Some (Era r)) n = eras_exist rows rows.eras (eras_of_row r) n
 
 row_unique : (rows : TableRows) (row : Option Row) (n : ℕ) (a b : List ℕ) (p q : Stage) → TakesRow rows row n a p → TakesRow rows row n b q → (a ≡ b) × (p ≡ q)
 row_unique rows None n a b p q (x, e) (y, f) = (x ∙ sym y, e ∙ sym f)
@@ -114,7 +114,7 @@ row_unique rows (Some (China r)) n a b p q x y = year_unique (IsEastAsianYear r)
 row_unique rows (Some (Korea r)) n a b p q x y = year_unique (IsEastAsianYear r) (with_korea rows) n (east_asian_year-unique r) a b p q x y
 row_unique rows (Some (Hijri r)) n a b p q x y = year_unique (IsHijriYear r) (with_hijri rows) n (hijri_year-unique r) a b p q x y
 row_unique rows (Some (Persian year)) n a b p q (x, e) (y, f) = (x ∙ sym y, e ∙ sym f)
-row_unique rows (Some (Era r)) n a b p q x y = eras_unique rows rows.eras (eras_with_last r.start r.code r.index) n a b p q x y
+row_unique rows (Some (Era r)) n a b p q x y = eras_unique rows rows.eras (eras_of_row r) n a b p q x y
 
 -- there is an answer to each line
 pub answer_exists : (line : Line) (n : ℕ) (s : Stage) → (text : List ℕ) × (next : Stage) × IsAnswerTo line n s text next

@@ -2,12 +2,11 @@
 use Rattle.std.proofs.Common.{ℕ, List, [], ◌∷◌, ◌++◌, Option, Some, None, MatchOption, inl, inr, refl, sym, ap, subst}
 use Rattle.std.specs.Bool.{⊤}
 use Rattle.cal_gregory.specs.JapaneseEraList.{ListedEra}
-use Rattle.cal_gregory.specs.LastEra.{eras_with_last}
 use Rattle.line_answers.specs.Answers.{Gathering, Ended, TakesEras, TakesYear}
 use Rattle.request_lines.specs.Rows.{YearRow, EraRow, China, Korea, Hijri, Era}
 use Rattle.line_answers.specs.RowYears.{IsHijriYear, IsEastAsianYear}
 use Rattle.line_answers.specs.RowsSaid.{AreErasKept, IsKept, IsTaken, IsYearKept}
-use Rattle.line_answers.specs.TableRows.{TableRows}
+use Rattle.line_answers.specs.TableRows.{TableRows, eras_of_row}
 use Rattle.line_answers.specs.TableTexts.{row_refusal}
 use Rattle.line_answers.specs.declared.table_rows.Taken.{Taken}
 use Rattle.line_answers.specs.declared.table_rows.Taken.TheVariants.{Kept, Refused, NoMemory}
@@ -73,7 +72,7 @@ module _ (rows : TableRows) (n : ℕ) where
   eras_taken t None None new e = subst (λ (x : Taken). ErasTaken x None None new) (sym e) (refl, refl)
   eras_taken t None (Some eras) new (e, is) = subst (λ (x : Taken). ErasTaken x None (Some eras) new) (sym e) (refl, ap (λ (x : Option (List ListedEra)). Gathering (set_eras rows x)) is)
 
-pub era_taken : (rows : TableRows) (r : EraRow) (n : ℕ) (t : Taken) (new : Option (List ListedEra)) → AreErasKept t rows.eras (eras_with_last r.start r.code r.index) new → IsTaken t rows (Some (Era r)) n (set_eras rows new)
-era_taken rows r n Kept new h = eras_taken rows n Kept rows.eras (eras_with_last r.start r.code r.index) new h
-era_taken rows r n (Refused why) new h = eras_taken rows n (Refused why) rows.eras (eras_with_last r.start r.code r.index) new h
+pub era_taken : (rows : TableRows) (r : EraRow) (n : ℕ) (t : Taken) (new : Option (List ListedEra)) → AreErasKept t rows.eras (eras_of_row r) new → IsTaken t rows (Some (Era r)) n (set_eras rows new)
+era_taken rows r n Kept new h = eras_taken rows n Kept rows.eras (eras_of_row r) new h
+era_taken rows r n (Refused why) new h = eras_taken rows n (Refused why) rows.eras (eras_of_row r) new h
 era_taken rows r n NoMemory new h = tt

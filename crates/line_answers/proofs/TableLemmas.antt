@@ -2,7 +2,7 @@
 use Rattle.std.proofs.Common.{◌≡◌, ℤ, List, ◌<◌, ◌⊎◌, inl, inr, refl, sym, subst}
 use Rattle.cal_errors.specs.declared.errors.TableFault.{TableFault}
 use Rattle.cal_rows.specs.FaultLaws.{faults_decided, fault_refuses, one_fault}
-use Rattle.cal_any.specs.Kinds.{TableContents}
+use Rattle.cal_tables.specs.Kinds.{TableContents}
 use Rattle.cal_east_asian.specs.ComputedLaws.{computed_year}
 use Rattle.cal_east_asian.specs.TableAccepted as lunisolar
 use Rattle.cal_east_asian.specs.declared.sides.Side.TheVariants as side

@@ -2,15 +2,14 @@
 use Rattle.std.specs.Prelude.{◌≡◌, ℕ, ◌+◌, Bool, true, false, List, [], ◌∷◌, ◌++◌, ◌⊎◌, Option, Some, None, codes, if◌then◌else◌}
 use Rattle.line_reader.specs.Lines.{lines_in}
 use Rattle.cal_errors.specs.declared.errors.TableFault.{TableFault}
-use Rattle.cal_any.specs.Kinds.{TableContents, kind_system}
-use Rattle.cal_gregory.specs.LastEra.{eras_with_last}
+use Rattle.cal_tables.specs.Kinds.{TableContents, kind_system}
 use Rattle.cal_gregory.specs.JapaneseEraList.{ListedEra}
-use Rattle.request_replies.specs.Texts.{about_line}
+use Rattle.reply_texts.specs.Texts.{about_line}
 use Rattle.request_lines.specs.Lines.{Line, Nothing, GivesRow, Requests, RequestLine, Long, Asks, Malformed, IsLine}
 use Rattle.request_replies.specs.Replies.{IsReply}
 use Rattle.request_lines.specs.Rows.{Row, China, Korea, Hijri, Persian, Era}
 use Rattle.line_answers.specs.RowYears.{IsHijriYear, IsEastAsianYear}
-use Rattle.line_answers.specs.TableRows.{TableRows, no_rows, contents_of, with_china, with_korea, with_hijri, with_persian, with_eras, AreAccepted, IsFirstRefused}
+use Rattle.line_answers.specs.TableRows.{TableRows, no_rows, contents_of, with_china, with_korea, with_hijri, with_persian, with_eras, AreAccepted, IsFirstRefused, eras_of_row}
 use Rattle.line_answers.specs.TableTexts.{row_refusal, table_refusal}
 use Rattle.line_answers.specs.declared.status.Status.{Status}
 use Rattle.line_answers.specs.declared.status.Status.TheVariants.{Done, Refused, TableRefused}
@@ -75,7 +74,7 @@ TakesRow rows (Some (China r)) n text next = TakesYear (IsEastAsianYear r) (with
 TakesRow rows (Some (Korea r)) n text next = TakesYear (IsEastAsianYear r) (with_korea rows) n text next
 TakesRow rows (Some (Hijri r)) n text next = TakesYear (IsHijriYear r) (with_hijri rows) n text next
 TakesRow rows (Some (Persian y)) n text next = (text ≡ []) × (next ≡ Gathering (with_persian rows y))
-TakesRow rows (Some (Era r)) n text next = TakesEras rows rows.eras (eras_with_last r.start r.code r.index) n text next
+TakesRow rows (Some (Era r)) n text next = TakesEras rows rows.eras (eras_of_row r) n text next
 
 -- the text that answers the line of number n, and where the run stands behind it
 abbrev pub IsAnswerTo : Line → ℕ → Stage → List ℕ → Stage → Type 0

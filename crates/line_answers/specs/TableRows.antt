@@ -2,16 +2,18 @@
 use Rattle.std.specs.Prelude.{ℕ, ℤ, ◌<◌, List, [], ◌∷◌, ◌++◌, Option, Some, None}
 use Rattle.std.specs.Option.{unwrap_or}
 use Rattle.cal_errors.specs.declared.errors.TableFault.{TableFault}
-use Rattle.cal_any.specs.Kinds.{TableContents}
+use Rattle.cal_tables.specs.Kinds.{TableContents}
 use Rattle.cal_east_asian.specs.ComputedLaws.{computed_year}
 use Rattle.cal_east_asian.specs.TableAccepted as lunisolar
 use Rattle.cal_east_asian.specs.declared.east_asian_traditional_year.EastAsianTraditionalYear.{EastAsianTraditionalYear}
 use Rattle.cal_east_asian.specs.declared.sides.Side.TheVariants as side
 use Rattle.cal_gregory.specs.JapaneseEraList.{ListedEra, eras_up_to_reiwa}
+use Rattle.cal_gregory.specs.LastEra.{eras_with_last}
 use Rattle.cal_hijri.specs.TableAccepted as hijri
 use Rattle.cal_hijri.specs.TableFriday.{friday_year}
 use Rattle.cal_hijri.specs.declared.hijri_year.HijriYear.{HijriYear}
 use Rattle.cal_julian.specs.PersianAccepted as persian
+use Rattle.request_lines.specs.Rows.{EraRow}
 use Rattle.line_answers.specs.declared.table.Table.{Table}
 use Rattle.line_answers.specs.declared.table.Table.TheVariants.{China, Korea, Hijri, Persian}
 
@@ -38,6 +40,10 @@ with_hijri rows y = record { china = rows.china; korea = rows.korea; hijri = row
 
 abbrev pub with_persian : TableRows → ℤ → TableRows
 with_persian rows y = record { china = rows.china; korea = rows.korea; hijri = rows.hijri; persian = rows.persian ++ y ∷ []; eras = rows.eras }
+
+-- the listed eras of Japan with that of a row, where it may be listed
+abbrev pub eras_of_row : EraRow → Option (List ListedEra)
+eras_of_row r = eras_with_last (record { year = r.start.year; month = r.start.month; day = r.start.day }) r.code r.index
 
 -- the listed eras of Japan
 abbrev pub with_eras : TableRows → List ListedEra → TableRows

@@ -3,7 +3,7 @@ use Rattle.std.specs.Prelude.{ℕ, List, codes}
 use Rattle.cal_errors.specs.declared.errors.TableFault.{TableFault}
 use Rattle.cal_errors.specs.declared.errors.TablePart.{TablePart}
 use Rattle.cal_errors.specs.declared.errors.TablePart.TheVariants.{Year, Join, End, Leap, Rule}
-use Rattle.request_replies.specs.Texts.{about_line}
+use Rattle.reply_texts.specs.Texts.{about_line}
 use Rattle.line_answers.specs.declared.table.RowFault.{RowFault}
 use Rattle.line_answers.specs.declared.table.RowFault.TheVariants.{Syntax, Range, Late}
 use Rattle.line_answers.specs.declared.table.Table.{Table}

@@ -3,7 +3,7 @@ ghost use Rattle.std.specs.Prelude.{◌≡◌, ◌+◌, ◌≤◌, ◌++◌, ℕ
 ghost use Rattle.arrayvec.specs.ArrayVec.{array_vec_len};
 ghost use Rattle.line_reader.specs.Buffer.{Holds};
 ghost use Rattle.cal_types.specs.Bag.{bag_of};
-ghost use Rattle.cal_any.specs.Kinds.{table_contents};
+ghost use Rattle.cal_tables.specs.Kinds.{table_contents};
 ghost use Rattle.request_lines.specs.Lines.{is_silent as line_is_silent, line_of};
 ghost use Rattle.line_answers.specs.Answers.{Answering, IsAnswerTo, IsRequestAnswer, refusal};
 ghost use Rattle.request_lines.specs.LineSaid.{request_line_said};
@@ -11,11 +11,12 @@ ghost use Rattle.line_answers.specs.TableRows.{TableRows, contents_of};
 
 use crate::status::Status;
 use crate::table::{RowFault, push_row_refusal};
+use cal_tables::Tables;
 use cal_types::DateFields;
-use icu_calendar::Tables;
 use line_reader::LineBuffer;
+use reply_texts::{Pending, push_about};
 use request_lines::{Line, RequestLine, is_silent, read_line};
-use request_replies::{Pending, push_about, reply};
+use request_replies::reply;
 
 /// Where a run stands behind the rows of tables, and the request lines that it has answered.
 #[derive(Clone, Copy, Debug, PartialEq, Eq)]

@@ -4,7 +4,7 @@ ghost use Rattle.arrayvec.specs.ArrayVec.{array_vec_len};
 ghost use Rattle.line_answers.specs.TableTexts.{part_text, row_fault_text, row_refusal, table_refusal, table_text};
 
 use cal_types::{TableFault, TablePart};
-use request_replies::{Pending, push_about};
+use reply_texts::{Pending, push_about};
 
 /// A table of rows, by the word that its row lines have.
 #[derive(Clone, Copy, Debug, PartialEq, Eq)]

@@ -1,21 +1,21 @@
 //! The rows of tables that come before the first request.
 ghost use Rattle.std.specs.Prelude.{◌≡◌, [], ℕ, MatchResult, Some};
 ghost use Rattle.std.specs.Option.{option_map, unwrap_or};
-ghost use Rattle.cal_any.specs.Kinds.{table_contents};
+ghost use Rattle.cal_tables.specs.Kinds.{table_contents};
 ghost use Rattle.cal_gregory.specs.JapaneseEraList.{eras_up_to_reiwa};
 ghost use Rattle.cal_gregory.specs.JapaneseEras.{listed_eras};
-ghost use Rattle.cal_gregory.specs.LastEra.{eras_with_last};
-ghost use Rattle.request_lines.specs.RowSaid.{row_said};
-ghost use Rattle.line_answers.specs.TableRows.{AreAccepted, IsFirstRefused, contents_of, no_rows};
+ghost use Rattle.request_lines.specs.RowSaid.{era_row_said, row_said};
+ghost use Rattle.line_answers.specs.TableRows.{AreAccepted, IsFirstRefused, contents_of, no_rows, eras_of_row};
 
 use crate::row_years::{east_asian_year, hijri_year};
 use crate::table::{RowFault, Table, TableRefusal};
+use cal_east_asian::{EastAsianTable, EastAsianTraditionalYear, Side};
+use cal_gregory::{EraStartDate, JapaneseEras};
+use cal_hijri::{HijriTable, HijriYear};
+use cal_julian::PersianCorrections;
+use cal_tables::Tables;
 use cal_types::TableFault;
-use icu_calendar::{
-    EastAsianTable, EastAsianTraditionalYear, HijriTable, HijriYear, JapaneseEras,
-    PersianCorrections, Side, Tables,
-};
-use request_lines::{EraRow, Row};
+use request_lines::{EraRow, Row, RowDate};
 use std::alloc::Global;
 
 /// The rows that came, table by table, and the eras of Japan where a row named them.
@@ -54,13 +54,15 @@ fn keep<T: Drop>(rows: &mut Vec<T>, row: T) -> Taken
 // Keeps the eras of a row, where no row named any before.
 fn keep_eras(eras: &mut Option<JapaneseEras>, row: EraRow<'_>) -> Taken
     ensures { let before = option_map listed_eras eras.old in
-        let read = eras_with_last row.entry.start row.entry.letters.now row.entry.index in
+        let read = eras_of_row (era_row_said row.entry) in
         AreErasKept result before read (option_map listed_eras eras.new) }
 {
     if eras.is_some() {
         return Taken::Refused(RowFault::Syntax);
     }
-    match JapaneseEras::with_last_era(row.start, row.code(), row.index) {
+    let RowDate { year, month, day } = row.start;
+    let start = EraStartDate { year, month, day };
+    match JapaneseEras::with_last_era(start, row.code(), row.index) {
         Some(listed) => {
             *eras = Some(listed);
             Taken::Kept

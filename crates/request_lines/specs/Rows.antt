@@ -2,10 +2,10 @@
 use Rattle.std.specs.Prelude.{ℕ, ℤ, Bool, ◌==◌, ◌&&◌, ◌||◌, nat_lt, nat_le, List, [], ◌∷◌, length, codes, Option, Some, None, if◌then◌else◌}
 use Rattle.std.specs.List.{list_all}
 use Rattle.std.specs.Option.{option_and_then}
-use Rattle.cal_gregory.specs.declared.era_start_date.EraStartDate.{EraStartDate}
 use Rattle.request_lines.specs.Words.{is_text, int_of, byte_of}
 use Rattle.request_lines.specs.Reading.{Read, next_word, and_then}
 use Rattle.request_lines.specs.Requests.{fixed_word}
+use Rattle.request_lines.specs.declared.era_row.RowDate.{RowDate}
 use Rattle.request_lines.specs.declared.row.RowKind.{RowKind}
 use Rattle.request_lines.specs.declared.row.RowKind.TheVariants as kind
 
@@ -20,7 +20,7 @@ pub record YearRow : Type 0 where
 
 -- an era: its first day, its code, and its index among the eras
 pub record EraRow : Type 0 where
-  pub start : EraStartDate
+  pub start : RowDate
   pub code : List ℕ
   pub index : ℕ
 

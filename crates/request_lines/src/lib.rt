@@ -13,7 +13,7 @@ mod request;
 mod row;
 mod words;
 
-pub use era_row::EraRow;
+pub use era_row::{EraRow, RowDate};
 pub use line::{Line, RequestLine, is_silent, read_line};
 pub use request::{Header, Request, read_request};
 pub use row::{Row, RowKind, YearRow, read_row};

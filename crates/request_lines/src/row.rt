@@ -7,10 +7,9 @@ ghost use Rattle.request_lines.specs.WordsLeft.{words_left};
 ghost use Rattle.request_lines.specs.Reading.{IsReading, next_word};
 ghost use Rattle.request_lines.specs.Rows.{kind_named, is_length, are_lengths, lengths_of, leap_of, is_code_letter, is_era_code, code_of, lunisolar_read, lunar_read, era_read, parts_read, row_read};
 
-use crate::era_row::EraRow;
+use crate::era_row::{EraRow, RowDate};
 use crate::reading::{next_byte, next_int, next_is};
 use crate::words::{Words, byte};
-use cal_gregory::EraStartDate;
 
 /// Which table a row is of.
 #[derive(Clone, Copy, Debug)]
@@ -187,7 +186,7 @@ fn read_era<'a>(words: &mut Words<'a>) -> Option<EraRow<'a>>
     let code = next_code(words)?;
     let index = next_byte(words)?;
     Some(EraRow {
-        start: EraStartDate { year, month, day },
+        start: RowDate { year, month, day },
         letters: code,
         index,
     })

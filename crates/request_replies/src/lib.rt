@@ -3,7 +3,5 @@
 #![tactic(auto)]
 
 mod replies;
-mod text;
 
 pub use replies::reply;
-pub use text::{Pending, push_about, push_all, push_number, push_signed, push_two_digits};

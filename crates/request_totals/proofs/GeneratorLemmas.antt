@@ -1,16 +1,19 @@
 -- Requests that a number asks for, and the totals over them.
-use Rattle.std.proofs.Common.{◌≡◌, ℕ, zero, suc, Result, List, refl, sym, ap, subst, ◌∙◌, ℤ}
-use Rattle.cal_model.specs.CalendarSystem.{CalendarSystem}
+use Rattle.std.proofs.Common.{◌≡◌, ℕ, zero, suc, Ok, Err, List, refl, sym, ap, subst, ◌∙◌, ℤ}
+use Rattle.cal_model.specs.CalendarList.{day_number}
+use Rattle.cal_model.proofs.ListLemmas.{on-finds}
 use Rattle.cal_model.specs.Difference.{largest_unit_of}
-use Rattle.icu_calendar.specs.Spans.{SpanDates, IsSpan}
-use Rattle.icu_calendar.specs.declared.span_parts.SpanError.{SpanError}
-use Rattle.icu_calendar.proofs.SpanLemmas.{span-exists, span-unique}
-use Rattle.cal_any.specs.Kinds.{kind_system, no_contents}
-use Rattle.request_totals.specs.Generator.{generated_request, with_answer, no_totals, totals_text, IsCounted, AreTotals, IsGenerated}
+use Rattle.cal_spans.specs.Spans.{SpanDates}
+use Rattle.cal_spans.specs.declared.span_error.SpanError.{SpanError}
+use Rattle.cal_spans.proofs.SpanLemmas.{span-exists, span-unique}
+use Rattle.cal_tables.specs.Kinds.{TableContents, kind_system, no_contents}
+use Rattle.request_parts.specs.Parts.{AreNamed, AreRefused}
+use Rattle.request_parts.specs.declared.span_parts.SpanParts.{SpanParts}
+use Rattle.request_totals.specs.Generator.{generated_request, with_answer, with_refusal, with_span, no_totals, totals_text, IsCounted, AreTotals, IsGenerated}
 use Rattle.request_replies.specs.Replies.{options_of}
 use Rattle.request_lines.specs.Requests.{Request}
 use Rattle.request_totals.specs.declared.totals.Totals.{Totals}
-use Rattle.cal_any.proofs.KindLemmas.{kind_lawful}
+use Rattle.cal_tables.proofs.KindLemmas.{kind_lawful}
 
 abbrev totals : ℕ → ℕ → ℤ → ℕ → ℕ → ℕ → ℕ → Totals
 totals answered refused day_numbers years months weeks days = record { answered = answered; refused = refused; day_numbers = day_numbers; years = years; months = months; weeks = weeks; days = days }
@@ -19,18 +22,26 @@ totals answered refused day_numbers years months weeks days = record { answered 
 pub same_totals : (a r : ℕ) (n m : ℤ) (y z k l v w d e : ℕ) → n ≡ m → y ≡ z → k ≡ l → v ≡ w → d ≡ e → totals a r n y k v d ≡ totals a r m z l w e
 same_totals a r n m y z k l v w d e f g h i j = rw (f, g, h, i, j) refl
 
--- what is counted of two systems, is counted of the systems of two names
-module _ (r : Request) (before after : Totals) where
-  abbrev Counts : CalendarSystem → CalendarSystem → Result SpanDates SpanError → Type 0
-  Counts c shown answer = IsSpan c shown.list r.from r.to (options_of r) (largest_unit_of r.unit) answer × (after ≡ with_answer before c answer)
+-- what a request names or refuses, over tables without rows, counts it
+module _ (r : Request) (before after : Totals) (t : TableContents) (none : t ≡ no_contents) where
+  pub counted-named : (p : SpanParts) → AreNamed (kind_system t r.calendar) r.from r.to (options_of r) (largest_unit_of r.unit) p → after ≡ with_span before p.from.rata_die p.to.rata_die p.duration → IsCounted r before after
+  counted-named p over sum =
+      let named = subst (λ (t : TableContents). AreNamed (kind_system t r.calendar) r.from r.to (options_of r) (largest_unit_of r.unit) p) none over in
+      let c = kind_system no_contents r.calendar in
+      let shown = (kind_system no_contents r.shown).list in
+      let from = on-finds shown (kind_lawful no_contents r.shown) (day_number c.list named.from_date) in
+      let to = on-finds shown (kind_lawful no_contents r.shown) (day_number c.list named.to_date) in
+      let dates : SpanDates = record { from = named.from_date; from_shown = from.0; to = named.to_date; to_shown = to.0; duration = p.duration } in
+      record {
+        answer = Ok dates;
+        span = record { from = named.from; to = named.to; from_shown = from.1; to_shown = to.1; duration = named.difference };
+        counts = sum ∙ (ap (λ (n : ℤ). with_span before n p.to.rata_die p.duration) named.from_parts.rata_die ∙ ap (λ (n : ℤ). with_span before (day_number c.list named.from_date) n p.duration) named.to_parts.rata_die);
+      }
 
-  named : (a b c shown : CalendarSystem) (answer : Result SpanDates SpanError) → a ≡ c → b ≡ shown → Counts a b answer → Counts c shown answer
-  named a b c shown answer e f h = subst (λ (s : CalendarSystem). Counts s shown answer) e (subst (λ (s : CalendarSystem). Counts a s answer) f h)
-
-  pub is_counted : (a b : CalendarSystem) (answer : Result SpanDates SpanError) → a ≡ kind_system no_contents r.calendar → b ≡ kind_system no_contents r.shown → IsSpan a b.list r.from r.to (options_of r) (largest_unit_of r.unit) answer → after ≡ with_answer before a answer → IsCounted r before after
-  is_counted a b answer e f span counts =
-      let same = named a b (kind_system no_contents r.calendar) (kind_system no_contents r.shown) answer e f (span, counts) in
-      record { answer = answer; span = same.0; counts = same.1 }
+  pub counted-refused : (e : SpanError) → AreRefused (kind_system t r.calendar) r.from r.to (options_of r) e → after ≡ with_refusal before → IsCounted r before after
+  counted-refused e over sum =
+      let refused = subst (λ (t : TableContents). AreRefused (kind_system t r.calendar) r.from r.to (options_of r) e) none over in
+      record { answer = Err e; span = refused.refuses; counts = sum }
 
 -- one more request has one answer
 counted_exists : (r : Request) (before : Totals) → (after : Totals) × IsCounted r before after

@@ -4,14 +4,15 @@ use Rattle.std.specs.Fmt.{decimal, signed_decimal}
 use Rattle.cal_types.specs.Bag.{Bag}
 use Rattle.cal_types.specs.declared.options.Overflow.TheVariants.{Constrain, Reject}
 use Rattle.cal_types.specs.declared.options.MissingFieldsStrategy.TheVariants as missing
+use Rattle.cal_types.specs.declared.duration.DateDuration.{DateDuration}
 use Rattle.cal_types.specs.declared.duration.DateDurationUnit.{DateDurationUnit}
 use Rattle.cal_types.specs.declared.duration.DateDurationUnit.TheVariants.{Years, Months, Weeks, Days}
 use Rattle.cal_model.specs.CalendarList.{day_number}
 use Rattle.cal_model.specs.CalendarSystem.{CalendarSystem}
 use Rattle.cal_model.specs.Difference.{largest_unit_of}
-use Rattle.icu_calendar.specs.Spans.{SpanDates, IsSpan}
-use Rattle.icu_calendar.specs.declared.span_parts.SpanError.{SpanError}
-use Rattle.cal_any.specs.Kinds.{kind_system, no_contents}
+use Rattle.cal_spans.specs.Spans.{SpanDates, IsSpan}
+use Rattle.cal_spans.specs.declared.span_error.SpanError.{SpanError}
+use Rattle.cal_tables.specs.Kinds.{kind_system, no_contents}
 use Rattle.request_replies.specs.Replies.{options_of}
 use Rattle.request_lines.specs.Requests.{Request}
 use Rattle.cal_kinds.specs.declared.any_calendar_kind.AnyCalendarKind.{AnyCalendarKind}
@@ -63,18 +64,21 @@ generated_request i = record {
 abbrev pub no_totals : Totals
 no_totals = record { answered = 0; refused = 0; day_numbers = pos 0; years = 0; months = 0; weeks = 0; days = 0 }
 
--- the totals with the answer to one more request in a calendar
-abbrev pub with_answer : Totals → CalendarSystem → Result SpanDates SpanError → Totals
-with_answer t c (Ok s) = record {
+-- the totals with the dates of one more answer, by their day numbers, and its duration
+abbrev pub with_span : Totals → ℤ → ℤ → DateDuration → Totals
+with_span t from to d = record {
   answered = t.answered + 1;
   refused = t.refused;
-  day_numbers = t.day_numbers +ℤ day_number c.list s.from +ℤ day_number c.list s.to;
-  years = t.years + s.duration.years;
-  months = t.months + s.duration.months;
-  weeks = t.weeks + s.duration.weeks;
-  days = t.days + s.duration.days;
+  day_numbers = t.day_numbers +ℤ from +ℤ to;
+  years = t.years + d.years;
+  months = t.months + d.months;
+  weeks = t.weeks + d.weeks;
+  days = t.days + d.days;
 }
-with_answer t c (Err e) = record {
+
+-- the totals with one more refusal
+abbrev pub with_refusal : Totals → Totals
+with_refusal t = record {
   answered = t.answered;
   refused = t.refused + 1;
   day_numbers = t.day_numbers;
@@ -83,6 +87,11 @@ with_answer t c (Err e) = record {
   weeks = t.weeks;
   days = t.days;
 }
+
+-- the totals with the answer to one more request in a calendar
+abbrev pub with_answer : Totals → CalendarSystem → Result SpanDates SpanError → Totals
+with_answer t c (Ok s) = with_span t (day_number c.list s.from) (day_number c.list s.to) s.duration
+with_answer t c (Err e) = with_refusal t
 
 -- the totals with one more request, in calendars without rows of tables
 pub record IsCounted (r : Request) (before after : Totals) : Type 0 where

@@ -4,11 +4,11 @@ ghost use Rattle.cal_types.specs.Bag.{bag_of};
 ghost use Rattle.request_totals.specs.Generator.{calendar_of, generated_bag, generated_request, near_year, unit_of};
 ghost use Rattle.request_lines.specs.RequestSaid.{request_said};
 
+use cal_kinds::AnyCalendarKind;
 use cal_types::{
     DateDifferenceOptions, DateDurationUnit, DateFields, DateFromFieldsOptions,
     MissingFieldsStrategy, Overflow,
 };
-use icu_calendar::AnyCalendarKind;
 use request_lines::{Header, Request};
 
 // The calendars in turn.

@@ -1,20 +1,18 @@
 //! Sums over the answers to requests.
-ghost use Rattle.std.specs.Prelude.{◌≡◌, ◌+◌, ◌<◌, ◌≤◌, ◌++◌, Ok};
+ghost use Rattle.std.specs.Prelude.{◌≡◌, ◌+◌, ◌<◌, ◌≤◌, ◌++◌};
 ghost use Rattle.arrayvec.specs.ArrayVec.{array_vec_len};
 ghost use Rattle.cal_days.specs.Day.{IsValidDay};
-ghost use Rattle.cal_any.specs.AnySystem.{any_system, any_date};
-ghost use Rattle.cal_any.specs.Kinds.{kind_system, no_contents};
-ghost use Rattle.cal_any.specs.declared.any_calendar.AnyCalendar.{AnyCalendar};
-ghost use Rattle.cal_model.specs.CalendarList.{day_number};
-ghost use Rattle.icu_calendar.specs.SpanAnswers.{span_dates, HasCalendars};
-ghost use Rattle.request_totals.specs.Generator.{AreTotals, IsCounted, no_totals, parts_text, totals_text, with_answer};
+ghost use Rattle.request_parts.specs.Parts.{IsDay};
+ghost use Rattle.request_totals.specs.Generator.{AreTotals, IsCounted, no_totals, parts_text, totals_text, with_span};
 ghost use Rattle.request_lines.specs.RequestSaid.{request_said};
 ghost use Rattle.request_totals.specs.TotalBounds.{AreBounded, counted};
 
 use crate::generator::generated_request;
-use icu_calendar::{AnyCalendar, AnyCalendarKind, Date, Span, Tables, span};
+use cal_tables::Tables;
+use reply_texts::{Pending, push_all, push_number, push_signed};
+use request_dates::name_dates;
 use request_lines::Request;
-use request_replies::{Pending, push_all, push_number, push_signed};
+use request_parts::{DayParts, SpanParts};
 
 /// How many requests have an answer and how many are refused; the sum of the day numbers of all dates; and the sums
 /// of the parts of all durations, without their signs.
@@ -54,12 +52,12 @@ impl Totals {
 }
 
 // The day number of a date.
-fn day_number_of(date: &Date<AnyCalendar<'_>>) -> i64
-    ensures value { let calendar = date.now.calendar in
-        result ≡ day_number (any_system calendar).list (any_date calendar date.now.inner) }
+fn day_number_of(parts: &DayParts) -> i64
+    requires { IsDay parts.now }
+    ensures value { result ≡ parts.now.rata_die }
     ensures valid { IsValidDay result }
 {
-    date.to_rata_die().to_i64_date()
+    parts.rata_die.to_i64_date()
 }
 
 // A sum with one more part of a duration.
@@ -72,22 +70,24 @@ fn added(sum: u64, part: u32) -> u64
 }
 
 // The totals with one more answer.
-fn with_span(totals: Totals, span: &Span<'_>) -> Totals
+fn with_span(totals: Totals, parts: &SpanParts) -> Totals
     requires few { counted totals < 100000 }
     requires bounded { AreBounded totals }
-    ensures value { (c shown : AnyCalendar) → HasCalendars c shown span.now
-        → result ≡ with_answer totals (any_system c) (Ok (span_dates span.now)) }
+    requires from { IsDay parts.now.from }
+    requires to { IsDay parts.now.to }
+    ensures value { let p = parts.now in result ≡ with_span totals p.from.rata_die p.to.rata_die p.duration }
     ensures bounded { AreBounded result }
     ensures one { counted result ≡ counted totals + 1 }
 {
+    let days = day_number_of(&parts.from) + day_number_of(&parts.to);
     Totals {
         answered: totals.answered + 1,
-        day_numbers: totals.day_numbers + day_number_of(&span.from) + day_number_of(&span.to),
-        years: added(totals.years, span.duration.years),
-        months: added(totals.months, span.duration.months),
-        weeks: added(totals.weeks, span.duration.weeks),
-        days: added(totals.days, span.duration.days),
         refused: totals.refused,
+        day_numbers: totals.day_numbers + days,
+        years: added(totals.years, parts.duration.years),
+        months: added(totals.months, parts.duration.months),
+        weeks: added(totals.weeks, parts.duration.weeks),
+        days: added(totals.days, parts.duration.days),
     }
 }
 
@@ -105,14 +105,7 @@ fn with_refusal(totals: Totals) -> Totals
     }
 }
 
-// The calendar of a kind, without rows of a table.
-fn calendar(kind: AnyCalendarKind) -> AnyCalendar<'static>
-    ensures { any_system result ≡ kind_system no_contents kind }
-{
-    AnyCalendar::new(kind, Tables::none())
-}
-
-// The totals with one more request.
+// The totals with one more request, in calendars without rows of tables.
 fn with_request(totals: Totals, request: &Request) -> Totals
     requires few { counted totals < 100000 }
     requires bounded { AreBounded totals }
@@ -120,16 +113,19 @@ fn with_request(totals: Totals, request: &Request) -> Totals
     ensures bounded { AreBounded result }
     ensures one { counted result ≡ counted totals + 1 }
 {
-    let header = request.header;
-    match span(
-        request.from,
-        request.to,
+    let header = &request.header;
+    let tables = Tables::none();
+    let mut parts = SpanParts::unnamed();
+    match name_dates(
+        &mut parts,
+        header.calendar,
+        &tables,
+        &request.from,
+        &request.to,
         header.options,
         header.difference,
-        calendar(header.calendar),
-        calendar(header.shown),
     ) {
-        Ok(span) => with_span(totals, &span),
+        Ok(()) => with_span(totals, &parts),
         Err(_) => with_refusal(totals),
     }
 }

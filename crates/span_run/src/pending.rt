@@ -2,7 +2,7 @@
 ghost use Rattle.std.specs.Prelude.{◌≡◌, ◌+◌, ◌≤◌, ◌++◌, [], ◌∷◌, ℕ, List, Option, length, OnOk};
 ghost use Rattle.arrayvec.specs.ArrayVec.{array_vec_len};
 ghost use Rattle.byte_io.specs.Faults.{HasCause};
-ghost use Rattle.cal_any.specs.Kinds.{table_contents};
+ghost use Rattle.cal_tables.specs.Kinds.{table_contents};
 ghost use Rattle.line_answers.specs.Answers.{Stage, Answering};
 ghost use Rattle.span_run.specs.Stages.{Follows, Responded};
 ghost use Rattle.line_answers.specs.TableRows.{TableRows, contents_of};
@@ -10,10 +10,10 @@ ghost use Rattle.span_run.specs.Written.{Wrote, Stands, Flushed};
 ghost use Rattle.line_reader.specs.Buffer.{Holds};
 
 use byte_io::{Failed, Sink};
-use icu_calendar::Tables;
+use cal_tables::Tables;
 use line_answers::{Answered, Progress, answer};
 use line_reader::LineBuffer;
-use request_replies::Pending;
+use reply_texts::Pending;
 
 /// Writes all of a text, in as many pieces as the sink takes. Where that fails, a prefix of it was written.
 pub fn write_all<K: Sink>(text: &[u8], sink: &mut K) -> Result<(), Failed>

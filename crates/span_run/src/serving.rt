@@ -5,7 +5,7 @@ ghost use Rattle.line_reader.specs.Buffer.{Holds};
 ghost use Rattle.line_reader.specs.Lines.{lines_in};
 ghost use Rattle.line_reader.specs.Reader.{IsAt, lines_given};
 ghost use Rattle.std.specs.Io.KnownBytes.{Consumes};
-ghost use Rattle.cal_any.specs.Kinds.{table_contents};
+ghost use Rattle.cal_tables.specs.Kinds.{table_contents};
 ghost use Rattle.line_answers.specs.Answers.{Answering, Ended, Stage};
 ghost use Rattle.span_run.specs.Command.{command_of};
 ghost use Rattle.line_answers.specs.RowsSaid.{rows_said};
@@ -22,13 +22,13 @@ use crate::command::{Command, read_command};
 use crate::gather::{Gathered, gather};
 use crate::pending::{flush, respond, write_all};
 use byte_io::{Failed, Sink, Source};
-use icu_calendar::Tables;
+use cal_tables::Tables;
 use line_answers::{
     Answered, Progress, RowFault, Status, TableRefusal, TableRows, push_row_refusal,
     push_table_refusal,
 };
 use line_reader::{Filled, LineBuffer, Next, Reader};
-use request_replies::Pending;
+use reply_texts::Pending;
 use request_totals::{push_totals, totals_over};
 use std::alloc::Global;
 

@@ -3,7 +3,7 @@
 use crate::tests::runs::{Calls, Case, assert_answers, assert_count, assert_run, calls_of};
 use line_answers::{Status, code};
 use line_reader::LIMIT;
-use request_replies::{Pending, push_signed, push_two_digits};
+use reply_texts::{Pending, push_signed, push_two_digits};
 use std::test::Fail;
 
 struct Answered {

@@ -1,7 +1,7 @@
 //! Three Gregorian years, counted through by hand-made lists.
 
 use crate::tests::expected::assert_at;
-use cal_model::{ListedDate, ListedMonth, ListedYears};
+use cal_listed::{ListedDate, ListedMonth, ListedYears};
 use cal_types::{DateDuration, Month};
 
 fn listed(number: u8, days: u8) -> ListedMonth {

@@ -1,6 +1,6 @@
 use Rattle.std.proofs.Common.{◌≡◌, ℕ, List, [], ◌∷◌, ◌++◌, subst, ◌∙◌, append_assoc}
 use Rattle.cal_model.specs.CalendarList.{IsOn}
-use Rattle.cal_any.specs.Kinds.{kind_system, table_contents}
+use Rattle.cal_tables.specs.Kinds.{kind_system, table_contents}
 use Rattle.request_replies.proofs.replies.push_span.Goals as goal
 
 -- the parts of a reply, one after another

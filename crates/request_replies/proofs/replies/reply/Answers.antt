@@ -1,8 +1,8 @@
 use Rattle.std.proofs.Common.{Ok, Err, refl}
 use Rattle.cal_model.specs.Difference.{largest_unit_of}
-use Rattle.cal_any.specs.Kinds.{kind_system, table_contents}
-use Rattle.icu_calendar.specs.Spans.{SpanDates}
-use Rattle.request_replies.specs.Replies.{span_text, error_text}
+use Rattle.cal_tables.specs.Kinds.{kind_system, table_contents}
+use Rattle.cal_spans.specs.Spans.{SpanDates}
+use Rattle.reply_texts.specs.DateTexts.{span_text, error_text}
 use Rattle.request_replies.proofs.replies.reply.Goals as goal
 
 pub returns-in-Ok : goal.returns-in-Ok

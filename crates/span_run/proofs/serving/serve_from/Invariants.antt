@@ -1,6 +1,6 @@
 use Rattle.std.specs.Prelude.{◌≡◌}
 use Rattle.line_reader.specs.Reader.{turns_left}
-use Rattle.cal_any.specs.Kinds.{table_contents}
+use Rattle.cal_tables.specs.Kinds.{table_contents}
 use Rattle.line_answers.specs.Answers.{Answering}
 use Rattle.span_run.specs.Run.{Outside, outside}
 use Rattle.line_answers.specs.TableRows.{TableRows, contents_of}

@@ -1,0 +1,2 @@
+pub mod YearList
+pub mod ListedYears

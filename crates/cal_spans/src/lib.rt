@@ -1,0 +1,7 @@
+//! What two bags of fields ask for: their dates, the same days in a second calendar, and the difference; or the first
+//! fault.
+#![tactic(auto)]
+
+mod span_error;
+
+pub use span_error::{BagSide, SpanError};

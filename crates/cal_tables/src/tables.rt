@@ -1,0 +1,118 @@
+//! The tables that calendars are made with.
+
+ghost use Rattle.std.specs.Prelude.{◌≡◌};
+ghost use Rattle.cal_east_asian.specs.declared.sides.Side.TheVariants as side;
+
+use cal_east_asian::{ChineseTraditional, EastAsianTable, KoreanTraditional, Side};
+use cal_gregory::{Japanese, JapaneseEras};
+use cal_hijri::{AstronomicalSimulation, Hijri, HijriTable, UmmAlQura};
+use cal_julian::{Persian, PersianCorrections};
+
+/// The tables that calendars are made with: the years of China, of Korea and of Umm al-Qura that stand in place of the
+/// computed ones, the corrected Persian years, and the eras that Japan lists.
+#[derive(Clone, Copy, Debug)]
+pub struct Tables<'t> {
+    china: EastAsianTable<'t>,
+    korea: EastAsianTable<'t>,
+    umm_al_qura: HijriTable<'t>,
+    persian: PersianCorrections<'t>,
+    eras: JapaneseEras,
+    ghost of_china: { china.side ≡ side.China },
+    ghost of_korea: { korea.side ≡ side.Korea },
+}
+
+impl<'t> Tables<'t> {
+    ghost use Rattle.std.specs.Prelude.{IsSome, IfSome, ◌↔◌};
+    ghost use Rattle.cal_tables.specs.Kinds.{table_contents, no_contents, contents_of};
+    ghost use Rattle.cal_east_asian.specs.EastAsianReferences.{side_reference};
+    ghost use Rattle.cal_east_asian.specs.EastAsianSystem.{east_asian_system};
+    ghost use Rattle.cal_east_asian.specs.TableRules.{table_year};
+    ghost use Rattle.cal_gregory.specs.JapaneseSystem.{japanese_system};
+    ghost use Rattle.cal_hijri.specs.TableRules.{umm_al_qura_system, simulated_mecca_system};
+    ghost use Rattle.cal_julian.specs.PersianSystem.{persian_system};
+    ghost use Rattle.cal_tables.specs.Kinds.{kind_system};
+    ghost use Rattle.cal_kinds.specs.declared.any_calendar_kind.AnyCalendarKind.TheVariants as kind;
+
+    /// No table has a row, no Persian year is corrected, and the eras are those up to Reiwa.
+    pub fn none() -> Tables<'t>
+        ensures { table_contents result ≡ no_contents }
+    {
+        Tables {
+            china: EastAsianTable::none(Side::China),
+            korea: EastAsianTable::none(Side::Korea),
+            umm_al_qura: HijriTable::none(),
+            persian: PersianCorrections::none(),
+            eras: JapaneseEras::up_to_reiwa(),
+        }
+    }
+
+    /// These tables. None exactly where the first one isn't China's, or the second one isn't Korea's.
+    pub fn try_new(
+        china: EastAsianTable<'t>,
+        korea: EastAsianTable<'t>,
+        umm_al_qura: HijriTable<'t>,
+        persian: PersianCorrections<'t>,
+        eras: JapaneseEras,
+    ) -> Option<Tables<'t>>
+        ensures some { IsSome result ↔ (china.entry.side ≡ side.China) × (korea.entry.side ≡ side.Korea) }
+        ensures contents { IfSome result (λ tables. table_contents tables ≡
+            contents_of china.entry korea.entry umm_al_qura.entry persian.entry eras) }
+    {
+        match (china.side(), korea.side()) {
+            (Side::China, Side::Korea) => Some(Tables {
+                china,
+                korea,
+                umm_al_qura,
+                persian,
+                eras,
+            }),
+            _ => None,
+        }
+    }
+
+    /// The Chinese calendar, with the rows of China.
+    pub fn chinese(&self) -> ChineseTraditional<'t>
+        ensures { east_asian_system (table_year result.0.table) (side_reference side.China)
+            ≡ kind_system (table_contents self.now) kind.Chinese }
+    {
+        ChineseTraditional::new(self.china)
+    }
+
+    /// The Korean calendar, with the rows of Korea.
+    pub fn korean(&self) -> KoreanTraditional<'t>
+        ensures { east_asian_system (table_year result.0.table) (side_reference side.Korea)
+            ≡ kind_system (table_contents self.now) kind.Dangi }
+    {
+        KoreanTraditional::new(self.korea)
+    }
+
+    /// The Hijri calendar of Umm al-Qura, with its rows.
+    pub fn umm_al_qura(&self) -> Hijri<UmmAlQura<'t>>
+        ensures { umm_al_qura_system result.0.table.rows.now
+            ≡ kind_system (table_contents self.now) kind.HijriUmmAlQura }
+    {
+        Hijri::new_umm_al_qura(self.umm_al_qura)
+    }
+
+    /// The Hijri calendar as it is simulated for Mecca, which has no rows.
+    pub fn simulated_mecca(&self) -> Hijri<AstronomicalSimulation<'t>>
+        ensures { simulated_mecca_system result.0.table.rows.now
+            ≡ kind_system (table_contents self.now) kind.HijriSimulatedMecca }
+    {
+        Hijri::new_simulated_mecca(HijriTable::none())
+    }
+
+    /// The Persian calendar, with the corrected years.
+    pub fn persian(&self) -> Persian<'t>
+        ensures { persian_system result ≡ kind_system (table_contents self.now) kind.Persian }
+    {
+        Persian::new(self.persian)
+    }
+
+    /// The Japanese calendar, with the eras that Japan lists.
+    pub fn japanese(&self) -> Japanese
+        ensures { japanese_system result ≡ kind_system (table_contents self.now) kind.Japanese }
+    {
+        Japanese::with_eras(self.eras)
+    }
+}
