@@ -1,125 +1,227 @@
 #!/usr/bin/env python3
-"""Proves and builds the program `calspan`, with crates that don't stand on one another proved side by side.
+"""Proves and builds the program `calspan`: each crate that it stands on once, crates that don't stand on one another side by side.
 
-`rt run` alone builds one crate after another. Here up to four copies of the program's crates each prove a library at a time: what one
-has built, `rt` takes over in the others, since libraries are shared on a machine by what they were made of. The crate with the
-longest chain of others behind it has the jobs that no other crate needs. The copies stay in the user's cache folder, so that a later
-build proves only what changed.
+A crate is built as soon as the crates below it are. Where one crate has by far the longest chain of others behind it, the chain decides
+when the program is there: so that crate has all processors, and others run beside it with less right to them. The libraries have
+statements alone (`--statements`): with their proofs in them, each crate above takes half a minute more to load. What is built stays in
+the user's cache folder with what it was made of, so that a later build proves only the crates that changed and those above them.
 """
 
 import fcntl
 import hashlib
+import math
 import os
-import re
 import shutil
 import subprocess
 import sys
 import time
 from pathlib import Path
+from typing import NamedTuple
 
 TOP = Path(__file__).resolve().parent.parent
 PROGRAM = "calspan"
+TARGET = "x86_64-unknown-linux-gnu"
+# More jobs than four gain nothing in one crate.
 MOST_JOBS = 4
+# A crate has a right to processors beside the one with the longest chain where its own is at least this part of it.
+PEER = 0.5
+# How far a build steps back (`nice`) that the program doesn't wait for yet.
+LAST_RIGHT = 10
 
 
-def libraries() -> dict[str, list[str]]:
-    """The crates that the program stands on, and itself, each with its own libraries; a library stands before those above it."""
+class Kit(NamedTuple):
+    """What the toolchain has that `rt` is part of."""
+
+    rattle: Path
+    linker: Path
+    libraries: Path
+    c_libraries: list[Path]
+    logic: Path
+    built_logic: Path
+    toolchain: Path
+    sum: str
+
+
+def kit() -> Kit:
+    rt = shutil.which("rt")
+    if not rt:
+        sys.exit("the toolchain's command rt is not on the PATH")
+    top = Path(rt).resolve().parent.parent
+    return Kit(
+        rattle=top / "bin/rattle",
+        linker=top / "bin/rattle-link",
+        libraries=top / "rlibs",
+        c_libraries=[top / "c/libos_c.a", top / "c/liblibc_c.a"],
+        logic=top / "rattle/logic/antt-project.json",
+        built_logic=top / "logic_built",
+        toolchain=top / "toolchain",
+        sum=hashlib.sha256((top / "KIT-ID").read_bytes()).hexdigest(),
+    )
+
+
+def crates_below() -> dict[str, list[str]]:
+    """The crates that the program stands on, and itself, each with its libraries; a library stands before those above it."""
     lines = (line.split("#")[0] for line in (TOP / "crates.txt").read_text().splitlines())
-    listed = {name.split()[0]: names.split() for name, colon, names in (line.partition(":") for line in lines) if colon}
+    listed = {name.strip(): names.split() for name, colon, names in (line.partition(":") for line in lines) if colon}
     wanted = {PROGRAM}
     for name in reversed(listed):
         if name in wanted:
             wanted.update(listed[name])
-    return {name: [it for it in names if it in listed] for name, names in listed.items() if name in wanted}
+    return {name: names for name, names in listed.items() if name in wanted}
 
 
-def cache() -> Path:
-    """The folder of this checkout's copies."""
+def files_of(name: str) -> list[Path]:
+    """The files that the proof of a crate reads."""
+    folder = TOP / "crates" / name
+    return sorted(it for part in ("src", "specs", "proofs") for it in (folder / part).rglob("*") if it.is_file())
+
+
+def sums(crates: dict[str, list[str]], tools: Kit) -> dict[str, str]:
+    """What each crate is made of: the toolchain, its own files, and those of the crates below it."""
+    found = {}
+    for name, names in crates.items():
+        said = [tools.sum, name, *(found.get(it, it) for it in names)]
+        said += [f"{it.relative_to(TOP)} {hashlib.sha256(it.read_bytes()).hexdigest()}" for it in files_of(name)]
+        found[name] = hashlib.sha256("\n".join(said).encode()).hexdigest()
+    return found
+
+
+def proof_seconds(crates: dict[str, list[str]]) -> dict[str, int]:
+    """What the proof of each crate is expected to take on one processor. Only the order of the builds goes by it."""
+    measured = dict(line.split() for line in (TOP / "build/proof_seconds.txt").read_text().splitlines() if line[:1] not in ("", "#"))
+    lines = {name: sum(it.read_text().count("\n") for it in files_of(name)) for name in crates}
+    return {name: int(measured.get(name, 10 + lines[name] // 16)) for name in crates}
+
+
+def longest_chains(crates: dict[str, list[str]], seconds: dict[str, int]) -> dict[str, int]:
+    """How many seconds of one processor stand from each crate up the longest chain of crates above it."""
+    chains = dict.fromkeys(crates, 0)
+    for name in reversed(crates):
+        chains[name] += seconds[name]
+        for below in crates[name]:
+            if below in chains:
+                chains[below] = max(chains[below], chains[name])
+    return chains
+
+
+def command(name: str, crates: dict[str, list[str]], tools: Kit, room: Path, jobs: int) -> list[str]:
+    """The words that build a crate, over libraries in the room and in the kit."""
+    is_program = name == PROGRAM
+    words = [tools.rattle, "build", "--crate-name", name, "src/main.rt" if is_program else "src/lib.rt"]
+    for it in ["std", *crates[name]]:
+        words += ["--extern", f"{it}={room if it in crates else tools.libraries}/{it}.rlib"]
+    words += ["-L", f"dependency={tools.libraries}", "-L", f"dependency={room}"]
+    words += ["--antt-project", tools.logic, "--logic-built", tools.built_logic]
+    words += ["--jobs", str(jobs)]
+    words += ["--toolchain", tools.toolchain, "--backend", "llvm"] if is_program else ["--statements"]
+    return [str(it) for it in [*words, "-o", made(name, room)]]
+
+
+def made(name: str, room: Path) -> Path:
+    """What the build of a crate makes: a library, or the program before it is linked."""
+    return room / (f"{name}.o" if name == PROGRAM else f"{name}.rlib")
+
+
+def is_made(name: str, room: Path, stamp: str) -> bool:
+    said = room / f"{name}.sum"
+    return made(name, room).exists() and said.is_file() and said.read_text() == stamp
+
+
+def clear(name: str, room: Path) -> None:
+    (room / f"{name}.sum").unlink(missing_ok=True)
+    if made(name, room).is_dir():
+        shutil.rmtree(made(name, room))
+
+
+class Build:
+    """The crates that are built, those that are under way, and those that are left, by the longest chain."""
+
+    def __init__(self, room: Path):
+        self.room, self.tools, self.crates = room, kit(), crates_below()
+        self.sums, self.seconds = sums(self.crates, self.tools), proof_seconds(self.crates)
+        self.chains = longest_chains(self.crates, self.seconds)
+        self.processors = len(os.sched_getaffinity(0))
+        self.built = {it for it in self.crates if is_made(it, room, self.sums[it])}
+        self.left = sorted(set(self.crates) - self.built, key=lambda it: -self.chains[it])
+        self.running: dict[str, tuple[subprocess.Popen, int]] = {}
+        self.began = time.monotonic()
+
+    def say(self, what: str) -> None:
+        print(f"== {time.monotonic() - self.began:.0f} s: {what}", flush=True)
+
+    def ready(self) -> list[str]:
+        return [it for it in self.left if all(below in self.built or below not in self.crates for below in self.crates[it])]
+
+    def begin_ready(self) -> None:
+        """Begins what can be built, as long as there are fewer jobs than processors and two. Where several crates have long chains,
+        each has processors by what its own proof takes, but at least an even share."""
+        ready = self.ready()
+        able = sorted([*ready, *self.running], key=lambda it: -self.chains[it])
+        peers = [it for it in able if self.chains[it] >= PEER * self.chains[able[0]]]
+        together = sum(self.seconds[it] for it in peers)
+        for name in ready:
+            if self.running and sum(it for _, it in self.running.values()) >= self.processors + 2:
+                return
+            if name not in peers:
+                self.begin(name, 1, LAST_RIGHT)
+                continue
+            share = math.ceil(self.processors * self.seconds[name] / together)
+            jobs = min(max(share, self.processors // len(peers)), MOST_JOBS)
+            self.begin(name, jobs, min(peers.index(name), LAST_RIGHT))
+
+    def begin(self, name: str, jobs: int, niceness: int) -> None:
+        clear(name, self.room)
+        words = ["nice", "-n", str(niceness), *command(name, self.crates, self.tools, self.room, jobs)]
+        self.say(f"{name}, {jobs} jobs")
+        with (self.room / f"{name}.log").open("w") as log:
+            process = subprocess.Popen(words, cwd=TOP / "crates" / name, stdin=subprocess.DEVNULL, stdout=log, stderr=log)
+        self.running[name] = process, jobs
+        self.left.remove(name)
+
+    def ended(self) -> tuple[str, int]:
+        """The name of the next crate whose build ends, and its status."""
+        pid, said, usage = os.wait4(-1, 0)
+        name = next(it for it, (process, _) in self.running.items() if process.pid == pid)
+        process, _ = self.running.pop(name)
+        process.returncode = os.waitstatus_to_exitcode(said)
+        self.say(f"{name}: status {process.returncode}, {usage.ru_utime + usage.ru_stime:.0f} s of one processor")
+        return name, process.returncode
+
+    def whole(self) -> int:
+        """Builds what is left, and answers the status of the first build that fails, or 0."""
+        while self.left or self.running:
+            self.begin_ready()
+            name, status = self.ended()
+            if status:
+                for other, _ in self.running.values():
+                    other.terminate()
+                print((self.room / f"{name}.log").read_text(errors="replace"))
+                return status
+            (self.room / f"{name}.sum").write_text(self.sums[name])
+            self.built.add(name)
+        return 0
+
+
+def link(tools: Kit, room: Path) -> int:
+    """Links the program into the folder where `rt run` would make it, and answers the linker's status."""
+    program = TOP / "crates" / PROGRAM / "out" / PROGRAM
+    program.parent.mkdir(parents=True, exist_ok=True)
+    words = [tools.linker, "--target", TARGET, "--toolchain", tools.toolchain, "-o", program, made(PROGRAM, room), *tools.c_libraries]
+    return subprocess.run(words, stdin=subprocess.DEVNULL).returncode
+
+
+def room_of_checkout() -> Path:
     caches = Path(os.environ.get("XDG_CACHE_HOME") or Path.home() / ".cache")
     return caches / "calspan" / hashlib.sha256(str(TOP).encode()).hexdigest()[:16]
 
 
-def copied(crates: dict[str, list[str]], copy: Path) -> Path:
-    """Brings a copy of these crates up to date, without the edits that are to fail. What was built in it stays."""
-    for name in crates:
-        to = copy / "crates" / name
-        to.mkdir(parents=True, exist_ok=True)
-        for old in to.iterdir():
-            if old.is_dir() and old.name != "out":
-                shutil.rmtree(old)
-        shutil.copytree(TOP / "crates" / name, to, ignore=shutil.ignore_patterns("out", "must-fail"), dirs_exist_ok=True)
-    lines = (TOP / "crates.txt").read_text().splitlines()
-    (copy / "crates.txt").write_text("".join(f"{it}\n" for it in lines if re.split("[ :]", it)[0] in crates))
-    shutil.copy(TOP / "HANDLES", copy)
-    return copy
-
-
-def longest_chains(crates: dict[str, list[str]]) -> dict[str, int]:
-    """How many lines stand from each crate up the longest chain of crates above it."""
-    chains = dict.fromkeys(crates, 0)
-    for name in reversed(crates):
-        files = [*(TOP / "crates" / name).rglob("*.rt"), *(TOP / "crates" / name).rglob("*.antt")]
-        chains[name] += sum(it.read_text().count("\n") for it in files if "out" not in it.parts)
-        for below in crates[name]:
-            chains[below] = max(chains[below], chains[name])
-    return chains
-
-
-def begin(name: str, copy: Path, jobs: int) -> subprocess.Popen:
-    words = ["rt", "run", "--jobs", str(jobs), "--", "span"] if name == PROGRAM else ["rt", "lib", "--jobs", str(jobs)]
-    print(f"== {name}, {jobs} jobs", flush=True)
-    return subprocess.Popen(words, cwd=copy / "crates" / name, stdin=subprocess.DEVNULL)
-
-
-def hand_out(copy: Path) -> None:
-    made = TOP / "crates" / PROGRAM / "out" / PROGRAM
-    made.parent.mkdir(parents=True, exist_ok=True)
-    shutil.copy(copy / "crates" / PROGRAM / "out" / PROGRAM, made)
-
-
-def ended(running: dict[str, tuple[subprocess.Popen, int, Path]]) -> str:
-    """The name of the next crate whose build ends."""
-    while True:
-        for name, (process, _, _) in running.items():
-            if process.poll() is not None:
-                return name
-        time.sleep(0.2)
-
-
-def build(room: Path) -> int:
-    crates = libraries()
-    chains = longest_chains(crates)
-    processors = len(os.sched_getaffinity(0))
-    copies = [copied(crates, room / str(number)) for number in range(min(processors, MOST_JOBS))]
-    left, built, running = sorted(crates, key=lambda it: -chains[it]), set(), {}
-    while left or running:
-        idle = processors - sum(jobs for _, jobs, _ in running.values())
-        ready = [it for it in left if built.issuperset(crates[it])]
-        while ready and copies and idle > 0:
-            name, copy, jobs = ready[0], copies.pop(), max(1, min(MOST_JOBS, idle - len(ready) + 1))
-            running[name] = begin(name, copy, jobs), jobs, copy
-            left.remove(name)
-            ready, idle = ready[1:], idle - jobs
-        name = ended(running)
-        process, _, copy = running.pop(name)
-        print(f"== {name}: status {process.returncode}", flush=True)
-        if process.returncode:
-            for other, _, _ in running.values():
-                other.terminate()
-            return process.returncode
-        built.add(name)
-        copies.append(copy)
-        if name == PROGRAM:
-            hand_out(copy)
-    return 0
-
-
 def main() -> int:
-    room = cache()
+    room = room_of_checkout()
     room.mkdir(parents=True, exist_ok=True)
     with (room / "lock").open("w") as lock:
         fcntl.flock(lock, fcntl.LOCK_EX)
-        return build(room)
+        build = Build(room)
+        return build.whole() or link(build.tools, room)
 
 
 if __name__ == "__main__":
