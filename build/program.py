@@ -153,17 +153,16 @@ class Build:
         return [it for it in self.left if all(below in self.built or below not in self.crates for below in self.crates[it])]
 
     def begin_ready(self) -> None:
-        """Begins what can be built, as long as there are fewer jobs than processors and two. Where several crates have long chains,
-        each has processors by what its own proof takes, but at least an even share."""
+        """Begins what can be built. Where several crates have long chains, each has processors by what its own proof takes, but at least an
+        even share. Others begin as long as there are fewer jobs than processors and two."""
         ready = self.ready()
         able = sorted([*ready, *self.running], key=lambda it: -self.chains[it])
         peers = [it for it in able if self.chains[it] >= PEER * self.chains[able[0]]]
         together = sum(self.seconds[it] for it in peers)
         for name in ready:
-            if self.running and sum(it for _, it in self.running.values()) >= self.processors + 2:
-                return
             if name not in peers:
-                self.begin(name, 1, LAST_RIGHT)
+                if sum(it for _, it in self.running.values()) < self.processors + 2:
+                    self.begin(name, 1, LAST_RIGHT)
                 continue
             share = math.ceil(self.processors * self.seconds[name] / together)
             jobs = min(max(share, self.processors // len(peers)), MOST_JOBS)
