@@ -154,15 +154,18 @@ class Build:
 
     def begin_ready(self) -> None:
         """Begins what can be built. Where several crates have long chains, each has processors by what its own proof takes, but at least an
-        even share. Others begin as long as there are fewer jobs than processors and two."""
+        even share, and none begins where all have jobs: more than four proofs at once slow one another. Others begin beside one that is alone."""
         ready = self.ready()
         able = sorted([*ready, *self.running], key=lambda it: -self.chains[it])
         peers = [it for it in able if self.chains[it] >= PEER * self.chains[able[0]]]
         together = sum(self.seconds[it] for it in peers)
         for name in ready:
+            under_way = sum(it for _, it in self.running.values())
             if name not in peers:
-                if sum(it for _, it in self.running.values()) < self.processors + 2:
+                if under_way < self.processors + (2 if len(peers) == 1 else 0):
                     self.begin(name, 1, LAST_RIGHT)
+                continue
+            if under_way >= self.processors:
                 continue
             share = math.ceil(self.processors * self.seconds[name] / together)
             jobs = min(max(share, self.processors // len(peers)), MOST_JOBS)
