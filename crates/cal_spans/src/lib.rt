@@ -2,6 +2,7 @@
 //! fault.
 #![tactic(auto)]
 
+pub mod laws;
 mod span_error;
 
 pub use span_error::{BagSide, SpanError};
