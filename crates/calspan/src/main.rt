@@ -5,8 +5,7 @@ ghost use Rattle.std.specs.Prelude.{◌≡◌, ◌≢◌};
 ghost use Rattle.std.specs.IoError.{error_kind};
 
 use byte_io::{StdSink, StdSource};
-use line_answers::{Status, code};
-use span_run::run;
+use span_run::{Status, code, run};
 use std::io::ErrorKind;
 use std::process::ExitCode;
 use std::{env, io};

@@ -1,1 +1,4 @@
 pub mod Replies
+pub mod Generator
+pub mod TotalBounds
+pub mod Laws

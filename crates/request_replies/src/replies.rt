@@ -11,11 +11,11 @@ ghost use Rattle.request_lines.specs.RequestSaid.{header_said};
 ghost use Rattle.request_parts.specs.Parts.{AreNamed, IsDay};
 ghost use Rattle.request_replies.specs.Replies.{SaysSpan, IsReply};
 
+use crate::kinds::{name_dates, show_days};
 use cal_kinds::AnyCalendarKind;
 use cal_tables::Tables;
 use cal_types::DateFields;
 use reply_texts::{Pending, push_all, push_day, push_duration, push_error};
-use request_dates::{name_dates, show_days};
 use request_lines::Header;
 use request_parts::{DayParts, SpanParts};
 

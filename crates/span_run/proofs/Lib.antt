@@ -1,3 +1,8 @@
+mod AnswerLemmas
+mod RowTakingLemmas
+mod TableOrderLemmas
+mod TableLemmas
+mod RowYearLemmas
 mod KnownLemmas
 mod RunLemmas
 mod EndLemmas

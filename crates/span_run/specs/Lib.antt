@@ -1,3 +1,11 @@
+pub mod Status
+pub mod RowYears
+pub mod TableRows
+pub mod TableTexts
+pub mod Answers
+pub mod RowsSaid
+pub mod Progress
+pub mod Laws
 pub mod Command
 pub mod Written
 pub mod Underway

@@ -3,14 +3,14 @@ use Rattle.std.specs.Prelude.{◌≡◌, ◌≢◌, ℕ, ◌<◌, ◌≤◌, Boo
 use Rattle.std.specs.Io.KnownBytes.{Appends, Consumes, IsAtEnd}
 use Rattle.byte_io.specs.Bytes.{IsPrefix}
 use Rattle.byte_io.specs.Faults.{Rose}
-use Rattle.line_answers.specs.Answers.{IsAnswers}
-use Rattle.request_totals.specs.Generator.{IsGenerated}
+use Rattle.span_run.specs.Answers.{IsAnswers}
+use Rattle.request_replies.specs.Generator.{IsGenerated}
 use Rattle.request_lines.specs.Lines.{IsLine, Nothing, GivesRow}
 use Rattle.request_lines.specs.Rows.{Row}
 use Rattle.line_reader.specs.Lines.{lines_in}
 use Rattle.span_run.specs.Written.{WrotePrefix}
-use Rattle.line_answers.specs.declared.status.Status.{Status}
-use Rattle.line_answers.specs.declared.status.Status.TheVariants.{Done, Refused, Words, ReadFault, WriteFault, NoMemory, TableRefused, TooLong}
+use Rattle.span_run.specs.declared.status.Status.{Status}
+use Rattle.span_run.specs.declared.status.Status.TheVariants.{Done, Refused, Words, ReadFault, WriteFault, NoMemory, TableRefused, TooLong}
 
 -- the most bytes that a run takes
 abbrev pub limit : ℕ

@@ -6,30 +6,30 @@ ghost use Rattle.line_reader.specs.Lines.{lines_in};
 ghost use Rattle.line_reader.specs.Reader.{IsAt, lines_given};
 ghost use Rattle.std.specs.Io.KnownBytes.{Consumes};
 ghost use Rattle.cal_tables.specs.Kinds.{table_contents};
-ghost use Rattle.line_answers.specs.Answers.{Answering, Ended, Stage};
+ghost use Rattle.span_run.specs.Answers.{Answering, Ended, Stage};
 ghost use Rattle.span_run.specs.Command.{command_of};
-ghost use Rattle.line_answers.specs.RowsSaid.{rows_said};
+ghost use Rattle.span_run.specs.RowsSaid.{rows_said};
 ghost use Rattle.span_run.specs.Stages.{Follows, MetEnd, MetLast, MetRequest, Refuses};
-ghost use Rattle.line_answers.specs.Progress.{stage_of};
-ghost use Rattle.line_answers.specs.TableRows as table;
-ghost use Rattle.line_answers.specs.TableRows.{contents_of};
-ghost use Rattle.line_answers.specs.TableTexts.{row_refusal, table_refusal};
+ghost use Rattle.span_run.specs.Progress.{stage_of};
+ghost use Rattle.span_run.specs.TableRows as table;
+ghost use Rattle.span_run.specs.TableRows.{contents_of};
+ghost use Rattle.span_run.specs.TableTexts.{row_refusal, table_refusal};
 ghost use Rattle.span_run.specs.Written.{Stands, Concludes, with_open_line};
 ghost use Rattle.span_run.specs.Run.{Outside, outside, Serves, Generates, NoFault, IsAnswered, RowComesFirst, limit};
 ghost use Rattle.span_run.specs.Underway.{IsUnderway};
 
+use crate::answers::{Answered, Progress};
 use crate::command::{Command, read_command};
 use crate::gather::{Gathered, gather};
 use crate::pending::{flush, respond, write_all};
+use crate::status::Status;
+use crate::table::{RowFault, TableRefusal, push_row_refusal, push_table_refusal};
+use crate::table_rows::TableRows;
 use byte_io::{Failed, Sink, Source};
 use cal_tables::Tables;
-use line_answers::{
-    Answered, Progress, RowFault, Status, TableRefusal, TableRows, push_row_refusal,
-    push_table_refusal,
-};
 use line_reader::{Filled, LineBuffer, Next, Reader};
 use reply_texts::Pending;
-use request_totals::{push_totals, totals_over};
+use request_replies::{push_totals, totals_over};
 use std::alloc::Global;
 
 // Writes all that is pending, behind the last line.

@@ -11,8 +11,8 @@ use known_dates::{
     GREGORIAN, IN_DAYS, ISO, JULIAN, REJECT, calendar_of, date_named, duration, fields, has_parts,
     is_named, number_of, parts_of,
 };
-use request_dates::{name_dates, show_days};
 use request_parts::{DayParts, SpanParts};
+use request_replies::{name_dates, show_days};
 use std::process::Abort;
 
 /// A year, a month and a day.

@@ -1,5 +1,5 @@
 use Rattle.std.proofs.Common.{List, ℕ, ◌++◌, ap, subst, ◌∙◌}
-use Rattle.request_totals.specs.Generator.{totals_text}
+use Rattle.request_replies.specs.Generator.{totals_text}
 use Rattle.span_run.specs.Written.{WrotePrefix}
 use Rattle.span_run.proofs.serving.generate.Goals as goal
 

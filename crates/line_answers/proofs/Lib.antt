@@ -1,5 +1,0 @@
-pub mod AnswerLemmas
-mod RowTakingLemmas
-mod TableOrderLemmas
-pub mod TableLemmas
-pub mod RowYearLemmas

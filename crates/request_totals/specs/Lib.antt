@@ -1,3 +1,0 @@
-pub mod Generator
-pub mod TotalBounds
-pub mod Laws
