@@ -154,13 +154,11 @@ class Build:
 
     def begin_ready(self) -> None:
         """Begins what can be built. Where several crates have long chains, each has processors by what its own proof takes, but at least an
-        even share, and none begins where all have jobs: more than four proofs at once slow one another. The last of them have two jobs, since
-        those before them end while they run. Others begin beside one that is alone."""
+        even share, and none begins where all have jobs: more than four proofs at once slow one another. Others begin beside one that is alone."""
         ready = self.ready()
         able = sorted([*ready, *self.running], key=lambda it: -self.chains[it])
         peers = [it for it in able if self.chains[it] >= PEER * self.chains[able[0]]]
         together = sum(self.seconds[it] for it in peers)
-        waiting = sum(1 for it in ready if it in peers)
         for name in ready:
             under_way = sum(it for _, it in self.running.values())
             if name not in peers:
@@ -170,10 +168,8 @@ class Build:
             if under_way >= self.processors:
                 continue
             share = math.ceil(self.processors * self.seconds[name] / together)
-            least = 2 if waiting < self.processors else 1
-            jobs = min(max(share, self.processors // len(peers), least), MOST_JOBS)
+            jobs = min(max(share, self.processors // len(peers)), MOST_JOBS)
             self.begin(name, jobs, min(peers.index(name), LAST_RIGHT))
-            waiting -= 1
 
     def begin(self, name: str, jobs: int, niceness: int) -> None:
         clear(name, self.room)
