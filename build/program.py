@@ -1,5 +1,6 @@
 #!/usr/bin/env python3
 """Proves and builds the program `calspan`: each crate that it stands on once, crates that don't stand on one another side by side.
+With names of libraries as arguments, it proves these and what they stand on in its place.
 
 A crate is built as soon as the crates below it are. Where one crate has by far the longest chain of others behind it, the chain decides
 when the program is there: so that crate has all processors, and others run beside it with less right to them. The libraries have
@@ -59,11 +60,13 @@ def kit() -> Kit:
     )
 
 
-def crates_below() -> dict[str, list[str]]:
-    """The crates that the program stands on, and itself, each with its libraries; a library stands before those above it."""
+def crates_below(tops: list[str]) -> dict[str, list[str]]:
+    """Some crates and all that they stand on, each with its libraries; a library stands before those above it."""
     lines = (line.split("#")[0] for line in (TOP / "crates.txt").read_text().splitlines())
     listed = {name.strip(): names.split() for name, colon, names in (line.partition(":") for line in lines) if colon}
-    wanted = {PROGRAM}
+    if unlisted := set(tops) - set(listed):
+        sys.exit(f"crates.txt doesn't list {', '.join(sorted(unlisted))}")
+    wanted = set(tops)
     for name in reversed(listed):
         if name in wanted:
             wanted.update(listed[name])
@@ -136,8 +139,8 @@ def clear(name: str, room: Path) -> None:
 class Build:
     """The crates that are built, those that are under way, and those that are left, by the longest chain."""
 
-    def __init__(self, room: Path):
-        self.room, self.tools, self.crates = room, kit(), crates_below()
+    def __init__(self, room: Path, tops: list[str]):
+        self.room, self.tools, self.crates = room, kit(), crates_below(tops)
         self.sums, self.seconds = sums(self.crates, self.tools), proof_seconds(self.crates)
         self.chains = longest_chains(self.crates, self.seconds)
         self.processors = len(os.sched_getaffinity(0))
@@ -217,14 +220,14 @@ def room_of_checkout() -> Path:
     return caches / "calspan" / hashlib.sha256(str(TOP).encode()).hexdigest()[:16]
 
 
-def main() -> int:
+def main(tops: list[str]) -> int:
     room = room_of_checkout()
     room.mkdir(parents=True, exist_ok=True)
     with (room / "lock").open("w") as lock:
         fcntl.flock(lock, fcntl.LOCK_EX)
-        build = Build(room)
-        return build.whole() or link(build.tools, room)
+        build = Build(room, tops)
+        return build.whole() or (link(build.tools, room) if PROGRAM in tops else 0)
 
 
 if __name__ == "__main__":
-    sys.exit(main())
+    sys.exit(main(sys.argv[1:] or [PROGRAM]))

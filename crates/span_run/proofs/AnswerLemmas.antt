@@ -11,7 +11,7 @@ use Rattle.cal_spans.proofs.SpanLemmas.{span-exists, span-unique}
 use Rattle.request_lines.specs.Lines.{Line, Nothing, GivesRow, Requests, RequestLine, Long, Asks, Malformed, line_of}
 use Rattle.request_lines.proofs.LineLemmas.{line_says, line_is}
 use Rattle.reply_texts.specs.DateTexts.{reply_text, is_refusal}
-use Rattle.request_replies.specs.Replies.{options_of}
+use Rattle.span_run.specs.Replies.{options_of}
 use Rattle.request_lines.specs.Rows.{Row, China, Korea, Hijri, Persian, Era}
 use Rattle.span_run.specs.RowYears.{IsHijriYear, IsEastAsianYear}
 use Rattle.span_run.proofs.RowYearLemmas.{hijri_year-decided, hijri_year-unique, east_asian_year-decided, east_asian_year-unique}

@@ -1,3 +1,4 @@
+mod GeneratorLemmas
 mod AnswerLemmas
 mod RowTakingLemmas
 mod TableOrderLemmas

@@ -1,3 +1,6 @@
+pub mod Replies
+pub mod Generator
+pub mod TotalBounds
 pub mod Status
 pub mod RowYears
 pub mod TableRows

@@ -1,5 +1,0 @@
-use Rattle.request_replies.proofs.GeneratorLemmas.{line_exists, line_unique}
-use Rattle.request_replies.proofs.laws.every_number_has_one_line.Goals as goal
-
-pub returns : goal.returns
-returns c n = (line_exists n, line_unique n)

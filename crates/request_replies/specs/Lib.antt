@@ -1,4 +1,0 @@
-pub mod Replies
-pub mod Generator
-pub mod TotalBounds
-pub mod Laws
