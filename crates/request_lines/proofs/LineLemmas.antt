@@ -7,7 +7,7 @@ use borrow.Author.Tests.{ltb-true, ltb-false}
 use Rattle.request_lines.specs.Words.{words_of}
 use Rattle.request_lines.specs.Requests.{Request, request_read}
 use Rattle.request_lines.specs.Rows.{Row, row_read}
-use Rattle.request_lines.specs.Lines.{Line, Nothing, GivesRow, Requests, Long, is_silent, is_row, SaysRequest, SaysNone, SaysAs, IsLine, asked, said_by, line_of}
+use Rattle.request_lines.specs.Lines.{Line, Nothing, GivesRow, Requests, RequestLine, Long, Asks, Malformed, is_silent, is_row, SaysRequest, SaysNone, SaysAs, IsLine, asked, said_by, line_of}
 use Rattle.request_lines.proofs.FormLemmas.{one_form}
 
 pub silent_is : (line : List ℕ) → is_silent line ≡ true → line_of line ≡ Nothing
@@ -21,11 +21,22 @@ loud_is line e = ap (λ t. cond t Nothing (cond (nat_lt 512 (length line)) (Requ
 pub short_is : (line : List ℕ) → is_silent line ≡ false → nat_lt 512 (length line) ≡ false → line_of line ≡ said_by (strip_carriage_return line)
 short_is line loud short = loud_is line loud ∙ ap (λ t. cond t (Requests Long) (said_by (strip_carriage_return line))) short
 
+pub long_is : (line : List ℕ) → is_silent line ≡ false → nat_lt 512 (length line) ≡ true → line_of line ≡ Requests Long
+long_is line loud long = loud_is line loud ∙ ap (λ t. cond t (Requests Long) (said_by (strip_carriage_return line))) long
+
 pub row_said_by : (text : List ℕ) (row : Option Row) → is_row text ≡ true → row ≡ row_read (words_of text) → GivesRow row ≡ said_by text
 row_said_by text row e reads = ap GivesRow reads ∙ ap (λ t. cond t (GivesRow (row_read (words_of text))) (asked (request_read (words_of text)))) (sym e)
 
 pub request_said_by : (text : List ℕ) (request : Option Request) → is_row text ≡ false → request ≡ request_read (words_of text) → asked request ≡ said_by text
 request_said_by text request e reads = ap asked reads ∙ ap (λ t. cond t (GivesRow (row_read (words_of text))) (asked (request_read (words_of text)))) (sym e)
+
+-- a line that is no row line is a request line
+pub asked_by : (text : List ℕ) → is_row text ≡ false → (request : RequestLine) × (said_by text ≡ Requests request)
+asked_by text e = by (request_read (words_of text)) refl
+  where
+    by : (o : Option Request) → request_read (words_of text) ≡ o → (request : RequestLine) × (said_by text ≡ Requests request)
+    by None q = (Malformed, sym (request_said_by text None e (sym q)))
+    by (Some r) q = (Asks r, sym (request_said_by text (Some r) e (sym q)))
 
 -- a line of two bytes is more than a carriage return
 strip_some : (line : List ℕ) → 2 ≤ length line → (length (strip_carriage_return line) == 0) ≡ false

@@ -14,7 +14,7 @@ mod row;
 mod words;
 
 pub use era_row::{EraRow, RowDate};
-pub use line::{Line, RequestLine, is_silent, read_line};
+pub use line::{Line, LineKind, RequestLine, is_silent, line_kind, read_line};
 pub use request::{Header, Request, read_request};
 pub use row::{Row, RowKind, YearRow, read_row};
 pub use words::{Words, byte, int, number};

@@ -31,7 +31,16 @@ pub enum Line<'a> {
     Requests(RequestLine),
 }
 
-ghost use Rattle.request_lines.specs.LineSaid.{line_said};
+/// Which kind of line a line is that isn't silent.
+#[derive(Clone, Copy, Debug)]
+pub enum LineKind<'a> {
+    /// It is a row line, with its row, if it says one.
+    GivesRow(Option<Row<'a>>),
+    /// It is a request line, of which nothing is read.
+    Requests,
+}
+
+ghost use Rattle.request_lines.specs.LineSaid.{line_said, IsKind};
 
 // Without the one carriage return at its end.
 fn without_return(line: &[u8]) -> &[u8]
@@ -88,4 +97,20 @@ pub fn read_line<'a>(
         Some(header) => Line::Requests(RequestLine::Asks(header)),
         None => Line::Requests(RequestLine::Malformed),
     }
+}
+
+/// Whether a line that isn't silent is a row line or a request line, by the rules of [`read_line`]: a row line is read,
+/// and a request line is left as it is, to be read once it is known what stands before it.
+pub fn line_kind(line: &LineBuffer) -> LineKind<'_>
+    ensures { (whole : List ℕ) → Holds line.now whole → line_is_silent whole ≡ false
+        → IsKind result (line_of whole) }
+{
+    if line.over {
+        return LineKind::Requests;
+    }
+    let text = without_return(&line.prefix);
+    if is_row(text) {
+        return LineKind::GivesRow(read_row(text));
+    }
+    LineKind::Requests
 }
