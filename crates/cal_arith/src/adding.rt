@@ -16,8 +16,7 @@ use crate::months::{YearMonth, months_away};
 use crate::years::{YearShapes, Years};
 use cal_days::RataDie;
 use cal_days::ranges::{
-    FIRST_VALID_DAY, LAST_VALID_DAY, MAX_ADDED_DAYS, MAX_ADDED_MONTHS, MAX_ADDED_YEARS,
-    MAX_FIELD_YEAR,
+    are_addable_days, are_addable_months, are_addable_years, is_field_year, is_valid_day,
 };
 use cal_types::{DateAddError, DateDuration, Overflow};
 
@@ -26,9 +25,9 @@ fn can_be_added(duration: DateDuration) -> bool
     ensures { result ≡ is_addable duration }
 {
     let days = 7 * u64::from(duration.weeks) + u64::from(duration.days);
-    duration.years <= MAX_ADDED_YEARS
-        && duration.months <= MAX_ADDED_MONTHS
-        && days <= u64::from(MAX_ADDED_DAYS)
+    are_addable_years(duration.years)
+        && are_addable_months(duration.months)
+        && are_addable_days(days)
 }
 
 /// The date of a day number, where it is valid.
@@ -36,8 +35,7 @@ fn valid_date<C: Years>(day: RataDie, cal: &C) -> Result<Ymd<C::YearInfo>, DateA
     ensures on { let y = C.years cal.now in IsValidOn y.list day (answer_of y result) }
     ensures belongs { IfOk result (λ d. Belongs (C.years cal.now) d) }
 {
-    let number = day.to_i64_date();
-    if number < FIRST_VALID_DAY || number > LAST_VALID_DAY {
+    if !is_valid_day(day.to_i64_date()) {
         return Err(DateAddError::Overflow);
     }
     Ok(from_rata_die(day, cal))
@@ -133,7 +131,7 @@ fn moved_year(year: i32, years: u32, direction: Direction) -> i32
 pub fn can_be_named(year: i32) -> bool
     ensures { result ≡ is_field_year year }
 {
-    -MAX_FIELD_YEAR <= year && year <= MAX_FIELD_YEAR
+    is_field_year(year)
 }
 
 /// The year so many years later, or earlier, where with the shift it is one that fields may name.

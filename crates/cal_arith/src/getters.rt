@@ -11,7 +11,7 @@ use crate::arithmetic_date::{ArithmeticDate, parts};
 use crate::dates::{Ymd, to_rata_die};
 use crate::years::{DateFieldsResolver, PackWithMD, YearShapes};
 use cal_days::RataDie;
-use cal_days::ranges::{FIRST_VALID_DAY, LAST_VALID_DAY, MAX_COVERED_YEAR};
+use cal_days::ranges::{is_covered_year, is_valid_day};
 use cal_types::Month;
 
 impl<C: DateFieldsResolver> ArithmeticDate<C> {
@@ -136,13 +136,12 @@ pub(crate) fn has_valid_day<C: YearShapes>(date: Ymd<C::YearInfo>, cal: &C) -> b
 fn is_covered(year: i32) -> bool
     ensures { result ≡ is_covered_year year }
 {
-    -MAX_COVERED_YEAR <= year && year <= MAX_COVERED_YEAR
+    is_covered_year(year)
 }
 
 /// Whether a day number is in the valid range.
 pub(crate) fn is_in_range(rd: RataDie) -> bool
     ensures { result ≡ is_valid_day rd }
 {
-    let day = rd.to_i64_date();
-    FIRST_VALID_DAY <= day && day <= LAST_VALID_DAY
+    is_valid_day(rd.to_i64_date())
 }

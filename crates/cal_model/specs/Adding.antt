@@ -1,20 +1,19 @@
 -- Adding a duration to a date.
 -- Source: ECMAScript Temporal's NonISODateAdd.
-use Rattle.std.specs.Prelude.{◌≡◌, ℕ, ◌+◌, ◌*◌, min, Bool, true, false, ◌&&◌, nat_le, nat_lt, Option, None, Some, MatchOption, Result, Ok, Err, ℤ, ◌+ℤ◌}
+use Rattle.std.specs.Prelude.{◌≡◌, ℕ, ◌+◌, ◌*◌, min, Bool, true, false, ◌&&◌, nat_lt, Option, None, Some, MatchOption, Result, Ok, Err, ℤ, ◌+ℤ◌}
 use Rattle.std.specs.Bool.{MatchBool}
 use Rattle.cal_types.specs.declared.options.Overflow.{Overflow}
 use Rattle.cal_types.specs.declared.options.Overflow.TheVariants.{Constrain, Reject}
 use Rattle.cal_types.specs.declared.duration.DateDuration.{DateDuration}
 use Rattle.cal_errors.specs.declared.errors.DateAddError.{DateAddError}
 use Rattle.cal_errors.specs.declared.errors.DateAddError.TheVariants as fault
-use Rattle.cal_days.specs.declared.ranges.TheConstants.{MAX_ADDED_YEARS, MAX_ADDED_MONTHS, MAX_ADDED_DAYS}
-use Rattle.cal_days.specs.Day.{is_valid_day, is_field_year}
+use Rattle.cal_days.specs.Day.{is_valid_day, is_field_year, are_addable_years, are_addable_months, are_addable_days}
 use Rattle.cal_model.specs.CalendarList.{spot, CalendarList, Date, date, month_at, month_length, day_number, IsOn, IsMonthsAfter}
 use Rattle.cal_model.specs.Difference.{toward}
 
--- a duration that is small enough to be added
+-- a duration that is small enough to be added: at most 2080000 years, 27040000 months, and 838240000 days with seven for a week
 abbrev pub is_addable : DateDuration → Bool
-is_addable u = nat_le u.years MAX_ADDED_YEARS && nat_le u.months MAX_ADDED_MONTHS && nat_le (7 * u.weeks + u.days) MAX_ADDED_DAYS
+is_addable u = are_addable_years u.years && are_addable_months u.months && are_addable_days (7 * u.weeks + u.days)
 
 -- whether a day that the month lacks is refused
 abbrev pub is_reject : Overflow → Bool

@@ -10,3 +10,6 @@ pub mod WeekNumber
 pub mod Weekday
 pub mod WeekdaySet
 pub mod Year
+pub mod Windows
+pub mod WindowDays
+pub mod Leaping

@@ -3,6 +3,16 @@ use Rattle.std.specs.Prelude.{ℕ, zero, suc, Bool, nat_eq, List, [], ◌∷◌}
 use Rattle.cal_types.specs.declared.weekday.Weekday.{Weekday}
 use Rattle.cal_types.specs.declared.weekday.Weekday.TheVariants.{Monday, Tuesday, Wednesday, Thursday, Friday, Saturday, Sunday}
 
+-- the number of a weekday in ISO 8601: from 1 for Monday to 7 for Sunday
+abbrev pub weekday_number : Weekday → ℕ
+weekday_number Monday = 1
+weekday_number Tuesday = 2
+weekday_number Wednesday = 3
+weekday_number Thursday = 4
+weekday_number Friday = 5
+weekday_number Saturday = 6
+weekday_number Sunday = 7
+
 -- how many days a weekday lies after Sunday
 abbrev pub days_since_sunday : Weekday → ℕ
 days_since_sunday Sunday = 0

@@ -8,6 +8,7 @@ pub mod day;
 pub mod duration;
 mod duration_text;
 pub mod fields;
+pub mod leaping;
 pub mod month;
 pub mod month_code;
 pub mod month_info;
@@ -16,6 +17,7 @@ pub mod tiny;
 pub mod week_information;
 pub mod weekday;
 pub mod weekday_set;
+pub mod window;
 pub mod year;
 
 pub use cal_algorithms::{
@@ -29,6 +31,7 @@ pub use cal_errors::{
 pub use day::{DayOfMonth, DayOfWeekInMonth, DayOfYear, IsoWeekOfYear};
 pub use duration::{DateDuration, DateDurationUnit};
 pub use fields::DateFields;
+pub use leaping::Leaping;
 pub use month::Month;
 pub use month_code::MonthCode;
 pub use month_info::{LeapStatus, MonthInfo};
@@ -39,4 +42,5 @@ pub use tiny::TinyAsciiStr;
 pub use week_information::{WeekInformation, WeekdaySetIterator};
 pub use weekday::Weekday;
 pub use weekday_set::WeekdaySet;
+pub use window::Window;
 pub use year::{CyclicYear, EraYear, IntoYearInfo, YearAmbiguity, YearInfo, YearInput};

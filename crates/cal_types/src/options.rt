@@ -48,7 +48,7 @@ impl Default for MissingFieldsStrategy {
 }
 
 /// How a date is made of fields. `None` stands for the option's default.
-#[derive(Clone, Copy, Debug, PartialEq, Default)]
+#[derive(Clone, Copy, Debug, PartialEq)]
 pub struct DateFromFieldsOptions {
     /// A month or a day that isn't there; the default is [`Overflow::Reject`].
     pub overflow: Option<Overflow>,
@@ -56,17 +56,53 @@ pub struct DateFromFieldsOptions {
     pub missing_fields_strategy: Option<MissingFieldsStrategy>,
 }
 
+/// Both are left out.
+impl Default for DateFromFieldsOptions {
+    ghost use Rattle.std.specs.Prelude.{◌≡◌, None};
+
+    ghost is_default = { λ options. (options.overflow ≡ None) × (options.missing_fields_strategy ≡ None) };
+
+    fn default() -> DateFromFieldsOptions {
+        DateFromFieldsOptions {
+            overflow: None,
+            missing_fields_strategy: None,
+        }
+    }
+}
+
 /// How a duration is added to a date. `None` stands for the option's default.
-#[derive(Clone, Copy, Debug, PartialEq, Default)]
+#[derive(Clone, Copy, Debug, PartialEq)]
 pub struct DateAddOptions {
     /// A month or a day that isn't there once years and months are added; the default is
     /// [`Overflow::Constrain`].
     pub overflow: Option<Overflow>,
 }
 
+/// It is left out.
+impl Default for DateAddOptions {
+    ghost use Rattle.std.specs.Prelude.{◌≡◌, None};
+
+    ghost is_default = { λ options. options.overflow ≡ None };
+
+    fn default() -> DateAddOptions {
+        DateAddOptions { overflow: None }
+    }
+}
+
 /// How the difference of two dates is counted. `None` stands for the option's default.
-#[derive(Clone, Copy, Debug, PartialEq, Default)]
+#[derive(Clone, Copy, Debug, PartialEq)]
 pub struct DateDifferenceOptions {
     /// The largest unit that the duration uses; the default is [`DateDurationUnit::Days`].
     pub largest_unit: Option<DateDurationUnit>,
+}
+
+/// It is left out.
+impl Default for DateDifferenceOptions {
+    ghost use Rattle.std.specs.Prelude.{◌≡◌, None};
+
+    ghost is_default = { λ options. options.largest_unit ≡ None };
+
+    fn default() -> DateDifferenceOptions {
+        DateDifferenceOptions { largest_unit: None }
+    }
 }

@@ -1,8 +1,8 @@
 //! Days of the week.
 
-ghost use Rattle.std.specs.Prelude.{◌≡◌, ◌<◌, pos};
+ghost use Rattle.std.specs.Prelude.{◌≡◌, ◌<◌, ◌≤◌, pos};
 ghost use Rattle.std.specs.Int.{int_rem_euclid};
-ghost use Rattle.cal_types.specs.Weekday.{days_since_sunday, next_weekday};
+ghost use Rattle.cal_types.specs.Weekday.{days_since_sunday, next_weekday, weekday_number};
 
 use cal_days::RataDie;
 
@@ -39,6 +39,14 @@ impl Weekday {
             5 => Weekday::Friday,
             _ => Weekday::Saturday,
         }
+    }
+
+    /// The weekday's number in ISO 8601, from 1 for Monday to 7 for Sunday.
+    pub const fn number(self) -> u8
+        ensures value { result ≡ weekday_number self }
+        ensures range { (1 ≤ result) × (result ≤ 7) }
+    {
+        self as u8
     }
 
     /// How many days the weekday lies after Sunday, from 0 to 6.

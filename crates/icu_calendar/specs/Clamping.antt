@@ -1,13 +1,12 @@
 -- Day numbers of any size, and answers of calls that change a date.
-use Rattle.std.specs.Prelude.{ℤ, int_lt, if◌then◌else◌, Result, Ok, Err}
-use Rattle.cal_days.specs.declared.ranges.TheConstants.{FIRST_VALID_DAY, LAST_VALID_DAY}
+use Rattle.std.specs.Prelude.{ℤ, pos, neg_ℤ, int_lt, if◌then◌else◌, Result, Ok, Err}
 use Rattle.cal_model.specs.CalendarList.{Date}
 
--- the nearest day number of the valid range
+-- the nearest day number of the valid range, from -999999-01-01 to 999999-12-31 in the proleptic Gregorian calendar
 abbrev pub clamped_day : ℤ → ℤ
 clamped_day n =
-    let first = FIRST_VALID_DAY in
-    let last = LAST_VALID_DAY in
+    let first = neg_ℤ (pos 365242499) in
+    let last = pos 365242134 in
     if int_lt n first then first else if int_lt last n then last else n
 
 -- a call's answer, with the date that it left where it did not refuse

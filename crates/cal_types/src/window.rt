@@ -1,0 +1,55 @@
+//! Days in a row.
+
+ghost use Rattle.std.specs.Prelude.{◌≡◌};
+ghost use Rattle.cal_types.specs.Windows.{IsWindow};
+
+use cal_days::RataDie;
+use cal_days::ranges::is_valid_day;
+
+/// The days from a first one to a last one, both of them counted and valid: from -365242499 to 365242134.
+#[derive(Clone, Copy, Debug, PartialEq, Eq)]
+pub struct Window {
+    first: i64,
+    last: i64,
+    ghost days: { IsWindow first last },
+}
+
+impl Window {
+    ghost use Rattle.std.specs.Prelude.{◌↔◌, IsSome, IfSome};
+
+    /// The days from the first to the last. `None` exactly where one of the two isn't valid, that is from -365242499
+    /// to 365242134, or the first comes after the last.
+    pub fn try_new(first: RataDie, last: RataDie) -> Option<Window>
+        ensures exact { IsSome result ↔ IsWindow first last }
+        ensures days { IfSome result (λ w. (w.first ≡ first) × (w.last ≡ last)) }
+    {
+        let first = first.to_i64_date();
+        let last = last.to_i64_date();
+        if !is_valid_day(first) || !is_valid_day(last) || first > last {
+            return None;
+        }
+        Some(Window { first, last })
+    }
+
+    /// The first day.
+    pub fn first(self) -> RataDie
+        ensures { result ≡ self.first }
+    {
+        RataDie::new(self.first)
+    }
+
+    /// The last day.
+    pub fn last(self) -> RataDie
+        ensures { result ≡ self.last }
+    {
+        RataDie::new(self.last)
+    }
+
+    /// The first and the last day.
+    pub fn ends(&self) -> (RataDie, RataDie)
+        ensures first { result.0 ≡ self.now.first }
+        ensures last { result.1 ≡ self.now.last }
+    {
+        (RataDie::new(self.first), RataDie::new(self.last))
+    }
+}
