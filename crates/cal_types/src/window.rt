@@ -15,7 +15,9 @@ pub struct Window {
 }
 
 impl Window {
-    ghost use Rattle.std.specs.Prelude.{◌↔◌, IsSome, IfSome};
+    ghost use Rattle.std.specs.Prelude.{◌↔◌, IsSome, IfSome, IsTrue};
+    ghost use Rattle.cal_days.specs.Day.{IsBetween};
+    ghost use Rattle.cal_types.specs.WindowDays.{IsAfter};
 
     /// The days from the first to the last. `None` exactly where one of the two isn't valid, that is from -365242499
     /// to 365242134, or the first comes after the last.
@@ -51,5 +53,22 @@ impl Window {
         ensures last { result.1 ≡ self.now.last }
     {
         (RataDie::new(self.first), RataDie::new(self.last))
+    }
+
+    /// Whether a day is one of the window's.
+    pub fn contains(&self, day: RataDie) -> bool
+        ensures { IsTrue result ↔ IsBetween self.now.first self.now.last day }
+    {
+        let day = day.to_i64_date();
+        self.first <= day && day <= self.last
+    }
+
+    /// The days after one of the window's days. `None` where that one is the last.
+    pub fn after(&self, day: RataDie) -> Option<Window>
+        requires { IsBetween self.now.first self.now.last day }
+        ensures { IsAfter self.now day result }
+    {
+        let next = RataDie::new(day.to_i64_date() + 1);
+        Window::try_new(next, self.last())
     }
 }
