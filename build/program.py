@@ -1,6 +1,7 @@
 #!/usr/bin/env python3
 """Proves and builds the program `calspan`: each crate that it stands on once, crates that don't stand on one another side by side.
-With names of libraries as arguments, it proves these and what they stand on in its place.
+With names of libraries as arguments, it proves these and what they stand on in its place. With `--progress` first, it says on standard
+error how far it is: how many of the crates are proved, and how many minutes have gone.
 
 A crate is built as soon as the crates below it are. Where one crate has by far the longest chain of others behind it, the chain decides
 when the program is there: so that crate has all processors, and others run beside it with less right to them. The libraries have
@@ -139,7 +140,8 @@ def clear(name: str, room: Path) -> None:
 class Build:
     """The crates that are built, those that are under way, and those that are left, by the longest chain."""
 
-    def __init__(self, room: Path, tops: list[str]):
+    def __init__(self, room: Path, tops: list[str], shows_progress: bool):
+        self.shows_progress = shows_progress
         self.room, self.tools, self.crates = room, kit(), crates_below(tops)
         self.sums, self.seconds = sums(self.crates, self.tools), proof_seconds(self.crates)
         self.chains = longest_chains(self.crates, self.seconds)
@@ -151,6 +153,10 @@ class Build:
 
     def say(self, what: str) -> None:
         print(f"== {time.monotonic() - self.began:.0f} s: {what}", flush=True)
+
+    def show_progress(self) -> None:
+        minutes = (time.monotonic() - self.began) / 60
+        print(f"calspan: {len(self.built)} of {len(self.crates)} crates proved, {minutes:.0f} minutes gone", file=sys.stderr, flush=True)
 
     def ready(self) -> list[str]:
         return [it for it in self.left if all(below in self.built or below not in self.crates for below in self.crates[it])]
@@ -204,6 +210,8 @@ class Build:
                 return status
             (self.room / f"{name}.sum").write_text(self.sums[name])
             self.built.add(name)
+            if self.shows_progress:
+                self.show_progress()
         return 0
 
 
@@ -220,14 +228,17 @@ def room_of_checkout() -> Path:
     return caches / "calspan" / hashlib.sha256(str(TOP).encode()).hexdigest()[:16]
 
 
-def main(tops: list[str]) -> int:
+def main(words: list[str]) -> int:
+    shows_progress = words[:1] == ["--progress"]
+    tops = words[1:] if shows_progress else words
+    tops = tops or [PROGRAM]
     room = room_of_checkout()
     room.mkdir(parents=True, exist_ok=True)
     with (room / "lock").open("w") as lock:
         fcntl.flock(lock, fcntl.LOCK_EX)
-        build = Build(room, tops)
+        build = Build(room, tops, shows_progress)
         return build.whole() or (link(build.tools, room) if PROGRAM in tops else 0)
 
 
 if __name__ == "__main__":
-    sys.exit(main(sys.argv[1:] or [PROGRAM]))
+    sys.exit(main(sys.argv[1:]))
