@@ -19,6 +19,7 @@ use Rattle.cal_errors.specs.declared.errors.TableFault.{TableFault}
 use Rattle.span_run.specs.declared.table.Table.{Table}
 use Rattle.span_run.specs.TableRows.{TableRows, AreAccepted, IsFirstRefused, contents_of, with_china, with_korea, with_hijri, with_persian, with_eras, eras_of_row}
 use Rattle.span_run.specs.TableTexts.{row_refusal, table_refusal}
+use Rattle.span_run.proofs.KindLimits.{kind_limits}
 use Rattle.span_run.proofs.TableLemmas.{tables_decided, tables_refuse, tables_unique}
 use Rattle.span_run.specs.Answers.{Stage, Gathering, Answering, Ended, begin, refusal, IsRequestAnswer, AnswersRequest, AnswersFirst, RefusesTables, TakesYear, TakesEras, TakesRow, IsAnswerTo, AnswersLine, AreAnswers, Closes, status_of}
 use Rattle.span_run.specs.declared.status.Status.{Status}
@@ -27,13 +28,14 @@ use Rattle.span_run.specs.declared.table.RowFault.TheVariants as row_fault
 use Rattle.span_run.specs.Laws.{EveryInputHasAnswers, AnswersAreUnique, AnswersToPrefixArePrefix}
 
 -- there is an answer to each request line
-request_exists : (tables : TableContents) (line : RequestLine) (n : ℕ) → (text : List ℕ) × (refused : Bool) × IsRequestAnswer tables line n text refused
-request_exists tables Long n = (refusal n (codes "long"), true, (refl, refl))
-request_exists tables (Asks r) n =
+request_exists : (rows : TableRows) → AreAccepted rows → (line : RequestLine) (n : ℕ) → (text : List ℕ) × (refused : Bool) × IsRequestAnswer (contents_of rows) line n text refused
+request_exists rows accepted Long n = (refusal n (codes "long"), true, (refl, refl))
+request_exists rows accepted (Asks r) n =
+    let tables = contents_of rows in
     let c = kind_system tables r.calendar in let shown = kind_system tables r.shown in
-    let found = span-exists c shown.list (kind_lawful tables r.calendar) (kind_lawful tables r.shown) r.from r.to (options_of r) (largest_unit_of r.unit) in
+    let found = span-exists c shown.list (kind_lawful tables r.calendar) (kind_lawful tables r.shown) (kind_limits rows accepted r.calendar) r.from r.to (options_of r) (largest_unit_of r.unit) in
     (reply_text c shown found.0, is_refusal found.0, record { answer = found.0; span = found.1; says = refl; refuses = refl })
-request_exists tables Malformed n = (refusal n (codes "syntax"), true, (refl, refl))
+request_exists rows accepted Malformed n = (refusal n (codes "syntax"), true, (refl, refl))
 
 -- and one only
 request_unique : (tables : TableContents) (line : RequestLine) (n : ℕ) (a b : List ℕ) (p q : Bool) → IsRequestAnswer tables line n a p → IsRequestAnswer tables line n b q → (a ≡ b) × (p ≡ q)
@@ -48,9 +50,9 @@ request_unique tables Malformed n a b p q (x, e) (y, f) = (x ∙ sym y, e ∙ sy
 abbrev behind : TableRows → Bool → Bool → Stage
 behind rows before refused = Answering rows (cond refused true before)
 
-answers_request : (rows : TableRows) (before : Bool) (line : RequestLine) (n : ℕ) → (text : List ℕ) × (next : Stage) × AnswersRequest rows before line n text next
-answers_request rows before line n =
-    let (text, refused, answer) = request_exists (contents_of rows) line n in
+answers_request : (rows : TableRows) → AreAccepted rows → (before : Bool) (line : RequestLine) (n : ℕ) → (text : List ℕ) × (next : Stage) × AnswersRequest rows before line n text next
+answers_request rows accepted before line n =
+    let (text, refused, answer) = request_exists rows accepted line n in
     (text, behind rows before refused, record { refused = refused; answer = answer; stands = refl })
 
 one_request : (rows : TableRows) (before : Bool) (line : RequestLine) (n : ℕ) (a b : List ℕ) (p q : Stage) → AnswersRequest rows before line n a p → AnswersRequest rows before line n b q → (a ≡ b) × (p ≡ q)
@@ -63,7 +65,7 @@ first_exists : (rows : TableRows) (line : RequestLine) (n : ℕ) → (text : Lis
 first_exists rows line n = by (tables_decided rows)
   where
     by : AreAccepted rows ⊎ ((table : Table) × (fault : TableFault) × IsFirstRefused rows table fault) → (text : List ℕ) × (next : Stage) × AnswersFirst rows line n text next
-    by (inl accepted) = let (text, next, answer) = answers_request rows false line n in (text, next, inl (accepted, answer))
+    by (inl accepted) = let (text, next, answer) = answers_request rows accepted false line n in (text, next, inl (accepted, answer))
     by (inr (table, fault, first)) = (table_refusal table fault, Ended, inr ((table, fault, first, refl), refl))
 
 refuses_unique : (rows : TableRows) (a b : List ℕ) → RefusesTables rows a → RefusesTables rows b → a ≡ b
@@ -116,15 +118,54 @@ row_unique rows (Some (Hijri r)) n a b p q x y = year_unique (IsHijriYear r) (wi
 row_unique rows (Some (Persian year)) n a b p q (x, e) (y, f) = (x ∙ sym y, e ∙ sym f)
 row_unique rows (Some (Era r)) n a b p q x y = eras_unique rows rows.eras (eras_of_row r) n a b p q x y
 
+-- where requests are answered, the tables are accepted
+abbrev IsTested : Stage → Type 0
+IsTested (Gathering rows) = ⊤
+IsTested (Answering rows before) = AreAccepted rows
+IsTested Ended = ⊤
+
 -- there is an answer to each line
-pub answer_exists : (line : Line) (n : ℕ) (s : Stage) → (text : List ℕ) × (next : Stage) × IsAnswerTo line n s text next
-answer_exists Nothing n s = ([], s, (refl, refl))
-answer_exists (GivesRow row) n (Gathering rows) = row_exists rows row n
-answer_exists (GivesRow row) n (Answering rows before) = (row_refusal n row_fault.Late, Ended, (refl, refl))
-answer_exists (GivesRow row) n Ended = ([], Ended, (refl, refl))
-answer_exists (Requests line) n (Gathering rows) = first_exists rows line n
-answer_exists (Requests line) n (Answering rows before) = answers_request rows before line n
-answer_exists (Requests line) n Ended = ([], Ended, (refl, refl))
+answer_exists : (line : Line) (n : ℕ) (s : Stage) → IsTested s → (text : List ℕ) × (next : Stage) × IsAnswerTo line n s text next
+answer_exists Nothing n s tested = ([], s, (refl, refl))
+answer_exists (GivesRow row) n (Gathering rows) tested = row_exists rows row n
+answer_exists (GivesRow row) n (Answering rows before) tested = (row_refusal n row_fault.Late, Ended, (refl, refl))
+answer_exists (GivesRow row) n Ended tested = ([], Ended, (refl, refl))
+answer_exists (Requests line) n (Gathering rows) tested = first_exists rows line n
+answer_exists (Requests line) n (Answering rows before) tested = answers_request rows tested before line n
+answer_exists (Requests line) n Ended tested = ([], Ended, (refl, refl))
+
+-- and they are behind it
+row_tested : (rows : TableRows) (row : Option Row) (n : ℕ) (text : List ℕ) (next : Stage) → TakesRow rows row n text next → IsTested next
+row_tested rows None n text next (x, e) = subst IsTested (sym e) tt
+row_tested rows (Some (China r)) n text next (inl (y, h, x, e)) = subst IsTested (sym e) tt
+row_tested rows (Some (China r)) n text next (inr (none, (x, e))) = subst IsTested (sym e) tt
+row_tested rows (Some (Korea r)) n text next (inl (y, h, x, e)) = subst IsTested (sym e) tt
+row_tested rows (Some (Korea r)) n text next (inr (none, (x, e))) = subst IsTested (sym e) tt
+row_tested rows (Some (Hijri r)) n text next (inl (y, h, x, e)) = subst IsTested (sym e) tt
+row_tested rows (Some (Hijri r)) n text next (inr (none, (x, e))) = subst IsTested (sym e) tt
+row_tested rows (Some (Persian y)) n text next (x, e) = subst IsTested (sym e) tt
+row_tested rows (Some (Era r)) n text next h = by rows.eras (eras_of_row r) h
+  where
+    by : (before eras : Option (List ListedEra)) → TakesEras rows before eras n text next → IsTested next
+    by (Some before) eras (x, e) = subst IsTested (sym e) tt
+    by None None (x, e) = subst IsTested (sym e) tt
+    by None (Some eras) (x, e) = subst IsTested (sym e) tt
+
+request_tested : (rows : TableRows) → AreAccepted rows → (before : Bool) (line : RequestLine) (n : ℕ) (text : List ℕ) (next : Stage) → AnswersRequest rows before line n text next → IsTested next
+request_tested rows accepted before line n text next h = subst IsTested (sym h.stands) accepted
+
+first_tested : (rows : TableRows) (line : RequestLine) (n : ℕ) (text : List ℕ) (next : Stage) → AnswersFirst rows line n text next → IsTested next
+first_tested rows line n text next (inl (accepted, h)) = request_tested rows accepted false line n text next h
+first_tested rows line n text next (inr (h, e)) = subst IsTested (sym e) tt
+
+answer_tested : (line : Line) (n : ℕ) (s : Stage) (text : List ℕ) (next : Stage) → IsTested s → IsAnswerTo line n s text next → IsTested next
+answer_tested Nothing n s text next tested (x, e) = subst IsTested (sym e) tested
+answer_tested (GivesRow row) n (Gathering rows) text next tested h = row_tested rows row n text next h
+answer_tested (GivesRow row) n (Answering rows before) text next tested (x, e) = subst IsTested (sym e) tt
+answer_tested (GivesRow row) n Ended text next tested (x, e) = subst IsTested (sym e) tt
+answer_tested (Requests line) n (Gathering rows) text next tested h = first_tested rows line n text next h
+answer_tested (Requests line) n (Answering rows before) text next tested h = request_tested rows tested before line n text next h
+answer_tested (Requests line) n Ended text next tested (x, e) = subst IsTested (sym e) tt
 
 -- there is one answer to a line
 pub answer_unique : (line : Line) (n : ℕ) (s : Stage) (a b : List ℕ) (p q : Stage) → IsAnswerTo line n s a p → IsAnswerTo line n s b q → (a ≡ b) × (p ≡ q)
@@ -144,12 +185,18 @@ answers_as_read : (line : List ℕ) (n : ℕ) (s : Stage) (text : List ℕ) (nex
 answers_as_read line n s text next h = subst (λ (l : Line). IsAnswerTo l n s text next) (line_is line h.said h.says) h.answer
 
 -- there are answers to lines
-pub answers_exist : (lines : List (List ℕ)) (n : ℕ) (s : Stage) → (text : List ℕ) × (end : Stage) × AreAnswers lines n s text end
-answers_exist [] n s = ([], s, (refl, refl))
-answers_exist (line ∷ more) n s =
-    let (added, next, answer) = answer_exists (line_of line) n s in
-    let (rest, end, answers) = answers_exist more (n + 1) next in
+answers_exist : (lines : List (List ℕ)) (n : ℕ) (s : Stage) → IsTested s → (text : List ℕ) × (end : Stage) × AreAnswers lines n s text end
+answers_exist [] n s tested = ([], s, (refl, refl))
+answers_exist (line ∷ more) n s tested =
+    let (added, next, answer) = answer_exists (line_of line) n s tested in
+    let (rest, end, answers) = answers_exist more (n + 1) next (answer_tested (line_of line) n s added next tested answer) in
     (added ++ rest, end, (added, rest, next, answers_line line n s added next answer, refl, answers))
+
+-- the tables are accepted behind lines, too
+answers_tested : (lines : List (List ℕ)) (n : ℕ) (s : Stage) (text : List ℕ) (end : Stage) → IsTested s → AreAnswers lines n s text end → IsTested end
+answers_tested [] n s text end tested (x, e) = subst IsTested (sym e) tested
+answers_tested (line ∷ more) n s text end tested (added, rest, next, answer, x, answers) =
+    answers_tested more (n + 1) next rest end (answer_tested (line_of line) n s added next tested (answers_as_read line n s added next answer)) answers
 
 -- there is one text for lines, and one progress behind them
 pub answers_unique : (lines : List (List ℕ)) (n : ℕ) (s : Stage) (a b : List ℕ) (p q : Stage) → AreAnswers lines n s a p → AreAnswers lines n s b q → (a ≡ b) × (p ≡ q)
@@ -180,10 +227,10 @@ AreAnswers-push lines line number s m e a b is answers answer =
     (b, [], e, answers_line line (1 + length lines) m b e (subst (λ (k : ℕ). IsAnswerTo (line_of line) k m b e) count answer), sym (append-nil b), (refl, refl))
 
 -- the answers to the first lines are a prefix of the answers to all
-pub answers_prefix : (lines more : List (List ℕ)) (s m : Stage) (a : List ℕ) → AreAnswers lines 1 s a m → (rest : List ℕ) × (end : Stage) × AreAnswers (lines ++ more) 1 s (a ++ rest) end
-answers_prefix lines more s m a answers =
-    let (rest, end, others) = answers_exist more (1 + length lines) m in
-    (rest, end, AreAnswers-append lines more 1 s m end a rest answers others)
+pub answers_prefix : (lines more : List (List ℕ)) (m : Stage) (a : List ℕ) → AreAnswers lines 1 begin a m → (rest : List ℕ) × (end : Stage) × AreAnswers (lines ++ more) 1 begin (a ++ rest) end
+answers_prefix lines more m a answers =
+    let (rest, end, others) = answers_exist more (1 + length lines) m (answers_tested lines 1 begin a m tt answers) in
+    (rest, end, AreAnswers-append lines more 1 begin m end a rest answers others)
 
 -- what is written where the lines end, and the status
 pub close_exists : (end : Stage) (whole : Bool) → (text : List ℕ) × (status : Status) × Closes end whole text status
@@ -207,7 +254,7 @@ close_unique Ended whole a b s t (x, e) (y, f) = (x ∙ sym y, e ∙ sym f)
 
 pub every_input_has : EveryInputHasAnswers
 every_input_has bytes whole =
-    let (text, end, answers) = answers_exist (lines_in bytes whole) 1 begin in
+    let (text, end, answers) = answers_exist (lines_in bytes whole) 1 begin tt in
     let (closing, status, closes) = close_exists end whole in
     (text ++ closing, status, record { answered = text; closing = closing; end = end; answers = answers; closes = closes; all = refl })
 
@@ -238,7 +285,7 @@ lines_in-prefix bytes more true =
 pub prefix_are_prefix : AnswersToPrefixArePrefix
 prefix_are_prefix bytes more whole a b s t p q =
     let (others, e) = lines_in-prefix bytes more whole in
-    let (rest, end, answers) = answers_prefix (lines_in bytes false) others begin p.end p.answered p.answers in
+    let (rest, end, answers) = answers_prefix (lines_in bytes false) others p.end p.answered p.answers in
     let all : AreAnswers (lines_in bytes false ++ others) 1 begin q.answered q.end = subst (λ (l : List (List ℕ)). AreAnswers l 1 begin q.answered q.end) e q.answers in
     let same = (answers_unique (lines_in bytes false ++ others) 1 begin q.answered (p.answered ++ rest) q.end end all answers).0 in
     let first : a ≡ p.answered = p.all ∙ (ap (λ x. p.answered ++ x) (close_open p.end p.closing s p.closes) ∙ append-nil p.answered) in

@@ -1,3 +1,4 @@
+mod KindLimits
 mod GeneratorLemmas
 mod AnswerLemmas
 mod RowTakingLemmas
