@@ -1,6 +1,7 @@
 -- The answers to lines: there are some, there is one text only, and they follow one another.
 use Rattle.std.proofs.Common.{◌≡◌, ℕ, ◌+◌, Bool, true, false, cond, List, [], ◌∷◌, ◌++◌, Option, Some, None, ◌⊎◌, inl, inr, length, nat_lt, refl, arith, ◌∙◌, sym, ap, subst, codes}
 use Rattle.std.proofs.lemmas.List.{append-nil, append_assoc}
+use Rattle.std.specs.Bool.{⊤}
 use Rattle.line_reader.specs.Lines.{closed_lines, open_line, lines_in}
 use Rattle.line_reader.proofs.PartLemmas.{closed_lines-prefix}
 use Rattle.cal_tables.specs.Kinds.{TableContents, kind_system}

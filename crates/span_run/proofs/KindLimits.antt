@@ -1,10 +1,8 @@
 -- The valid dates of each kind of calendar are near enough for the limits of adding, where the tables are accepted.
-use Rattle.std.proofs.Common.{[], Option, Some, None, ◌≡◌, ℕ, List, refl, ℤ, pos}
+use Rattle.std.proofs.Common.{ℕ, List, [], refl, pos}
 use Rattle.cal_base.specs.GregorianList.{gregorian_list}
 use Rattle.cal_base.specs.GregorianLaws.{gregorian_list-bounded}
-use Rattle.cal_base.specs.OffsetList.{offset_list, IsOffset}
 use Rattle.cal_base.specs.OffsetListLaws.{true-offset}
-use Rattle.cal_base.specs.OffsetSystem.{offset_system}
 use Rattle.cal_coptic.specs.CopticList.{coptic_list}
 use Rattle.cal_coptic.specs.CopticLaws as coptic_bounds
 use Rattle.cal_coptic.specs.CopticLaws.{coptic_list-bounded}
@@ -39,13 +37,11 @@ use Rattle.cal_julian.specs.JulianLaws as julian_bounds
 use Rattle.cal_julian.specs.PersianLaws as persian_bounds
 use Rattle.cal_kinds.specs.declared.any_calendar_kind.AnyCalendarKind.{AnyCalendarKind}
 use Rattle.cal_kinds.specs.declared.any_calendar_kind.AnyCalendarKind.TheVariants as kind
-use Rattle.cal_model.specs.CalendarSystem.{CalendarSystem}
 use Rattle.cal_model.proofs.RenumberedBoundLemmas.{ranged-renumbered, apart-renumbered}
 use Rattle.cal_rows.specs.Rows.{IsRow}
 use Rattle.cal_spans.specs.Laws.{IsWithinLimits}
-use Rattle.cal_tables.specs.Kinds.{TableContents, kind_system, no_contents, side_system}
-use Rattle.span_run.specs.TableRows.{TableRows, no_rows, contents_of, IsTableAccepted, AreAccepted}
-use Rattle.span_run.specs.declared.table.Table.{Table}
+use Rattle.cal_tables.specs.Kinds.{kind_system, no_contents, side_system}
+use Rattle.span_run.specs.TableRows.{TableRows, no_rows, contents_of, AreAccepted}
 use Rattle.span_run.specs.declared.table.Table.TheVariants as table
 
 -- a list without rows has no row
