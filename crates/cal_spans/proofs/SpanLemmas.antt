@@ -5,35 +5,43 @@ use Rattle.cal_types.specs.declared.options.DateFromFieldsOptions.{DateFromField
 use Rattle.cal_types.specs.declared.duration.DateDuration.{DateDuration}
 use Rattle.cal_types.specs.declared.duration.DateDurationUnit.{DateDurationUnit}
 use Rattle.cal_errors.specs.declared.errors.DateFromFieldsError.{DateFromFieldsError}
-use Rattle.cal_days.specs.Day.{IsValidDay}
-use Rattle.cal_model.specs.CalendarList.{CalendarList, Date, IsDate, IsLawful, IsOn, day_number}
+use Rattle.cal_model.specs.CalendarList.{CalendarList, Date, IsLawful, IsOn, IsValidDate, day_number}
 use Rattle.cal_model.specs.CalendarSystem.{CalendarSystem, resolve_fields}
 use Rattle.cal_model.specs.Resolving.{Resolved, overflow_of, missing_fields_of}
 use Rattle.cal_model.specs.Difference.{IsDifference}
 use Rattle.cal_model.proofs.ListLemmas.{on-finds, on-unique}
 use Rattle.cal_model.proofs.ResolvingLemmas.{resolve-date}
+use Rattle.cal_model.proofs.AddingLemmas.{difference-added_back}
 use Rattle.cal_model.proofs.DifferenceLaws.{difference-exists, difference-unique}
+use Rattle.cal_spans.specs.Laws.{IsWithinLimits}
 use Rattle.cal_spans.specs.Spans.{SpanDates, AnswersBags, RefusesBag, IsSpan}
 use Rattle.cal_spans.specs.declared.span_error.BagSide.{BagSide}
 use Rattle.cal_spans.specs.declared.span_error.BagSide.TheVariants.{From, To}
 use Rattle.cal_spans.specs.declared.span_error.SpanError.{SpanError}
 
-module _ (c : CalendarSystem) (shown : CalendarList) (law : IsLawful c.list) (law_shown : IsLawful shown) (from to : Bag) (o : DateFromFieldsOptions) (unit : DateDurationUnit) where
+module _ (c : CalendarSystem) (shown : CalendarList) (law : IsLawful c.list) (law_shown : IsLawful shown) (limits : IsWithinLimits c) (from to : Bag) (o : DateFromFieldsOptions) (unit : DateDurationUnit) where
   abbrev Answer : Type 0
   Answer = (r : Result SpanDates SpanError) × IsSpan c shown from to o unit r
 
   -- what a bag resolves to is a date with a valid day
-  dated_bag : (bag : Bag) (t : Date) → resolve_fields c bag o ≡ Ok t → IsDate c.list t × IsValidDay (day_number c.list t)
-  dated_bag bag t e = resolve-date c.list law c.year_names bag (overflow_of o.overflow) (missing_fields_of o.missing_fields_strategy) t e
+  dated_bag : (bag : Bag) (t : Date) → resolve_fields c bag o ≡ Ok t → IsValidDate c.list t
+  dated_bag bag t e =
+      let found = resolve-date c.list law c.year_names bag (overflow_of o.overflow) (missing_fields_of o.missing_fields_strategy) t e in
+      record { date = found.0; valid = found.1 }
 
   -- two dates have the rest of an answer
   dated : (t u : Date) → resolve_fields c from o ≡ Ok t → resolve_fields c to o ≡ Ok u → Answer
   dated t u p q =
       let on_from = on-finds shown law_shown (day_number c.list t) in
       let on_to = on-finds shown law_shown (day_number c.list u) in
-      let apart = difference-exists c.list law t u (dated_bag from t p).0 (dated_bag to u q).0 unit in
+      let h = dated_bag from t p in
+      let k = dated_bag to u q in
+      let first = limits.ranged t h in
+      let last = limits.ranged u k in
+      let apart = difference-exists c.list law t u h.date k.date unit in
+      let back = difference-added_back c.list law t u h k unit apart.0 apart.1 c.year_shift first.0 last.0 first.1 last.1 (limits.apart t u h k) in
       let dates : SpanDates = record { from = t; from_shown = on_from.0; to = u; to_shown = on_to.0; duration = apart.0 } in
-      (Ok dates, record { from = p; to = q; from_shown = on_from.1; to_shown = on_to.1; duration = apart.1 })
+      (Ok dates, record { from = p; to = q; from_shown = on_from.1; to_shown = on_to.1; duration = apart.1; leads_back = back })
 
   second : (t : Date) → resolve_fields c from o ≡ Ok t → (r : Resolved Date) → resolve_fields c to o ≡ r → Answer
   second t p (Ok u) q = dated t u p q

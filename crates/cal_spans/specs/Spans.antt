@@ -2,11 +2,13 @@
 use Rattle.std.specs.Prelude.{◌≡◌, Result, Ok, Err}
 use Rattle.cal_types.specs.Bag.{Bag}
 use Rattle.cal_types.specs.declared.options.DateFromFieldsOptions.{DateFromFieldsOptions}
+use Rattle.cal_types.specs.declared.options.Overflow.TheVariants.{Constrain}
 use Rattle.cal_types.specs.declared.duration.DateDuration.{DateDuration}
 use Rattle.cal_types.specs.declared.duration.DateDurationUnit.{DateDurationUnit}
 use Rattle.cal_errors.specs.declared.errors.DateFromFieldsError.{DateFromFieldsError}
 use Rattle.cal_model.specs.CalendarList.{CalendarList, Date, IsOn, day_number}
 use Rattle.cal_model.specs.CalendarSystem.{CalendarSystem, resolve_fields}
+use Rattle.cal_model.specs.Adding.{IsSum}
 use Rattle.cal_model.specs.Difference.{IsDifference}
 use Rattle.cal_spans.specs.declared.span_error.BagSide.{BagSide}
 use Rattle.cal_spans.specs.declared.span_error.BagSide.TheVariants.{From, To}
@@ -20,13 +22,15 @@ pub record SpanDates : Type 0 where
   pub to_shown : Date
   pub duration : DateDuration
 
--- each bag names its date; the shown dates have the same day numbers in the second list; the duration is the difference
+-- each bag names its date; the shown dates have the same day numbers in the second list; the duration is the difference, and leads back: added to the
+-- first date under Constrain, it gives the second
 pub record AnswersBags (c : CalendarSystem) (shown : CalendarList) (first second : Bag) (options : DateFromFieldsOptions) (unit : DateDurationUnit) (s : SpanDates) : Type 0 where
   pub from : resolve_fields c first options ≡ Ok s.from
   pub to : resolve_fields c second options ≡ Ok s.to
   pub from_shown : IsOn shown (day_number c.list s.from) s.from_shown
   pub to_shown : IsOn shown (day_number c.list s.to) s.to_shown
   pub duration : IsDifference c.list s.from s.to unit s.duration
+  pub leads_back : IsSum c.list c.year_shift s.from s.duration Constrain (Ok s.to)
 
 -- the second bag is at fault only where the first names a date
 abbrev pub RefusesBag : CalendarSystem → Bag → Bag → DateFromFieldsOptions → BagSide → DateFromFieldsError → Type 0

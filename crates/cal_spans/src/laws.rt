@@ -1,8 +1,8 @@
 //! Laws of what two bags of fields ask for, each proved as the contract of a function that does nothing.
 ghost use Rattle.cal_spans.specs.Laws.{AnswersAreUnique, TwoBagsHaveAnAnswer};
 
-/// In calendars whose lists are lawful, two bags have an answer: both dates, the same days in the second calendar and
-/// the difference, or the first fault.
+/// In calendars whose lists are lawful, and whose valid dates are near enough for the limits of adding, two bags have an
+/// answer: both dates, the same days in the second calendar and the difference, which leads back; or the first fault.
 pub fn two_bags_have_an_answer()
     ensures { TwoBagsHaveAnAnswer }
 {}

@@ -3,13 +3,16 @@
 
 mod every_calendar;
 mod feasts;
+mod mean_rules;
 mod uses;
 
 use every_calendar::print_every_calendar;
 use feasts::{hebrew_text_in_gregorian, next_easter};
 use icu_calendar::{
-    AnyCalendar, AsCalendar, Calendar, Date, DateDuration, Gregorian, Iso, Julian, RataDie,
+    AnyCalendar, AsCalendar, Calendar, Date, DateDuration, EastAsianTraditional, Gregorian, Iso,
+    Julian, RataDie,
 };
+use mean_rules::MeanRules;
 use std::io;
 use uses::{age, date_of_form, in_chosen_calendar, is_earlier, months_later, there_and_back};
 
@@ -115,6 +118,13 @@ fn print_feasts(rt: &HostRuntime) -> io::Result<()> {
     println!(rt; "Easter: {first:?}, and then {:?}", next_easter(&first))
 }
 
+/// The new year of 2024, 738926, under a caller's own rules.
+fn print_own_rules(rt: &HostRuntime) -> io::Result<()> {
+    let calendar = EastAsianTraditional(MeanRules::new(28_800_000));
+    let date = Date::from_rata_die(RataDie::new(738926), calendar);
+    println!(rt; "under rules of its own: {date:?}")
+}
+
 fn main(rt: HostRuntime) -> io::Result<()> {
     print_forms(&rt)?;
     print_chosen_calendar(&rt)?;
@@ -123,5 +133,6 @@ fn main(rt: HostRuntime) -> io::Result<()> {
     print_order(&rt)?;
     print_every_calendar(&rt)?;
     print_texts(&rt)?;
-    print_feasts(&rt)
+    print_feasts(&rt)?;
+    print_own_rules(&rt)
 }

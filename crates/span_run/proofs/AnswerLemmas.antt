@@ -14,22 +14,24 @@ use Rattle.span_run.specs.Laws.{EveryInputHas, IsUnique, PrefixesHavePrefixes, A
 use Rattle.span_run.specs.Refusals.{refusal, status_of}
 use Rattle.span_run.specs.Replies.{options_of}
 use Rattle.span_run.specs.Rules.{span_rules}
-use Rattle.span_run.specs.TableRows.{TableRows, contents_of}
+use Rattle.span_run.specs.TableRows.{TableRows, AreAccepted, contents_of}
 use Rattle.span_run.specs.TableTexts.{row_refusal}
 use Rattle.span_run.specs.declared.status.Status.{Status}
 use Rattle.span_run.specs.declared.status.Status.TheVariants.{Done, TableRefused}
 use Rattle.span_run.specs.declared.table.RowFault.TheVariants.{Late}
+use Rattle.span_run.proofs.KindLimits.{kind_limits}
 use Rattle.span_run.proofs.RowFirstLemmas.{row_lacks}
 use Rattle.span_run.proofs.BehindRowsLemmas.{AlwaysWrites, WritesOnce, KeepsEnd, GrowsAtLine, over_exists, over_unique, behind_exists, behind_unique, behind_ends, behind_prefix}
 
 -- there is an answer to each request line
-pub request_exists : (tables : TableContents) (line : RequestLine) (n : ℕ) → (text : List ℕ) × (refused : Bool) × IsRequestAnswer tables line n text refused
-request_exists tables Long n = (refusal n (codes "long"), true, (refl, refl))
-request_exists tables (Asks r) n =
+request_exists : (rows : TableRows) → AreAccepted rows → (line : RequestLine) (n : ℕ) → (text : List ℕ) × (refused : Bool) × IsRequestAnswer (contents_of rows) line n text refused
+request_exists rows accepted Long n = (refusal n (codes "long"), true, (refl, refl))
+request_exists rows accepted (Asks r) n =
+    let tables = contents_of rows in
     let c = kind_system tables r.calendar in let shown = kind_system tables r.shown in
-    let found = span-exists c shown.list (kind_lawful tables r.calendar) (kind_lawful tables r.shown) r.from r.to (options_of r) (largest_unit_of r.unit) in
+    let found = span-exists c shown.list (kind_lawful tables r.calendar) (kind_lawful tables r.shown) (kind_limits rows accepted r.calendar) r.from r.to (options_of r) (largest_unit_of r.unit) in
     (reply_text c shown found.0, is_refusal found.0, record { answer = found.0; span = found.1; says = refl; refuses = refl })
-request_exists tables Malformed n = (refusal n (codes "syntax"), true, (refl, refl))
+request_exists rows accepted Malformed n = (refusal n (codes "syntax"), true, (refl, refl))
 
 -- and one only
 pub request_unique : (tables : TableContents) (line : RequestLine) (n : ℕ) (a b : List ℕ) (p q : Bool) → IsRequestAnswer tables line n a p → IsRequestAnswer tables line n b q → (a ≡ b) × (p ≡ q)
@@ -52,32 +54,32 @@ answers_append tables (line ∷ first) more n s m e a b (added, rest, next, answ
     let behind = answers_append tables first more (n + 1) next m e rest b answers (subst (λ (k : ℕ). AreAnswers tables more k m b e) count others) in
     (added, rest ++ b, next, answer, ap (λ t. t ++ b) x ∙ append_assoc added rest b, behind)
 
--- there is an answer to each line behind row lines
-line_exists : (line : Line) (tables : TableContents) (n : ℕ) (s : Standing) → (text : List ℕ) × (next : Standing) × IsAnswerTo line tables n s text next
-line_exists Nothing tables n s = ([], s, (refl, refl))
-line_exists (GivesRow row) tables n (Answering before) = (row_refusal n Late, Ended, (refl, refl))
-line_exists (GivesRow row) tables n Ended = ([], Ended, (refl, refl))
-line_exists (Requests line) tables n (Answering before) =
-    let (text, refused, answer) = request_exists tables line n in
+-- there is an answer to each line behind row lines, over accepted rows
+line_exists : (line : Line) (rows : TableRows) → AreAccepted rows → (n : ℕ) (s : Standing) → (text : List ℕ) × (next : Standing) × IsAnswerTo line (contents_of rows) n s text next
+line_exists Nothing rows accepted n s = ([], s, (refl, refl))
+line_exists (GivesRow row) rows accepted n (Answering before) = (row_refusal n Late, Ended, (refl, refl))
+line_exists (GivesRow row) rows accepted n Ended = ([], Ended, (refl, refl))
+line_exists (Requests line) rows accepted n (Answering before) =
+    let (text, refused, answer) = request_exists rows accepted line n in
     (text, Answering (cond refused true before), record { refused = refused; answer = answer; stands = refl })
-line_exists (Requests line) tables n Ended = ([], Ended, (refl, refl))
+line_exists (Requests line) rows accepted n Ended = ([], Ended, (refl, refl))
 
-pub lines_exist : (lines : List (List ℕ)) (tables : TableContents) (n : ℕ) (s : Standing) → (text : List ℕ) × (end : Standing) × AreAnswers tables lines n s text end
-lines_exist [] tables n s = ([], s, (refl, refl))
-lines_exist (line ∷ more) tables n s =
-    let (added, next, answer) = line_exists (line_of line) tables n s in
-    let (rest, end, answers) = lines_exist more tables (n + 1) next in
+pub lines_exist : (lines : List (List ℕ)) (rows : TableRows) → AreAccepted rows → (n : ℕ) (s : Standing) → (text : List ℕ) × (end : Standing) × AreAnswers (contents_of rows) lines n s text end
+lines_exist [] rows accepted n s = ([], s, (refl, refl))
+lines_exist (line ∷ more) rows accepted n s =
+    let (added, next, answer) = line_exists (line_of line) rows accepted n s in
+    let (rest, end, answers) = lines_exist more rows accepted (n + 1) next in
     (added ++ rest, end, (added, rest, next, record { said = line_of line; says = line_says line; answer = answer }, refl, answers))
 
-all_exist : (lines : List (List ℕ)) (n : ℕ) (tables : TableContents) → (text : List ℕ) × (status : Status) × AnswersAll tables lines n text status
-all_exist lines n tables =
-    let (text, end, answers) = lines_exist lines tables n (Answering false) in
+all_exist : (lines : List (List ℕ)) (n : ℕ) (rows : TableRows) → AreAccepted rows → (text : List ℕ) × (status : Status) × AnswersAll (contents_of rows) lines n text status
+all_exist lines n rows accepted =
+    let (text, end, answers) = lines_exist lines rows accepted n (Answering false) in
     (text, status_at end, record { end = end; answers = answers; ends = refl })
 
 span_always : AlwaysWrites span_behind
 span_always = record {
-  at_end = λ tables. ([], Done, (refl, refl));
-  at_line = λ rows n request others. over_exists (λ tables t s. AnswersAll tables others n t s) (all_exist others n) rows;
+  at_end = λ rows accepted. ([], Done, (refl, refl));
+  at_line = λ rows n request others. over_exists (λ tables t s. AnswersAll tables others n t s) rows (all_exist others n rows);
 }
 
 pub span_exists : EveryInputHas IsAnswers
@@ -175,7 +177,7 @@ span_grows = record { at_line = λ rows n request others more text status h. by 
     by : (rows : TableRows) (n : ℕ) (others more : List (List ℕ)) (text : List ℕ) (status : Status) → OverTables (λ tables t s. AnswersAll tables others n t s) rows text status
         → (added : List ℕ) × (next : Status) × OverTables (λ tables t s. AnswersAll tables (others ++ more) n t s) rows (text ++ added) next
     by rows n others more text status (inl (accepted, all)) =
-        let (added, end, answers) = lines_exist more (contents_of rows) (n + length others) all.end in
+        let (added, end, answers) = lines_exist more rows accepted (n + length others) all.end in
         (added, status_at end, inl (accepted, record { end = end; answers = answers_append (contents_of rows) others more n (Answering false) all.end end text added all.answers answers; ends = refl }))
     by rows n others more text status (inr (refuses, e)) = ([], status, inr (subst (RefusesTables rows) (sym (append-nil text)) refuses, e))
 

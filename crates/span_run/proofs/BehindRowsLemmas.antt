@@ -18,21 +18,21 @@ use Rattle.span_run.proofs.InputLemmas.{lines_in-prefix}
 use Rattle.span_run.proofs.RowUniqueLemmas.{rows_end-unique}
 use Rattle.span_run.proofs.TableLemmas.{tables_decided, tables_refuse, refuses_unique}
 
--- there is a text over any tables, or they are refused
-pub over_exists : (Writes : TableContents → List ℕ → Status → Type 0) → ((tables : TableContents) → (text : List ℕ) × (status : Status) × Writes tables text status) → (rows : TableRows) → (text : List ℕ) × (status : Status) × OverTables Writes rows text status
-over_exists Writes exists rows = by (tables_decided rows)
+-- there is a text over the tables where they are accepted, or they are refused
+pub over_exists : (Writes : TableContents → List ℕ → Status → Type 0) (rows : TableRows) → (AreAccepted rows → (text : List ℕ) × (status : Status) × Writes (contents_of rows) text status) → (text : List ℕ) × (status : Status) × OverTables Writes rows text status
+over_exists Writes rows exists = by (tables_decided rows)
   where
     by : AreAccepted rows ⊎ ((table : Table) × (fault : TableFault) × IsFirstRefused rows table fault) → (text : List ℕ) × (status : Status) × OverTables Writes rows text status
-    by (inl accepted) = let (text, status, writes) = exists (contents_of rows) in (text, status, inl (accepted, writes))
+    by (inl accepted) = let (text, status, writes) = exists accepted in (text, status, inl (accepted, writes))
     by (inr (table, fault, first)) = (table_refusal table fault, TableRefused, inr ((table, fault, first, refl), refl))
 
 -- what a command is to write there always
 pub record AlwaysWrites (b : Behind) : Type 0 where
-  pub at_end : (tables : TableContents) → (text : List ℕ) × (status : Status) × b.AtEnd tables text status
+  pub at_end : (rows : TableRows) → AreAccepted rows → (text : List ℕ) × (status : Status) × b.AtEnd (contents_of rows) text status
   pub at_line : (rows : TableRows) (n : ℕ) (request : RequestLine) (others : List (List ℕ)) → (text : List ℕ) × (status : Status) × b.AtLine rows n request others text status
 
 says_at_exists : (b : Behind) → AlwaysWrites b → (end : RowsEnd) (whole : Bool) (rows : TableRows) → (text : List ℕ) × (status : Status) × SaysAt b end whole rows text status
-says_at_exists b always WithLines true rows = over_exists b.AtEnd always.at_end rows
+says_at_exists b always WithLines true rows = over_exists b.AtEnd rows (always.at_end rows)
 says_at_exists b always WithLines false rows = ([], Done, (refl, refl))
 says_at_exists b always (AtFaultyRow n why) whole rows = (row_refusal n why, TableRefused, (refl, refl))
 says_at_exists b always (AtRequest n request others) whole rows = always.at_line rows n request others

@@ -4,6 +4,7 @@ mod EndLemmas
 mod GatheringLemmas
 mod GeneratorLemmas
 mod InputLemmas
+mod KindLimits
 mod KnownLemmas
 mod ListLemmas
 mod ListRunLemmas

@@ -75,7 +75,7 @@ module _ (rows : TableRows) (first : List (List ℕ)) (text : List ℕ) (s : Sta
   -- to any lines behind there are answers
   pub behind_more : (others : List (List ℕ)) → (added : List ℕ) × (next : Standing) × AnswersBehind rows (first ++ others) (text ++ added) next
   behind_more others =
-      let (added, next, answers) = lines_exist others (contents_of rows) (length first + 1) s in
+      let (added, next, answers) = lines_exist others rows h.accepted (length first + 1) s in
       (added, next, behind_append others added next answers)
 
   -- behind an end nothing is answered
