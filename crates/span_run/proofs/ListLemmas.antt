@@ -13,7 +13,7 @@ use Rattle.span_run.specs.RowLines.{AreRows, RowsEnd, WithLines, AtFaultyRow, At
 use Rattle.span_run.specs.Rules.{list_rules}
 use Rattle.span_run.specs.Run.{Outside, Exchanged, limit}
 use Rattle.span_run.specs.Serving.{Answered, StoppedReading, TookTooMuch, Serves}
-use Rattle.span_run.specs.TableRows.{TableRows}
+use Rattle.span_run.specs.TableRows.{TableRows, contents_of}
 use Rattle.span_run.specs.declared.status.Status.{Status}
 use Rattle.span_run.specs.declared.status.Status.TheVariants.{Done, Refused, Words, ReadFault, WriteFault, NoMemory, TableRefused, TooLong}
 use Rattle.span_run.proofs.BehindRowsLemmas.{behind_exists, behind_unique, behind_ends}
@@ -26,7 +26,7 @@ refused_is_not false s e f = cc
 module _ (Lists : TableContents → List ℕ → Bool → Type 0) where
   pub list_exists : IsList Lists → EveryInputHas (SaysBehindRows (list_behind Lists))
   list_exists list = behind_exists (list_behind Lists) (record {
-    at_end = λ tables. let (text, refused, lists) = list.exists tables in (text, status_of refused, (refused, lists, refl));
+    at_end = λ rows accepted. let (text, refused, lists) = list.exists (contents_of rows) in (text, status_of refused, (refused, lists, refl));
     at_line = λ rows n request others. (line_refusal n request, Refused, (refl, refl));
   })
 

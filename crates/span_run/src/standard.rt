@@ -3,7 +3,7 @@
 ghost use Rattle.std.specs.Prelude.{◌≡◌, ◌≢◌};
 ghost use Rattle.std.specs.IoError.{error_kind};
 
-use crate::serving::run;
+use crate::command_run::run;
 use crate::status::Status;
 use byte_io::{StdSink, StdSource};
 use std::io::ErrorKind;
