@@ -1,0 +1,4 @@
+pub mod FirstIndex
+pub mod Listing
+pub mod Occurrence
+pub mod Rule
