@@ -108,11 +108,11 @@ impl<C: DateFieldsResolver> ArithmeticDate<C> {
     /// The date with a duration added, as ECMAScript Temporal's NonISODateAdd; the default of the option
     /// `overflow` is [`Overflow::Constrain`].
     ///
-    /// [`DateAddError::Overflow`] comes for more than 2080000 years, 27040000 months, or 838240000 days with
-    /// the weeks', where the years lead past the years from -1040000 to 1040000, and where the sum is no
-    /// valid day. [`DateAddError::MonthNotInYear`] comes where the year that the years lead to lacks the
-    /// month, and [`DateAddError::InvalidDay`] where the month that the months lead to lacks the day, under
-    /// [`Overflow::Reject`].
+    /// [`DateAddError::Overflow`] comes for more than 2080000 years, 27040000 months (13 in each of so many
+    /// years), or 838240000 days (31 in each of so many months) with the weeks', where the years lead past the
+    /// years from -1040000 to 1040000, and where the sum is no valid day. [`DateAddError::MonthNotInYear`]
+    /// comes where the year that the years lead to lacks the month, and [`DateAddError::InvalidDay`] where the
+    /// month that the months lead to lacks the day, under [`Overflow::Reject`].
     pub fn added(
         &self,
         duration: DateDuration,

@@ -192,7 +192,7 @@ pub trait YearShapes {
     ghost ranged: { (s : Self) (t : Date) → IsValidDate (years s).list t →
         IsFieldYear t.year × IsFieldYear (t.year +ℤ (years s).offset) };
 
-    /// Dates with valid days lie at most 27040000 months apart.
+    /// Dates with valid days lie at most 27040000 months apart: as many as 2080000 years of 13 months have.
     ghost apart: { (s : Self) (t u : Date) → IsValidDate (years s).list t → IsValidDate (years s).list u →
         let number = month_number (years s).list in
         unsigned_abs (number u.year u.month -ℤ number t.year t.month) ≤ 27040000 };

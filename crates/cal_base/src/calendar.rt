@@ -212,12 +212,12 @@ pub trait Calendar: UnstableSealed + Drop {
     /// The date with a duration added (ECMAScript Temporal's NonISODateAdd). The default of the option
     /// `overflow` is [`Overflow::Constrain`].
     ///
-    /// In this order: [`DateAddError::Overflow`] for more than 2080000 years, 27040000 months, or 838240000
-    /// days with the weeks', and where the years lead past the years from -1040000 to 1040000, counted in ISO
-    /// years in the Gregorian calendars; [`DateAddError::MonthNotInYear`] where the year that they lead to
-    /// lacks the month, and [`DateAddError::InvalidDay`] where the month that the months lead to lacks the
-    /// day, under [`Overflow::Reject`]; [`DateAddError::Overflow`] where the sum's day number isn't in the
-    /// valid range.
+    /// In this order: [`DateAddError::Overflow`] for more than 2080000 years, 27040000 months (13 in each of so
+    /// many years), or 838240000 days (31 in each of so many months) with the weeks', and where the years lead
+    /// past the years from -1040000 to 1040000, counted in ISO years in the Gregorian calendars;
+    /// [`DateAddError::MonthNotInYear`] where the year that they lead to lacks the month, and
+    /// [`DateAddError::InvalidDay`] where the month that the months lead to lacks the day, under
+    /// [`Overflow::Reject`]; [`DateAddError::Overflow`] where the sum's day number isn't in the valid range.
     fn add(
         &self,
         date: &Self::DateInner,

@@ -70,7 +70,7 @@ unfolding months_before
 months_before-rises y z h =
     omega (arith, signed, floor_parts (pos 235 *ℤ y -ℤ pos 234) 19 (omega arith), floor_parts (pos 235 *ℤ z -ℤ pos 234) 19 (omega arith))
 
--- valid dates are at most 27040000 months apart
+-- valid dates are at most 27040000 months apart: as many as 2080000 years of 13 months have
 pub months-apart : (t u : Date) → IsValidDate hebrew_list t → IsValidDate hebrew_list u → unsigned_abs (month_number hebrew_list u.year u.month -ℤ month_number hebrew_list t.year t.month) ≤ 27040000
 months-apart t u h k =
     let first = year_of_valid_date t h in

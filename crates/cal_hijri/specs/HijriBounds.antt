@@ -65,7 +65,7 @@ module _ (year_of : ℤ → HijriYear) (numbered : Numbered year_of) (joins : Jo
       let length = year_length-within year_of t.year in
       (omega (arith, signed, bounds, start, length), omega (arith, signed, bounds, start, length))
 
-  -- valid dates are at most 27040000 months apart
+  -- valid dates are at most 27040000 months apart: as many as 2080000 years of 13 months have
   pub months-apart : (t u : Date) → IsValidDate (hijri_list year_of) t → IsValidDate (hijri_list year_of) u → unsigned_abs (month_number (hijri_list year_of) u.year u.month -ℤ month_number (hijri_list year_of) t.year t.month) ≤ 27040000
   months-apart t u h k =
       let first = year_of_valid_date t h in

@@ -77,7 +77,7 @@ days-covered t year h =
     let high = julian_start-bounds (t.year +ℤ pos 1) in
     (omega (arith, signed, within.0, low, year), omega (arith, signed, within.1, high, year))
 
--- valid dates are at most 27040000 months apart
+-- valid dates are at most 27040000 months apart: as many as 2080000 years of 13 months have
 pub months-apart : (t u : Date) → IsValidDate julian_list t → IsValidDate julian_list u → unsigned_abs (month_number julian_list u.year u.month -ℤ month_number julian_list t.year t.month) ≤ 27040000
 months-apart t u h k =
     let first = year_of_valid_date t h in

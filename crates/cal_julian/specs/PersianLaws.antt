@@ -112,7 +112,7 @@ module _ (years : List ℤ) where
         let high = persian_start-bounds (t.year +ℤ pos 1) in
         (omega (arith, signed, within.0, low, year), omega (arith, signed, within.1, high, year))
 
-    -- valid dates are at most 27040000 months apart
+    -- valid dates are at most 27040000 months apart: as many as 2080000 years of 13 months have
     pub months-apart : (t u : Date) → IsValidDate (persian_list years) t → IsValidDate (persian_list years) u → unsigned_abs (month_number (persian_list years) u.year u.month -ℤ month_number (persian_list years) t.year t.month) ≤ 27040000
     months-apart t u h k =
         let first = year_of_valid_date t h in

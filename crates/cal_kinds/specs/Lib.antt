@@ -1,2 +1,3 @@
 pub mod KindNames
 pub mod NamePlaces
+pub mod KindOrder

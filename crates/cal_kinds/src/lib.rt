@@ -2,5 +2,6 @@
 #![tactic(auto)]
 
 mod any_calendar_kind;
+pub mod laws;
 
 pub use any_calendar_kind::AnyCalendarKind;

@@ -13,3 +13,6 @@ pub mod MonthCases
 pub mod PlainMonthLemmas
 pub mod RenumberedBoundLemmas
 pub mod CountedDateLemmas
+pub mod DayDateLemmas
+pub mod AnniversaryLemmas
+pub mod AnniversaryListLemmas

@@ -77,7 +77,7 @@ month_number-thirteen c count y i =
     let months = span-unique (month_count c) c.anchor_year (λ z. pos 13 *ℤ z) (λ z. omega (arith, signed, count z)) y in
     omega (arith, signed, months)
 
--- dates of years from -1039999 to 1039999 lie at most 27040000 months apart
+-- dates of years from -1039999 to 1039999 lie at most 27040000 months apart: as many as 2080000 years of 13 months have
 module _ (n : ℕ) (c : CalendarList) (has : HasPlainMonths n c) (t u : Date) (h : HasPlace c t.year t.month) (k : HasPlace c u.year u.month) (first : IsBetween (neg_ℤ (pos 1039999)) (pos 1039999) t.year) (second : IsBetween (neg_ℤ (pos 1039999)) (pos 1039999) u.year) where
   apart_by : (n ≡ 12) ⊎ (n ≡ 13) → unsigned_abs (month_number c u.year u.month -ℤ month_number c t.year t.month) ≤ 27040000
   apart_by (inl e) =

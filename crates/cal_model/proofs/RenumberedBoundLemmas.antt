@@ -20,7 +20,7 @@ module _ (shift : ℤ) (small : IsShift shift) (c : CalendarList) (bounds : IsBo
       let year = bounds.ranged (shifted_date shift t) (renumbered-valid shift c t h) in
       ((omega (arith, signed, small, year), omega (arith, signed, small, year)), (omega (arith, signed, year), omega (arith, signed, year)))
 
-  -- dates with valid days lie at most 27040000 months apart
+  -- dates with valid days lie at most 27040000 months apart: as many as 2080000 years of 13 months have
   pub apart-renumbered : (t u : Date) → IsValidDate (renumbered shift c) t → IsValidDate (renumbered shift c) u → unsigned_abs (month_number (renumbered shift c) u.year u.month -ℤ month_number (renumbered shift c) t.year t.month) ≤ 27040000
   apart-renumbered t u h k =
       rw (month_number-renumbered shift c u.year u.month, month_number-renumbered shift c t.year t.month)

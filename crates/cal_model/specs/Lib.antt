@@ -12,3 +12,5 @@ pub mod Placing
 pub mod DateOrder
 pub mod PlainMonths
 pub mod RenumberedBounds
+pub mod DayDates
+pub mod Anniversary

@@ -310,12 +310,13 @@ where
     /// Adds a duration to the date (ECMAScript Temporal's NonISODateAdd). The default of the option `overflow`
     /// is [`Overflow::Constrain`]. After a refusal the date is as it was.
     ///
-    /// [`DateAddError::Overflow`] comes for more than 2080000 years, 27040000 months, or 838240000 days with
-    /// the weeks', and where the years lead past the years from -1040000 to 1040000, counted in ISO years in
-    /// the Gregorian calendars; then [`DateAddError::MonthNotInYear`] where the year that they lead to lacks
-    /// the month, and [`DateAddError::InvalidDay`] where the month that the months lead to lacks the day,
-    /// under [`Overflow::Reject`]; and last [`DateAddError::Overflow`] where the sum's day number isn't in the
-    /// valid range.
+    /// [`DateAddError::Overflow`] comes for more than 2080000 years, 27040000 months (13 in each of so many
+    /// years), or 838240000 days (31 in each of so many months) with the weeks', and where the years lead past
+    /// the years from -1040000 to 1040000, counted in ISO years in the Gregorian calendars; then
+    /// [`DateAddError::MonthNotInYear`] where the year that they lead to lacks the month, and
+    /// [`DateAddError::InvalidDay`] where the month that the months lead to lacks the day, under
+    /// [`Overflow::Reject`]; and last [`DateAddError::Overflow`] where the sum's day number isn't in the valid
+    /// range.
     pub fn try_add_with_options(
         &mut self,
         duration: DateDuration,

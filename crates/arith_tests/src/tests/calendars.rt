@@ -5,6 +5,7 @@ ghost use Rattle.std.specs.Prelude.{◌≡◌, ◌<◌};
 ghost use Rattle.cal_days.specs.Day.{IsValidDay};
 
 mod counted_years;
+mod limits;
 
 use crate::tests::expected::{assert_at, assert_day, assert_holds, assert_same};
 use cal_arith::Steps;

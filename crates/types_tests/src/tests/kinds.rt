@@ -2,8 +2,10 @@
 
 use crate::tests::expected::{assert_at, assert_holds, assert_prints, assert_same};
 use cal_kinds::AnyCalendarKind;
+use cal_kinds::laws::order_of_kinds;
 use cal_types::{CalendarAlgorithm, HijriCalendarAlgorithm};
 use std::alloc::{AllocError, Global};
+use std::cmp::Ordering;
 use std::process::Abort;
 
 /// That a name is the program's for a kind.
@@ -119,4 +121,43 @@ fn kinds_of_hijri_calendars(rt: HostRuntime) -> Result<(), AllocError> {
         CalendarAlgorithm::Hijri(Some(Umalqura)),
         "HijriUmmAlQura",
     )
+}
+
+/// That a kind comes after another.
+fn assert_after(rt: &impl Abort, first: AnyCalendarKind, second: AnyCalendarKind) {
+    assert_at(rt, second, order_of_kinds(first, second), Ordering::Less);
+    assert_at(rt, second, order_of_kinds(second, first), Ordering::Greater);
+    assert_at(rt, second, order_of_kinds(second, second), Ordering::Equal);
+    assert_holds(rt, second, first < second);
+}
+
+#[test]
+fn kinds_are_ordered_as_their_names(rt: HostRuntime) {
+    use AnyCalendarKind as Kind;
+    assert_after(&rt, Kind::Buddhist, Kind::Chinese);
+    assert_after(&rt, Kind::Chinese, Kind::Coptic);
+    assert_after(&rt, Kind::Coptic, Kind::Dangi);
+    assert_after(&rt, Kind::Dangi, Kind::Ethiopian);
+    assert_after(&rt, Kind::Ethiopian, Kind::EthiopianAmeteAlem);
+    assert_after(&rt, Kind::EthiopianAmeteAlem, Kind::Gregorian);
+    assert_after(&rt, Kind::Gregorian, Kind::Hebrew);
+    assert_after(&rt, Kind::Hebrew, Kind::Indian);
+    assert_after(&rt, Kind::Indian, Kind::HijriTabularTypeIIFriday);
+    assert_after(
+        &rt,
+        Kind::HijriTabularTypeIIFriday,
+        Kind::HijriSimulatedMecca,
+    );
+    assert_after(
+        &rt,
+        Kind::HijriSimulatedMecca,
+        Kind::HijriTabularTypeIIThursday,
+    );
+    assert_after(&rt, Kind::HijriTabularTypeIIThursday, Kind::HijriUmmAlQura);
+    assert_after(&rt, Kind::HijriUmmAlQura, Kind::Iso);
+    assert_after(&rt, Kind::Iso, Kind::Japanese);
+    assert_after(&rt, Kind::Japanese, Kind::JapaneseExtended);
+    assert_after(&rt, Kind::JapaneseExtended, Kind::Julian);
+    assert_after(&rt, Kind::Julian, Kind::Persian);
+    assert_after(&rt, Kind::Persian, Kind::Roc);
 }

@@ -29,6 +29,21 @@ fn known_days_have_known_weekdays(rt: HostRuntime) {
 }
 
 #[test]
+fn weekdays_are_numbered_from_monday_on(rt: HostRuntime) {
+    for (number, day) in [
+        (1, Weekday::Monday),
+        (2, Weekday::Tuesday),
+        (3, Weekday::Wednesday),
+        (4, Weekday::Thursday),
+        (5, Weekday::Friday),
+        (6, Weekday::Saturday),
+        (7, Weekday::Sunday),
+    ] {
+        assert_at(&rt, number, day.number(), number);
+    }
+}
+
+#[test]
 fn a_set_has_its_days_in_any_order(rt: HostRuntime) {
     let weekend = WeekdaySet::new(&[Weekday::Saturday, Weekday::Sunday]);
     let turned = WeekdaySet::new(&[Weekday::Sunday, Weekday::Saturday, Weekday::Sunday]);
