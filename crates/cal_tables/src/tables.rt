@@ -28,6 +28,7 @@ impl<'t> Tables<'t> {
     ghost use Rattle.cal_east_asian.specs.EastAsianSystem.{east_asian_system};
     ghost use Rattle.cal_east_asian.specs.TableRules.{table_year};
     ghost use Rattle.cal_gregory.specs.JapaneseSystem.{japanese_system};
+    ghost use Rattle.cal_hijri.specs.HijriRows.{years_of};
     ghost use Rattle.cal_hijri.specs.TableRules.{umm_al_qura_system, simulated_mecca_system};
     ghost use Rattle.cal_julian.specs.PersianSystem.{persian_system};
     ghost use Rattle.cal_tables.specs.Kinds.{kind_system};
@@ -88,7 +89,7 @@ impl<'t> Tables<'t> {
 
     /// The Hijri calendar of Umm al-Qura, with its rows.
     pub fn umm_al_qura(&self) -> Hijri<UmmAlQura<'t>>
-        ensures { umm_al_qura_system result.0.table.rows.now
+        ensures { umm_al_qura_system (years_of result.0.table.rows.now)
             ≡ kind_system (table_contents self.now) kind.HijriUmmAlQura }
     {
         Hijri::new_umm_al_qura(self.umm_al_qura)
@@ -96,7 +97,7 @@ impl<'t> Tables<'t> {
 
     /// The Hijri calendar as it is simulated for Mecca, which has no rows.
     pub fn simulated_mecca(&self) -> Hijri<AstronomicalSimulation<'t>>
-        ensures { simulated_mecca_system result.0.table.rows.now
+        ensures { simulated_mecca_system (years_of result.0.table.rows.now)
             ≡ kind_system (table_contents self.now) kind.HijriSimulatedMecca }
     {
         Hijri::new_simulated_mecca(HijriTable::none())
