@@ -20,7 +20,7 @@ use cal_types::TableFault;
 ///
 /// The rows' numbers follow one another, from 1912 to 9999. Each row starts where the year before it ends, the last row
 /// ends where the computed next year starts, and no three years in a row lack a leap month. The rows are handed in by
-/// [`EastAsianTable::try_new`]; a table made by [`EastAsianTable::none`] has none.
+/// [`EastAsianTable::try_new`] or [`EastAsianTable::new`]; a table made by [`EastAsianTable::none`] has none.
 #[derive(Clone, Copy, Debug)]
 pub struct EastAsianTable<'t> {
     side: Side,
