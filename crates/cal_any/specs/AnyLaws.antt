@@ -29,6 +29,7 @@ use Rattle.cal_gregory.specs.RocEraLaws.{roc_era-named}
 use Rattle.cal_hebrew.specs.HebrewList.{hebrew_list}
 use Rattle.cal_hebrew.specs.HebrewLaws as hebrew_bounds
 use Rattle.cal_hebrew.specs.HebrewMonths.{hebrew_list-lawful}
+use Rattle.cal_east_asian.specs.EastAsianRows as east_asian_rows
 use Rattle.cal_east_asian.specs.ComputedLaws.{computed_year}
 use Rattle.cal_east_asian.specs.EastAsianList.{east_asian_list}
 use Rattle.cal_east_asian.specs.EastAsianListLaws.{east_asian_list-lawful}
@@ -39,6 +40,7 @@ use Rattle.cal_east_asian.specs.TableRules.{same_lists, same_year-alike}
 use Rattle.cal_east_asian.specs.TableYears.{chosen_year}
 use Rattle.cal_east_asian.specs.declared.sides.Side.{Side}
 use Rattle.cal_east_asian.specs.declared.sides.Side.TheVariants.{China, Korea}
+use Rattle.cal_hijri.specs.HijriRows as hijri_rows
 use Rattle.cal_hijri.specs.HijriBounds as hijri_bounds
 use Rattle.cal_hijri.specs.HijriList.{hijri_list, has_parts_of}
 use Rattle.cal_hijri.specs.HijriNames.{years-named}
@@ -73,9 +75,9 @@ any_lawful (calendar.Dangi c) = east_asian_list-lawful (tables.table_year c.0.ta
 any_lawful (calendar.Ethiopian c) = ethiopian_list-lawful (coptic_offset c.era_style)
 any_lawful (calendar.Gregorian _) = offset_list-lawful (pos 0)
 any_lawful (calendar.Hebrew _) = hebrew_list-lawful
-any_lawful (calendar.HijriSimulated c) = hijri_list-lawful (table_year c.0.table.rows.now)
+any_lawful (calendar.HijriSimulated c) = hijri_list-lawful (table_year (hijri_rows.years_of c.0.table.rows.now))
 any_lawful (calendar.HijriTabular c) = hijri_list-lawful (tabular_year c.0)
-any_lawful (calendar.HijriUmmAlQura c) = hijri_list-lawful (table_year c.0.table.rows.now)
+any_lawful (calendar.HijriUmmAlQura c) = hijri_list-lawful (table_year (hijri_rows.years_of c.0.table.rows.now))
 any_lawful (calendar.Indian _) = indian_list-lawful
 any_lawful (calendar.Iso _) = offset_list-lawful (pos 0)
 any_lawful (calendar.Japanese _) = offset_list-lawful (pos 0)
@@ -93,9 +95,9 @@ any_ranged (calendar.Dangi c) t h = (east_asian_bounds.years-ranged (tables.tabl
 any_ranged (calendar.Ethiopian c) t h = (ranged-renumbered (coptic_offset c.era_style) (coptic_offset-small c.era_style) coptic_list coptic_list-bounded t h).0
 any_ranged (calendar.Gregorian _) t h = offset_list-ranged (pos 0) (true-offset (pos 0) refl) t h
 any_ranged (calendar.Hebrew _) t h = (hebrew_bounds.years-ranged t h).0
-any_ranged (calendar.HijriSimulated c) t h = (hijri_bounds.years-ranged (table_year c.0.table.rows.now) (table-numbered c.0.table.rows.now c.0.table.accepted) (table-joins c.0.table.rows.now c.0.table.accepted) t h).0
+any_ranged (calendar.HijriSimulated c) t h = (hijri_bounds.years-ranged (table_year (hijri_rows.years_of c.0.table.rows.now)) (table-numbered (hijri_rows.years_of c.0.table.rows.now) c.0.table.accepted) (table-joins (hijri_rows.years_of c.0.table.rows.now) c.0.table.accepted) t h).0
 any_ranged (calendar.HijriTabular c) t h = (hijri_bounds.years-ranged (tabular_year c.0) (tabular-numbered c.0) (tabular-joins c.0) t h).0
-any_ranged (calendar.HijriUmmAlQura c) t h = (hijri_bounds.years-ranged (table_year c.0.table.rows.now) (table-numbered c.0.table.rows.now c.0.table.accepted) (table-joins c.0.table.rows.now c.0.table.accepted) t h).0
+any_ranged (calendar.HijriUmmAlQura c) t h = (hijri_bounds.years-ranged (table_year (hijri_rows.years_of c.0.table.rows.now)) (table-numbered (hijri_rows.years_of c.0.table.rows.now) c.0.table.accepted) (table-joins (hijri_rows.years_of c.0.table.rows.now) c.0.table.accepted) t h).0
 any_ranged (calendar.Indian _) t h = (indian_bounds.years-ranged t h).0
 any_ranged (calendar.Iso _) t h = offset_list-ranged (pos 0) (true-offset (pos 0) refl) t h
 any_ranged (calendar.Japanese _) t h = offset_list-ranged (pos 0) (true-offset (pos 0) refl) t h
@@ -114,9 +116,9 @@ any_covered (calendar.Dangi c) t y h = east_asian_bounds.days-covered (tables.ta
 any_covered (calendar.Ethiopian c) t y h = covered-renumbered (coptic_offset c.era_style) (coptic_offset-small c.era_style) coptic_list coptic_list-bounded t y h
 any_covered (calendar.Gregorian _) t y h = offset_list-covered (pos 0) (true-offset (pos 0) refl) t y h
 any_covered (calendar.Hebrew _) t y h = hebrew_bounds.days-covered t y h
-any_covered (calendar.HijriSimulated c) t y h = hijri_bounds.days-covered (table_year c.0.table.rows.now) (table-numbered c.0.table.rows.now c.0.table.accepted) (table-joins c.0.table.rows.now c.0.table.accepted) t y h
+any_covered (calendar.HijriSimulated c) t y h = hijri_bounds.days-covered (table_year (hijri_rows.years_of c.0.table.rows.now)) (table-numbered (hijri_rows.years_of c.0.table.rows.now) c.0.table.accepted) (table-joins (hijri_rows.years_of c.0.table.rows.now) c.0.table.accepted) t y h
 any_covered (calendar.HijriTabular c) t y h = hijri_bounds.days-covered (tabular_year c.0) (tabular-numbered c.0) (tabular-joins c.0) t y h
-any_covered (calendar.HijriUmmAlQura c) t y h = hijri_bounds.days-covered (table_year c.0.table.rows.now) (table-numbered c.0.table.rows.now c.0.table.accepted) (table-joins c.0.table.rows.now c.0.table.accepted) t y h
+any_covered (calendar.HijriUmmAlQura c) t y h = hijri_bounds.days-covered (table_year (hijri_rows.years_of c.0.table.rows.now)) (table-numbered (hijri_rows.years_of c.0.table.rows.now) c.0.table.accepted) (table-joins (hijri_rows.years_of c.0.table.rows.now) c.0.table.accepted) t y h
 any_covered (calendar.Indian _) t y h = indian_bounds.days-covered t y h
 any_covered (calendar.Iso _) t y h = offset_list-covered (pos 0) (true-offset (pos 0) refl) t y h
 any_covered (calendar.Japanese _) t y h = offset_list-covered (pos 0) (true-offset (pos 0) refl) t y h
@@ -193,9 +195,9 @@ valid-kept (calendar.Dangi c) t h = is_valid_date-true (east_asian_list (tables.
 valid-kept (calendar.Ethiopian c) t h = valid-counted (coptic_offset c.era_style) coptic_list t (is_valid_date-true (ethiopian_list (coptic_offset c.era_style)) (counted_date (coptic_offset c.era_style) t) h)
 valid-kept (calendar.Gregorian _) t h = is_valid_date-true gregorian_list t h
 valid-kept (calendar.Hebrew _) t h = is_valid_date-true hebrew_list t h
-valid-kept (calendar.HijriSimulated c) t h = is_valid_date-true (hijri_list (table_year c.0.table.rows.now)) t h
+valid-kept (calendar.HijriSimulated c) t h = is_valid_date-true (hijri_list (table_year (hijri_rows.years_of c.0.table.rows.now))) t h
 valid-kept (calendar.HijriTabular c) t h = is_valid_date-true (hijri_list (tabular_year c.0)) t h
-valid-kept (calendar.HijriUmmAlQura c) t h = is_valid_date-true (hijri_list (table_year c.0.table.rows.now)) t h
+valid-kept (calendar.HijriUmmAlQura c) t h = is_valid_date-true (hijri_list (table_year (hijri_rows.years_of c.0.table.rows.now))) t h
 valid-kept (calendar.Indian _) t h = is_valid_date-true indian_list t h
 valid-kept (calendar.Iso _) t h = is_valid_date-true gregorian_list t h
 valid-kept (calendar.Japanese _) t h = is_valid_date-true gregorian_list t h
@@ -212,9 +214,9 @@ kept-valid (calendar.Dangi c) t h = true-is_valid_date (east_asian_list (tables.
 kept-valid (calendar.Ethiopian c) t h = true-is_valid_date (ethiopian_list (coptic_offset c.era_style)) (counted_date (coptic_offset c.era_style) t) (counted-valid (coptic_offset c.era_style) coptic_list t h)
 kept-valid (calendar.Gregorian _) t h = true-is_valid_date gregorian_list t h
 kept-valid (calendar.Hebrew _) t h = true-is_valid_date hebrew_list t h
-kept-valid (calendar.HijriSimulated c) t h = true-is_valid_date (hijri_list (table_year c.0.table.rows.now)) t h
+kept-valid (calendar.HijriSimulated c) t h = true-is_valid_date (hijri_list (table_year (hijri_rows.years_of c.0.table.rows.now))) t h
 kept-valid (calendar.HijriTabular c) t h = true-is_valid_date (hijri_list (tabular_year c.0)) t h
-kept-valid (calendar.HijriUmmAlQura c) t h = true-is_valid_date (hijri_list (table_year c.0.table.rows.now)) t h
+kept-valid (calendar.HijriUmmAlQura c) t h = true-is_valid_date (hijri_list (table_year (hijri_rows.years_of c.0.table.rows.now))) t h
 kept-valid (calendar.Indian _) t h = true-is_valid_date indian_list t h
 kept-valid (calendar.Iso _) t h = true-is_valid_date gregorian_list t h
 kept-valid (calendar.Japanese _) t h = true-is_valid_date gregorian_list t h
@@ -293,9 +295,9 @@ list_of_kind c n =
 
 kept_list-kind : (c : AnyCalendar) → kept_list c ≡ list_of_kind c (calendar_kind c)
 kept_list-kind (calendar.Buddhist _) = refl
-kept_list-kind (calendar.Chinese c) = ap (λ (x : Side). east_asian_list (chosen_year (computed_year x) c.0.table.rows.now)) c.0.side
+kept_list-kind (calendar.Chinese c) = ap (λ (x : Side). east_asian_list (chosen_year (computed_year x) (east_asian_rows.years_of c.0.table.rows.now))) c.0.side
 kept_list-kind (calendar.Coptic _) = refl
-kept_list-kind (calendar.Dangi c) = ap (λ (x : Side). east_asian_list (chosen_year (computed_year x) c.0.table.rows.now)) c.0.side
+kept_list-kind (calendar.Dangi c) = ap (λ (x : Side). east_asian_list (chosen_year (computed_year x) (east_asian_rows.years_of c.0.table.rows.now))) c.0.side
 kept_list-kind (calendar.Ethiopian _) = refl
 kept_list-kind (calendar.Gregorian _) = refl
 kept_list-kind (calendar.Hebrew _) = refl
@@ -319,10 +321,10 @@ given_of_kind c d n =
 keeps_given-kind : (c : AnyCalendar) (d : AnyDateInner) → keeps_given_year c d ≡ given_of_kind c d (calendar_kind c)
 keeps_given-kind (calendar.Buddhist _) d = refl
 keeps_given-kind (calendar.Chinese c) d =
-    ap (λ (x : Side). same_year (chosen_year (computed_year x) c.0.table.rows.now (east_asian_year d).related_iso) (east_asian_year d)) c.0.side
+    ap (λ (x : Side). same_year (chosen_year (computed_year x) (east_asian_rows.years_of c.0.table.rows.now) (east_asian_year d).related_iso) (east_asian_year d)) c.0.side
 keeps_given-kind (calendar.Coptic _) d = refl
 keeps_given-kind (calendar.Dangi c) d =
-    ap (λ (x : Side). same_year (chosen_year (computed_year x) c.0.table.rows.now (east_asian_year d).related_iso) (east_asian_year d)) c.0.side
+    ap (λ (x : Side). same_year (chosen_year (computed_year x) (east_asian_rows.years_of c.0.table.rows.now) (east_asian_year d).related_iso) (east_asian_year d)) c.0.side
 keeps_given-kind (calendar.Ethiopian _) d = refl
 keeps_given-kind (calendar.Gregorian _) d = refl
 keeps_given-kind (calendar.Hebrew _) d = refl
@@ -340,15 +342,15 @@ keeps_given-kind (calendar.Roc _) d = refl
 -- calendars that share what their kind asks for have the kind's list
 alike_list : (s t : AnyCalendar) → IsTrue (test_of table_tests (calendar_kind s) s t) → kept_list s ≡ list_of_kind t (calendar_kind s)
 alike_list (calendar.Buddhist _) t h = refl
-alike_list (calendar.Chinese c) t h = λ i. east_asian_list (chosen_year (computed_year (c.0.side i)) (same_lists c.0.table.rows.now (east_asian_rows_of t) h i))
+alike_list (calendar.Chinese c) t h = λ i. east_asian_list (chosen_year (computed_year (c.0.side i)) (same_lists (east_asian_rows.years_of c.0.table.rows.now) (east_asian_rows_of t) h i))
 alike_list (calendar.Coptic _) t h = refl
-alike_list (calendar.Dangi c) t h = λ i. east_asian_list (chosen_year (computed_year (c.0.side i)) (same_lists c.0.table.rows.now (east_asian_rows_of t) h i))
+alike_list (calendar.Dangi c) t h = λ i. east_asian_list (chosen_year (computed_year (c.0.side i)) (same_lists (east_asian_rows.years_of c.0.table.rows.now) (east_asian_rows_of t) h i))
 alike_list (calendar.Ethiopian _) t h = refl
 alike_list (calendar.Gregorian _) t h = refl
 alike_list (calendar.Hebrew _) t h = refl
-alike_list (calendar.HijriSimulated c) t h = λ i. hijri_list (λ y. table-shared c.0.table.rows.now (hijri_rows_of t) y h i)
+alike_list (calendar.HijriSimulated c) t h = λ i. hijri_list (λ y. table-shared (hijri_rows.years_of c.0.table.rows.now) (hijri_rows_of t) y h i)
 alike_list (calendar.HijriTabular c) t h = λ i. hijri_list (λ y. tabular-shared c.0 (tabular_rules_of t) y h i)
-alike_list (calendar.HijriUmmAlQura c) t h = λ i. hijri_list (λ y. table-shared c.0.table.rows.now (hijri_rows_of t) y h i)
+alike_list (calendar.HijriUmmAlQura c) t h = λ i. hijri_list (λ y. table-shared (hijri_rows.years_of c.0.table.rows.now) (hijri_rows_of t) y h i)
 alike_list (calendar.Indian _) t h = refl
 alike_list (calendar.Iso _) t h = refl
 alike_list (calendar.Japanese _) t h = refl
@@ -360,15 +362,15 @@ alike_list (calendar.Roc _) t h = refl
 -- and give the same years
 alike_given : (s t : AnyCalendar) (d : AnyDateInner) → IsTrue (test_of table_tests (calendar_kind s) s t) → keeps_given_year s d ≡ given_of_kind t d (calendar_kind s)
 alike_given (calendar.Buddhist _) t d h = refl
-alike_given (calendar.Chinese c) t d h = λ i. same_year (chosen_year (computed_year (c.0.side i)) (same_lists c.0.table.rows.now (east_asian_rows_of t) h i) (east_asian_year d).related_iso) (east_asian_year d)
+alike_given (calendar.Chinese c) t d h = λ i. same_year (chosen_year (computed_year (c.0.side i)) (same_lists (east_asian_rows.years_of c.0.table.rows.now) (east_asian_rows_of t) h i) (east_asian_year d).related_iso) (east_asian_year d)
 alike_given (calendar.Coptic _) t d h = refl
-alike_given (calendar.Dangi c) t d h = λ i. same_year (chosen_year (computed_year (c.0.side i)) (same_lists c.0.table.rows.now (east_asian_rows_of t) h i) (east_asian_year d).related_iso) (east_asian_year d)
+alike_given (calendar.Dangi c) t d h = λ i. same_year (chosen_year (computed_year (c.0.side i)) (same_lists (east_asian_rows.years_of c.0.table.rows.now) (east_asian_rows_of t) h i) (east_asian_year d).related_iso) (east_asian_year d)
 alike_given (calendar.Ethiopian _) t d h = refl
 alike_given (calendar.Gregorian _) t d h = refl
 alike_given (calendar.Hebrew _) t d h = refl
-alike_given (calendar.HijriSimulated c) t d h = λ i. has_parts_of (table-shared c.0.table.rows.now (hijri_rows_of t) (hijri_year d).extended_year h i) (hijri_year d)
+alike_given (calendar.HijriSimulated c) t d h = λ i. has_parts_of (table-shared (hijri_rows.years_of c.0.table.rows.now) (hijri_rows_of t) (hijri_year d).extended_year h i) (hijri_year d)
 alike_given (calendar.HijriTabular c) t d h = λ i. has_parts_of (tabular-shared c.0 (tabular_rules_of t) (hijri_year d).extended_year h i) (hijri_year d)
-alike_given (calendar.HijriUmmAlQura c) t d h = λ i. has_parts_of (table-shared c.0.table.rows.now (hijri_rows_of t) (hijri_year d).extended_year h i) (hijri_year d)
+alike_given (calendar.HijriUmmAlQura c) t d h = λ i. has_parts_of (table-shared (hijri_rows.years_of c.0.table.rows.now) (hijri_rows_of t) (hijri_year d).extended_year h i) (hijri_year d)
 alike_given (calendar.Indian _) t d h = refl
 alike_given (calendar.Iso _) t d h = refl
 alike_given (calendar.Japanese _) t d h = refl

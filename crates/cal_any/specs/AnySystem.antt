@@ -21,6 +21,7 @@ use Rattle.cal_gregory.specs.RocEra.{roc_offset}
 use Rattle.cal_gregory.specs.RocSystem.{roc_system}
 use Rattle.cal_hebrew.specs.HebrewList.{hebrew_list}
 use Rattle.cal_hebrew.specs.HebrewSystem.{hebrew_system}
+use Rattle.cal_east_asian.specs.EastAsianRows as east_asian_rows
 use Rattle.cal_east_asian.specs.EastAsianList.{east_asian_list}
 use Rattle.cal_east_asian.specs.EastAsianReferences.{side_reference}
 use Rattle.cal_east_asian.specs.EastAsianSystem.{east_asian_system}
@@ -28,6 +29,7 @@ use Rattle.cal_east_asian.specs.SameYears.{same_year}
 use Rattle.cal_east_asian.specs.TableRules as tables
 use Rattle.cal_east_asian.specs.declared.east_asian_traditional_year.EastAsianTraditionalYear.{EastAsianTraditionalYear}
 use Rattle.cal_east_asian.specs.declared.sides.Side.TheVariants.{China, Korea}
+use Rattle.cal_hijri.specs.HijriRows as hijri_rows
 use Rattle.cal_hijri.specs.HijriList.{hijri_list, has_parts_of}
 use Rattle.cal_hijri.specs.SameRows.{are_same_rows}
 use Rattle.cal_hijri.specs.TableFriday.{friday_rules}
@@ -57,9 +59,9 @@ any_system (calendar.Dangi c) = east_asian_system (tables.table_year c.0.table) 
 any_system (calendar.Ethiopian c) = ethiopian_system c.era_style
 any_system (calendar.Gregorian _) = gregorian_system
 any_system (calendar.Hebrew _) = hebrew_system
-any_system (calendar.HijriSimulated c) = table_system c.0.table.rows.now
+any_system (calendar.HijriSimulated c) = table_system (hijri_rows.years_of c.0.table.rows.now)
 any_system (calendar.HijriTabular c) = tabular_system c.0
-any_system (calendar.HijriUmmAlQura c) = table_system c.0.table.rows.now
+any_system (calendar.HijriUmmAlQura c) = table_system (hijri_rows.years_of c.0.table.rows.now)
 any_system (calendar.Indian _) = indian_system
 any_system (calendar.Iso _) = iso_system
 any_system (calendar.Japanese c) = japanese_system c
@@ -77,9 +79,9 @@ kept_list (calendar.Dangi c) = east_asian_list (tables.table_year c.0.table)
 kept_list (calendar.Ethiopian _) = coptic_list
 kept_list (calendar.Gregorian _) = gregorian_list
 kept_list (calendar.Hebrew _) = hebrew_list
-kept_list (calendar.HijriSimulated c) = hijri_list (table_year c.0.table.rows.now)
+kept_list (calendar.HijriSimulated c) = hijri_list (table_year (hijri_rows.years_of c.0.table.rows.now))
 kept_list (calendar.HijriTabular c) = hijri_list (tabular_year c.0)
-kept_list (calendar.HijriUmmAlQura c) = hijri_list (table_year c.0.table.rows.now)
+kept_list (calendar.HijriUmmAlQura c) = hijri_list (table_year (hijri_rows.years_of c.0.table.rows.now))
 kept_list (calendar.Indian _) = indian_list
 kept_list (calendar.Iso _) = gregorian_list
 kept_list (calendar.Japanese _) = gregorian_list
@@ -141,9 +143,11 @@ is_valid_kept (calendar.Dangi c) t = is_valid_date (east_asian_list (tables.tabl
 is_valid_kept (calendar.Ethiopian c) t = is_valid_date (ethiopian_list (coptic_offset c.era_style)) (counted_date (coptic_offset c.era_style) t)
 is_valid_kept (calendar.Gregorian _) t = is_valid_date gregorian_list t
 is_valid_kept (calendar.Hebrew _) t = is_valid_date hebrew_list t
-is_valid_kept (calendar.HijriSimulated c) t = is_valid_date (hijri_list (table_year c.0.table.rows.now)) t
+is_valid_kept (calendar.HijriSimulated c) t =
+    is_valid_date (hijri_list (table_year (hijri_rows.years_of c.0.table.rows.now))) t
 is_valid_kept (calendar.HijriTabular c) t = is_valid_date (hijri_list (tabular_year c.0)) t
-is_valid_kept (calendar.HijriUmmAlQura c) t = is_valid_date (hijri_list (table_year c.0.table.rows.now)) t
+is_valid_kept (calendar.HijriUmmAlQura c) t =
+    is_valid_date (hijri_list (table_year (hijri_rows.years_of c.0.table.rows.now))) t
 is_valid_kept (calendar.Indian _) t = is_valid_date indian_list t
 is_valid_kept (calendar.Iso _) t = is_valid_date gregorian_list t
 is_valid_kept (calendar.Japanese _) t = is_valid_date gregorian_list t
@@ -155,9 +159,11 @@ is_valid_kept (calendar.Roc _) t = is_valid_date gregorian_list t
 -- whether the year that a date keeps is the one that its calendar gives, where a date keeps more than its number
 abbrev pub keeps_given_year : AnyCalendar → AnyDateInner → Bool
 keeps_given_year (calendar.Hebrew _) d = keeps_hebrew_length d
-keeps_given_year (calendar.HijriSimulated c) d = has_parts_of (table_year c.0.table.rows.now (hijri_year d).extended_year) (hijri_year d)
+keeps_given_year (calendar.HijriSimulated c) d =
+    has_parts_of (table_year (hijri_rows.years_of c.0.table.rows.now) (hijri_year d).extended_year) (hijri_year d)
 keeps_given_year (calendar.HijriTabular c) d = has_parts_of (tabular_year c.0 (hijri_year d).extended_year) (hijri_year d)
-keeps_given_year (calendar.HijriUmmAlQura c) d = has_parts_of (table_year c.0.table.rows.now (hijri_year d).extended_year) (hijri_year d)
+keeps_given_year (calendar.HijriUmmAlQura c) d =
+    has_parts_of (table_year (hijri_rows.years_of c.0.table.rows.now) (hijri_year d).extended_year) (hijri_year d)
 keeps_given_year (calendar.Chinese c) d = same_year (tables.table_year c.0.table (east_asian_year d).related_iso) (east_asian_year d)
 keeps_given_year (calendar.Dangi c) d = same_year (tables.table_year c.0.table (east_asian_year d).related_iso) (east_asian_year d)
 keeps_given_year _ d = true
@@ -188,8 +194,8 @@ rules_alike a b = are_same_rules (tabular_rules_of a) (tabular_rules_of b)
 
 -- the rows of a Hijri calendar by a table; others have none
 abbrev pub hijri_rows_of : AnyCalendar → List HijriYear
-hijri_rows_of (calendar.HijriSimulated c) = c.0.table.rows.now
-hijri_rows_of (calendar.HijriUmmAlQura c) = c.0.table.rows.now
+hijri_rows_of (calendar.HijriSimulated c) = hijri_rows.years_of c.0.table.rows.now
+hijri_rows_of (calendar.HijriUmmAlQura c) = hijri_rows.years_of c.0.table.rows.now
 hijri_rows_of _ = []
 
 abbrev pub hijri_rows_alike : AnyCalendar → AnyCalendar → Bool
@@ -197,8 +203,8 @@ hijri_rows_alike a b = are_same_rows (hijri_rows_of a) (hijri_rows_of b)
 
 -- the rows of a Chinese or Korean calendar; others have none
 abbrev pub east_asian_rows_of : AnyCalendar → List EastAsianTraditionalYear
-east_asian_rows_of (calendar.Chinese c) = c.0.table.rows.now
-east_asian_rows_of (calendar.Dangi c) = c.0.table.rows.now
+east_asian_rows_of (calendar.Chinese c) = east_asian_rows.years_of c.0.table.rows.now
+east_asian_rows_of (calendar.Dangi c) = east_asian_rows.years_of c.0.table.rows.now
 east_asian_rows_of _ = []
 
 abbrev pub east_asian_rows_alike : AnyCalendar → AnyCalendar → Bool

@@ -4,3 +4,4 @@ pub mod AnyOrder
 pub mod AnyOrderLaws
 pub mod ByKind
 pub mod KindHeld
+pub mod TablesHeld

@@ -6,7 +6,9 @@ ghost use Rattle.cal_hijri.specs.TabularRules.{tabular_system};
 ghost use Rattle.cal_hijri.specs.declared.tabular_algorithm.TabularAlgorithmLeapYears.TheVariants.{TypeII};
 ghost use Rattle.cal_any.specs.AnySystem.{any_system};
 ghost use Rattle.cal_any.specs.KindHeld.{is_extended, kind_held, kind_made, kind_of_epoch, kind_of_style};
+ghost use Rattle.cal_any.specs.TablesHeld.{HoldsTable};
 ghost use Rattle.cal_tables.specs.Kinds.{kind_system, table_contents};
+ghost use Rattle.cal_tables.specs.declared.tables.Tables.{Tables};
 
 use crate::any_calendar::AnyCalendar;
 use cal_base::Iso;
@@ -23,6 +25,7 @@ fn ethiopian<'t>(style: EthiopianEraStyle) -> AnyCalendar<'t>
     ensures system { any_system result ≡ ethiopian_system style }
     ensures held { kind_held result ≡ kind_of_style style }
     ensures variant { is_extended result ≡ false }
+    ensures table { (tables : Tables) → HoldsTable result tables }
 {
     AnyCalendar::Ethiopian(Ethiopian::new_with_era_style(style))
 }
@@ -32,6 +35,7 @@ fn tabular<'t>(epoch: TabularAlgorithmEpoch) -> AnyCalendar<'t>
     ensures system { any_system result ≡ tabular_system (record { leap_years = TypeII; epoch = epoch }) }
     ensures held { kind_held result ≡ kind_of_epoch epoch }
     ensures variant { is_extended result ≡ false }
+    ensures table { (tables : Tables) → HoldsTable result tables }
 {
     AnyCalendar::HijriTabular(Hijri::new_tabular(TabularAlgorithmLeapYears::TypeII, epoch))
 }
@@ -47,6 +51,7 @@ impl<'t> AnyCalendar<'t> {
         ensures system { any_system result ≡ kind_system (table_contents tables.entry) kind }
         ensures held { kind_held result ≡ kind_made kind }
         ensures variant { is_extended result ≡ false }
+        ensures table { HoldsTable result tables.entry }
     {
         match kind {
             AnyCalendarKind::Buddhist => AnyCalendar::Buddhist(Buddhist),

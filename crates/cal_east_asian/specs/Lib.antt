@@ -10,6 +10,7 @@ pub mod EastAsianStartLaws
 pub mod PackedYears
 pub mod SameYears
 pub mod SameYearLaws
+pub mod EastAsianRows
 pub mod EastAsianSystem
 pub mod EastAsianNameLaws
 pub mod EastAsianGivenLaws

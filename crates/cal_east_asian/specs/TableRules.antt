@@ -10,6 +10,7 @@ use Rattle.cal_types.specs.Month.{MonthParts}
 use Rattle.cal_errors.specs.declared.errors.EcmaReferenceYearError.{EcmaReferenceYearError}
 use Rattle.cal_errors.specs.declared.errors.EcmaReferenceYearError.TheVariants.{MonthNotInCalendar, UseRegularIfConstrain}
 use Rattle.cal_model.proofs.MonthCases.{by_month}
+use Rattle.cal_east_asian.specs.EastAsianRows.{years_of}
 use Rattle.cal_east_asian.specs.EastAsianYears.{AreYears}
 use Rattle.cal_east_asian.specs.EastAsianPlaces.{is_east_asian_month}
 use Rattle.cal_east_asian.specs.EastAsianReferences.{ReferenceRow, both, short, third_month_30, plain_row, leap_row, month_row, year_for_day, side_reference}
@@ -26,17 +27,17 @@ use Rattle.cal_east_asian.specs.declared.sides.Side.TheVariants.{China, Korea}
 
 -- the year of a number by a table
 abbrev pub table_year : EastAsianTable → ℤ → EastAsianTraditionalYear
-table_year t = chosen_year (computed_year t.side) t.rows.now
+table_year t = chosen_year (computed_year t.side) (years_of t.rows.now)
 
 abbrev pub table_rows : EastAsianTable → List EastAsianTraditionalYear
-table_rows t = t.rows.now
+table_rows t = years_of t.rows.now
 
 -- two tables have the same rows
 abbrev pub have_same_rows : EastAsianTable → EastAsianTable → Bool
 have_same_rows s t = pointwise same_year (table_rows s) (table_rows t)
 
 pub table-years : (t : EastAsianTable) → AreYears (table_year t)
-table-years t = chosen-years (computed_year t.side) t.rows.now t.accepted (computed-years t.side)
+table-years t = chosen-years (computed_year t.side) (years_of t.rows.now) t.accepted (computed-years t.side)
 
 abbrev lengths_of : EastAsianTraditionalYear → ℕ
 lengths_of y = y.long_months

@@ -3,26 +3,28 @@
 ghost use Rattle.std.specs.Prelude.{◌≡◌, slice_get};
 ghost use Rattle.cal_days.specs.Day.{IsRuleYear};
 ghost use Rattle.cal_east_asian.specs.ComputedLaws as computed;
+ghost use Rattle.cal_east_asian.specs.EastAsianRows.{years_of};
 ghost use Rattle.cal_east_asian.specs.TableYears as table;
 
 use crate::computed_years::computed_year;
+use crate::east_asian_row::EastAsianRow;
 use crate::east_asian_traditional_year::EastAsianTraditionalYear;
 use crate::sides::Side;
 
 /// The row at an index, counted from 0.
-pub(crate) fn row_at(
-    rows: &[EastAsianTraditionalYear],
-    index: usize,
-) -> Option<EastAsianTraditionalYear>
-    ensures { result ≡ slice_get rows.now index }
+pub(crate) fn row_at(rows: &[EastAsianRow], index: usize) -> Option<EastAsianTraditionalYear>
+    ensures { result ≡ slice_get (years_of rows.now) index }
 {
-    rows.get(index).copied()
+    match rows.get(index) {
+        Some(row) => Some(row.year()),
+        None => None,
+    }
 }
 
 /// The row of a year. Rows follow one another, so its place follows from the first row's year.
-fn row_of(rows: &[EastAsianTraditionalYear], related_iso: i32) -> Option<EastAsianTraditionalYear>
+fn row_of(rows: &[EastAsianRow], related_iso: i32) -> Option<EastAsianTraditionalYear>
     requires { IsRuleYear related_iso }
-    ensures { result ≡ table.row_of rows.now related_iso }
+    ensures { result ≡ table.row_of (years_of rows.now) related_iso }
 {
     match row_at(rows, 0) {
         None => None,
@@ -39,11 +41,11 @@ fn row_of(rows: &[EastAsianTraditionalYear], related_iso: i32) -> Option<EastAsi
 /// The row of a year where there is one, and otherwise the computed year.
 pub(crate) fn chosen_year(
     side: Side,
-    rows: &[EastAsianTraditionalYear],
+    rows: &[EastAsianRow],
     related_iso: i32,
 ) -> EastAsianTraditionalYear
     requires { IsRuleYear related_iso }
-    ensures { result ≡ table.chosen_year (computed.computed_year side) rows.now related_iso }
+    ensures { result ≡ table.chosen_year (computed.computed_year side) (years_of rows.now) related_iso }
 {
     match row_of(rows, related_iso) {
         Some(row) => row,

@@ -3,12 +3,14 @@
 ghost use Rattle.std.specs.Prelude.{◌≡◌, ◌↔◌, [], IsOk, MatchResult};
 ghost use Rattle.cal_days.specs.Day.{IsRuleYear};
 ghost use Rattle.cal_east_asian.specs.ComputedLaws.{computed_year};
+ghost use Rattle.cal_east_asian.specs.EastAsianRows.{years_of};
 ghost use Rattle.cal_east_asian.specs.TableAccepted.{IsAccepted, IsFirstFault};
 ghost use Rattle.cal_east_asian.specs.TableYears as table;
 ghost use Rattle.cal_east_asian.specs.TableYears.{HasNoRow, IsRowOf};
 ghost use Rattle.cal_east_asian.specs.declared.east_asian_traditional_year.EastAsianTraditionalYear.{EastAsianTraditionalYear};
 
 use crate::chosen_years::chosen_year;
+use crate::east_asian_row::EastAsianRow;
 use crate::east_asian_traditional_year::EastAsianTraditionalYear;
 use crate::sides::Side;
 use crate::table_check::check;
@@ -18,12 +20,12 @@ use cal_types::TableFault;
 ///
 /// The rows' numbers follow one another, from 1912 to 9999. Each row starts where the year before it ends, the last row
 /// ends where the computed next year starts, and no three years in a row lack a leap month. The rows are handed in by
-/// [`EastAsianTable::try_new`]; a table made by [`EastAsianTable::none`] has none.
+/// [`EastAsianTable::try_new`] or [`EastAsianTable::new`]; a table made by [`EastAsianTable::none`] has none.
 #[derive(Clone, Copy, Debug)]
 pub struct EastAsianTable<'t> {
     side: Side,
-    rows: &'t [EastAsianTraditionalYear],
-    ghost accepted: { IsAccepted (computed_year side) rows.now },
+    rows: &'t [EastAsianRow],
+    ghost accepted: { IsAccepted (computed_year side) (years_of rows.now) },
 }
 
 impl<'t> EastAsianTable<'t> {
@@ -33,6 +35,16 @@ impl<'t> EastAsianTable<'t> {
         ensures rows { result.rows.now ≡ [] }
     {
         EastAsianTable { side, rows: &[] }
+    }
+
+    /// The table of rows that are known to be accepted for one side, as those of constant data can be by computation.
+    /// No row is looked at.
+    pub fn new(side: Side, rows: &'t [EastAsianRow]) -> EastAsianTable<'t>
+        requires { IsAccepted (computed_year side) (years_of rows.now) }
+        ensures side { result.side ≡ side }
+        ensures rows { result.rows.now ≡ rows.now }
+    {
+        EastAsianTable { side, rows }
     }
 
     /// The table of these rows, for one side.
@@ -45,13 +57,10 @@ impl<'t> EastAsianTable<'t> {
     /// ends; [`Leap`](cal_types::TablePart::Leap) where neither the row's year nor one of the two years before it has
     /// a leap month, or, at the last row, the same is true of the first or the second year after it. Among these
     /// years, one without a row is the computed one.
-    pub fn try_new(
-        side: Side,
-        rows: &'t [EastAsianTraditionalYear],
-    ) -> Result<EastAsianTable<'t>, TableFault>
+    pub fn try_new(side: Side, rows: &'t [EastAsianRow]) -> Result<EastAsianTable<'t>, TableFault>
         ensures first { MatchResult result (λ made. (made.side ≡ side) × (made.rows.now ≡ rows.now))
-            (IsFirstFault (computed_year side) rows.now) }
-        ensures exact { IsOk result ↔ IsAccepted (computed_year side) rows.now }
+            (IsFirstFault (computed_year side) (years_of rows.now)) }
+        ensures exact { IsOk result ↔ IsAccepted (computed_year side) (years_of rows.now) }
     {
         match check(side, rows) {
             Ok(()) => Ok(EastAsianTable { side, rows }),
@@ -67,7 +76,7 @@ impl<'t> EastAsianTable<'t> {
     }
 
     /// The rows of the table.
-    pub fn rows(&self) -> &'t [EastAsianTraditionalYear]
+    pub fn rows(&self) -> &'t [EastAsianRow]
         ensures { result.now ≡ self.now.rows.now }
     {
         self.rows
@@ -76,9 +85,12 @@ impl<'t> EastAsianTable<'t> {
     /// The year of a number from -8000000 to 8000000: its row where there is one, and otherwise the computed year.
     pub(crate) fn year(&self, related_iso: i32) -> EastAsianTraditionalYear
         requires { IsRuleYear related_iso }
-        ensures exact { result ≡ table.chosen_year (computed_year self.now.side) self.now.rows.now related_iso }
-        ensures row { (row : EastAsianTraditionalYear) → IsRowOf self.now.rows.now related_iso row → result ≡ row }
-        ensures other { HasNoRow self.now.rows.now related_iso → result ≡ computed_year self.now.side related_iso }
+        ensures exact { result
+            ≡ table.chosen_year (computed_year self.now.side) (years_of self.now.rows.now) related_iso }
+        ensures row { (row : EastAsianTraditionalYear) → IsRowOf (years_of self.now.rows.now) related_iso row
+            → result ≡ row }
+        ensures other { HasNoRow (years_of self.now.rows.now) related_iso
+            → result ≡ computed_year self.now.side related_iso }
         ensures number { result.related_iso ≡ related_iso }
     {
         chosen_year(self.side, self.rows, related_iso)

@@ -5,6 +5,7 @@ mod china;
 mod chosen_years;
 mod computed_years;
 mod east_asian_months;
+mod east_asian_row;
 mod east_asian_table;
 mod east_asian_traditional;
 mod east_asian_traditional_year;
@@ -21,6 +22,7 @@ mod table_check;
 mod table_months;
 
 pub use china::{China, ChineseTraditional};
+pub use east_asian_row::EastAsianRow;
 pub use east_asian_table::EastAsianTable;
 pub use east_asian_traditional::{ChineseDateInner, EastAsianTraditional};
 pub use east_asian_traditional_year::{EastAsianTraditionalYear, PackedEastAsianDate};

@@ -2,8 +2,10 @@
 
 ghost use Rattle.std.specs.Prelude.{◌≡◌};
 ghost use Rattle.std.specs.Cmp.Lexicographic.{pointwise};
+ghost use Rattle.cal_east_asian.specs.EastAsianRows.{is_same_row, years_of};
 ghost use Rattle.cal_east_asian.specs.SameYears.{same_year};
 
+use crate::east_asian_row::EastAsianRow;
 use crate::east_asian_traditional_year::EastAsianTraditionalYear;
 
 /// Whether two years have the same number, first day, month lengths and leap month.
@@ -16,22 +18,33 @@ pub(crate) fn is_same_year(one: EastAsianTraditionalYear, other: EastAsianTradit
         && one.leap_month == other.leap_month
 }
 
-/// Whether two tables have as many rows, and the same ones.
-pub(crate) fn have_same_rows(
-    one: &[EastAsianTraditionalYear],
-    other: &[EastAsianTraditionalYear],
-) -> bool
-    ensures { result ≡ pointwise same_year one.now other.now }
+/// Whether two rows are the same year.
+fn is_same_row(one: EastAsianRow, other: EastAsianRow) -> bool
+    ensures { result ≡ is_same_row one other }
+{
+    is_same_year(one.year(), other.year())
+}
+
+/// Whether two lists have as many rows, and the same ones.
+fn are_same_rows(one: &[EastAsianRow], other: &[EastAsianRow]) -> bool
+    ensures { result ≡ pointwise is_same_row one.now other.now }
 {
     if one.len() != other.len() {
         return false;
     }
     let mut index = 0;
     'rows: while index < one.len() {
-        if !is_same_year(one[index], other[index]) {
+        if !is_same_row(one[index], other[index]) {
             return false;
         }
         index += 1;
     }
     true
+}
+
+/// Whether two tables have as many rows, and the same years in them.
+pub(crate) fn have_same_rows(one: &[EastAsianRow], other: &[EastAsianRow]) -> bool
+    ensures { result ≡ pointwise same_year (years_of one.now) (years_of other.now) }
+{
+    are_same_rows(one, other)
 }

@@ -4,6 +4,7 @@ ghost use Rattle.std.specs.Prelude.{◌≡◌, ◌↔◌, ◌<◌, ◌+◌, ◌&
 ghost use Rattle.cal_days.specs.Day.{IsBetween};
 ghost use Rattle.cal_east_asian.specs.ComputedLaws as computed;
 ghost use Rattle.cal_east_asian.specs.EastAsianYears as years;
+ghost use Rattle.cal_east_asian.specs.EastAsianRows.{years_of};
 ghost use Rattle.cal_east_asian.specs.TableYears as table;
 ghost use Rattle.cal_east_asian.specs.TableYears.{IsRow};
 ghost use Rattle.cal_east_asian.specs.TableAccepted.{IsTableYear, row_before, is_next, follows, joins, ends, leap_by_years, leaps_after, meets, MeetsAll, IsAccepted, IsFirstBroken, IsFirstFault};
@@ -12,6 +13,7 @@ ghost use Rattle.cal_errors.specs.declared.errors.TablePart.TheVariants as parts
 use crate::chosen_years::{chosen_year, row_at};
 use crate::computed_years::computed_year;
 use crate::east_asian_months::days_in_year;
+use crate::east_asian_row::EastAsianRow;
 use crate::east_asian_traditional_year::EastAsianTraditionalYear;
 use crate::sides::Side;
 use cal_types::{TableFault, TablePart};
@@ -31,8 +33,8 @@ fn follows(before: EastAsianTraditionalYear, row: EastAsianTraditionalYear) -> b
 }
 
 /// The row before the one at an index.
-fn row_before(rows: &[EastAsianTraditionalYear], index: usize) -> Option<EastAsianTraditionalYear>
-    ensures { result ≡ row_before rows.now index }
+fn row_before(rows: &[EastAsianRow], index: usize) -> Option<EastAsianTraditionalYear>
+    ensures { result ≡ row_before (years_of rows.now) index }
 {
     if index == 0 {
         None
@@ -87,9 +89,9 @@ fn is_one_leap(
 }
 
 /// Whether one of a year and the two before it has a leap month.
-fn is_leap_in_three(side: Side, rows: &[EastAsianTraditionalYear], related_iso: i32) -> bool
+fn is_leap_in_three(side: Side, rows: &[EastAsianRow], related_iso: i32) -> bool
     requires { IsBetween (pos 1912) (pos 10001) related_iso }
-    ensures { result ≡ leap_by_years (table.chosen_year (computed.computed_year side) rows.now) related_iso }
+    ensures { result ≡ leap_by_years (table.chosen_year (computed.computed_year side) (years_of rows.now)) related_iso }
 {
     is_one_leap(
         chosen_year(side, rows, related_iso),
@@ -99,37 +101,28 @@ fn is_leap_in_three(side: Side, rows: &[EastAsianTraditionalYear], related_iso: 
 }
 
 /// Whether there is a leap month in the three years up to the first year after a row, and up to the second.
-fn leaps_after(side: Side, rows: &[EastAsianTraditionalYear], row: EastAsianTraditionalYear) -> bool
+fn leaps_after(side: Side, rows: &[EastAsianRow], row: EastAsianTraditionalYear) -> bool
     requires { IsTableYear row.related_iso }
-    ensures { result ≡ leaps_after (table.chosen_year (computed.computed_year side) rows.now) row }
+    ensures { result ≡ leaps_after (table.chosen_year (computed.computed_year side) (years_of rows.now)) row }
 {
     is_leap_in_three(side, rows, row.related_iso + 1)
         && is_leap_in_three(side, rows, row.related_iso + 2)
 }
 
 /// Whether a row's year is as it is to be.
-fn meets_year(
-    rows: &[EastAsianTraditionalYear],
-    index: usize,
-    row: EastAsianTraditionalYear,
-) -> bool
-    requires { IfSome (row_before rows.now index) (λ before. IsTableYear before.related_iso) }
-    ensures exact { result ≡ (is_next (row_before rows.now index) row && int_le row.related_iso (pos 9999)) }
+fn meets_year(rows: &[EastAsianRow], index: usize, row: EastAsianTraditionalYear) -> bool
+    requires { IfSome (row_before (years_of rows.now) index) (λ before. IsTableYear before.related_iso) }
+    ensures exact { result ≡ (is_next (row_before (years_of rows.now) index) row && int_le row.related_iso (pos 9999)) }
     ensures year { IsTrue result → IsTableYear row.related_iso }
 {
     is_next(row_before(rows, index), row) && row.related_iso <= 9999
 }
 
 /// Whether a row, if it is the last one, ends as it is to.
-fn meets_end(
-    side: Side,
-    rows: &[EastAsianTraditionalYear],
-    index: usize,
-    row: EastAsianTraditionalYear,
-) -> bool
-    requires within { index < length rows.now }
+fn meets_end(side: Side, rows: &[EastAsianRow], index: usize, row: EastAsianTraditionalYear) -> bool
+    requires within { index < length (years_of rows.now) }
     requires year { IsTableYear row.related_iso }
-    ensures { result ≡ meets (computed.computed_year side) rows.now index row parts.End }
+    ensures { result ≡ meets (computed.computed_year side) (years_of rows.now) index row parts.End }
 {
     index + 1 < rows.len() || ends(side, row)
 }
@@ -137,14 +130,14 @@ fn meets_end(
 /// Whether the years after a row, if it is the last one, come with leap months as they are to.
 fn has_leaps_after(
     side: Side,
-    rows: &[EastAsianTraditionalYear],
+    rows: &[EastAsianRow],
     index: usize,
     row: EastAsianTraditionalYear,
 ) -> bool
-    requires within { index < length rows.now }
+    requires within { index < length (years_of rows.now) }
     requires year { IsTableYear row.related_iso }
-    ensures { result ≡ (nat_lt (index + 1) (length rows.now)
-        || leaps_after (table.chosen_year (computed.computed_year side) rows.now) row) }
+    ensures { result ≡ (nat_lt (index + 1) (length (years_of rows.now))
+        || leaps_after (table.chosen_year (computed.computed_year side) (years_of rows.now)) row) }
 {
     index + 1 < rows.len() || leaps_after(side, rows, row)
 }
@@ -152,13 +145,13 @@ fn has_leaps_after(
 /// Whether the three years up to a row's have a leap month, and, if it is the last one, those up to the next two.
 fn meets_leap(
     side: Side,
-    rows: &[EastAsianTraditionalYear],
+    rows: &[EastAsianRow],
     index: usize,
     row: EastAsianTraditionalYear,
 ) -> bool
-    requires within { index < length rows.now }
+    requires within { index < length (years_of rows.now) }
     requires year { IsTableYear row.related_iso }
-    ensures { result ≡ meets (computed.computed_year side) rows.now index row parts.Leap }
+    ensures { result ≡ meets (computed.computed_year side) (years_of rows.now) index row parts.Leap }
 {
     is_leap_in_three(side, rows, row.related_iso) && has_leaps_after(side, rows, index, row)
 }
@@ -166,14 +159,14 @@ fn meets_leap(
 /// The first part that a row breaks.
 fn first_broken(
     side: Side,
-    rows: &[EastAsianTraditionalYear],
+    rows: &[EastAsianRow],
     index: usize,
     row: EastAsianTraditionalYear,
 ) -> Option<TablePart>
-    requires row { IsRow rows.now index row }
-    requires before { IfSome (row_before rows.now index) (λ before. IsTableYear before.related_iso) }
-    ensures first { MatchOption result (MeetsAll (computed.computed_year side) rows.now index row)
-        (IsFirstBroken (computed.computed_year side) rows.now index row) }
+    requires row { IsRow (years_of rows.now) index row }
+    requires before { IfSome (row_before (years_of rows.now) index) (λ before. IsTableYear before.related_iso) }
+    ensures first { MatchOption result (MeetsAll (computed.computed_year side) (years_of rows.now) index row)
+        (IsFirstBroken (computed.computed_year side) (years_of rows.now) index row) }
     ensures year { IsNone result → IsTableYear row.related_iso }
 {
     if !meets_year(rows, index, row) {
@@ -192,18 +185,20 @@ fn first_broken(
 }
 
 /// Whether rows are accepted; if not, the first row and its first part that break.
-pub(crate) fn check(side: Side, rows: &[EastAsianTraditionalYear]) -> Result<(), TableFault>
-    ensures first { MatchResult result (λ _. IsAccepted (computed.computed_year side) rows.now)
-        (IsFirstFault (computed.computed_year side) rows.now) }
-    ensures exact { IsOk result ↔ IsAccepted (computed.computed_year side) rows.now }
+pub(crate) fn check(side: Side, rows: &[EastAsianRow]) -> Result<(), TableFault>
+    ensures first { MatchResult result (λ _. IsAccepted (computed.computed_year side) (years_of rows.now))
+        (IsFirstFault (computed.computed_year side) (years_of rows.now)) }
+    ensures exact { IsOk result ↔ IsAccepted (computed.computed_year side) (years_of rows.now) }
 {
-    for (index, row) in rows.iter().enumerate() {
-        if let Some(part) = first_broken(side, rows, index, *row) {
+    let mut index = 0;
+    'rows: while let Some(year) = row_at(rows, index) {
+        if let Some(part) = first_broken(side, rows, index, year) {
             return Err(TableFault {
                 row: index + 1,
                 part,
             });
         }
+        index += 1;
     }
     Ok(())
 }

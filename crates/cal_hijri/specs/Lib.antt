@@ -7,6 +7,7 @@ pub mod HijriBounds
 pub mod GivenYears
 pub mod SameYears
 pub mod HijriNames
+pub mod HijriRows
 pub mod PackedYears
 pub mod HijriSystem
 pub mod HijriSystemLaws

@@ -2,6 +2,8 @@
 
 ghost use Rattle.std.specs.Prelude.{◌≡◌, ◌≢◌, ℕ, ◌<◌, ◌+◌, ◌&&◌, ◌||◌, nat_lt, int_le, length, slice_get, [], IsTrue, IfSome, IsNone, IsOk, ◌↔◌, MatchOption, MatchResult, pos};
 ghost use Rattle.cal_days.specs.Day.{IsRuleYear};
+ghost use Rattle.std.specs.Cmp.Lexicographic.{pointwise};
+ghost use Rattle.cal_hijri.specs.HijriRows.{is_same_row, years_of};
 ghost use Rattle.cal_hijri.specs.TableFriday as beside;
 ghost use Rattle.cal_hijri.specs.TableYears as table;
 ghost use Rattle.cal_hijri.specs.SameRows.{are_same_rows};
@@ -9,6 +11,7 @@ ghost use Rattle.cal_hijri.specs.TableAccepted.{IsRow, IsTableYear, row_before, 
 ghost use Rattle.cal_hijri.specs.declared.hijri_year.HijriYear.{HijriYear};
 ghost use Rattle.cal_errors.specs.declared.errors.TablePart.TheVariants as parts;
 
+use crate::hijri_row::HijriRow;
 use crate::hijri_year::{HijriYear, days_before_month};
 use crate::tabular_algorithm::{
     TabularAlgorithm, TabularAlgorithmEpoch, TabularAlgorithmLeapYears, tabular_year,
@@ -21,8 +24,8 @@ use cal_types::{TableFault, TablePart};
 /// ends, and the tabular year after the last row starts where that row ends.
 #[derive(Clone, Copy, Debug)]
 pub struct HijriTable<'t> {
-    rows: &'t [HijriYear],
-    ghost accepted: { IsAccepted beside.friday_year rows.now },
+    rows: &'t [HijriRow],
+    ghost accepted: { IsAccepted beside.friday_year (years_of rows.now) },
 }
 
 impl<'t> HijriTable<'t> {
@@ -33,6 +36,15 @@ impl<'t> HijriTable<'t> {
         HijriTable { rows: &[] }
     }
 
+    /// The table of rows that are known to be accepted, as those of constant data can be by computation. No row is
+    /// looked at.
+    pub fn new(rows: &'t [HijriRow]) -> HijriTable<'t>
+        requires { IsAccepted beside.friday_year (years_of rows.now) }
+        ensures { result.rows.now ≡ rows.now }
+    {
+        HijriTable { rows }
+    }
+
     /// The table of these rows.
     ///
     /// A [`TableFault`] names the first row, counted from 1, that isn't as it is to be, and the first part that
@@ -40,10 +52,10 @@ impl<'t> HijriTable<'t> {
     /// row's before it, or one is above 9999; [`TablePart::Join`] where the row doesn't start where the row before it
     /// ends, or the first one not where the tabular year before it ends; [`TablePart::End`] where the tabular year
     /// after the last row doesn't start where that row ends.
-    pub fn try_new(rows: &'t [HijriYear]) -> Result<HijriTable<'t>, TableFault>
+    pub fn try_new(rows: &'t [HijriRow]) -> Result<HijriTable<'t>, TableFault>
         ensures first { MatchResult result (λ made. made.rows.now ≡ rows.now)
-            (IsFirstFault beside.friday_year rows.now) }
-        ensures exact { IsOk result ↔ IsAccepted beside.friday_year rows.now }
+            (IsFirstFault beside.friday_year (years_of rows.now)) }
+        ensures exact { IsOk result ↔ IsAccepted beside.friday_year (years_of rows.now) }
     {
         match check(rows) {
             Ok(()) => Ok(HijriTable { rows }),
@@ -52,7 +64,7 @@ impl<'t> HijriTable<'t> {
     }
 
     /// The rows.
-    pub fn rows(&self) -> &'t [HijriYear]
+    pub fn rows(&self) -> &'t [HijriRow]
         ensures { result.now ≡ self.now.rows.now }
     {
         self.rows
@@ -60,7 +72,7 @@ impl<'t> HijriTable<'t> {
 
     /// Whether another table has as many rows, with the same numbers, first days and months.
     pub(crate) fn has_rows_of(&self, other: &HijriTable<'t>) -> bool
-        ensures { result ≡ are_same_rows self.now.rows.now other.now.rows.now }
+        ensures { result ≡ are_same_rows (years_of self.now.rows.now) (years_of other.now.rows.now) }
     {
         are_same_rows(self.rows, other.rows)
     }
@@ -68,20 +80,20 @@ impl<'t> HijriTable<'t> {
     /// The row of a year where there is one, and otherwise the tabular year.
     pub(crate) fn year(&self, extended_year: i32) -> HijriYear
         requires { IsRuleYear extended_year }
-        ensures chosen { result ≡ table.chosen beside.friday_year self.now.rows.now extended_year }
-        ensures row { (i : ℕ) (row : HijriYear) → IsRow self.now.rows.now i row → row.extended_year ≡ extended_year
-            → result ≡ row }
-        ensures other { ((i : ℕ) (row : HijriYear) → IsRow self.now.rows.now i row → row.extended_year ≢ extended_year)
-            → result ≡ beside.friday_year extended_year }
+        ensures chosen { result ≡ table.chosen beside.friday_year (years_of self.now.rows.now) extended_year }
+        ensures row { (i : ℕ) (row : HijriYear) → IsRow (years_of self.now.rows.now) i row
+            → row.extended_year ≡ extended_year → result ≡ row }
+        ensures other { ((i : ℕ) (row : HijriYear) → IsRow (years_of self.now.rows.now) i row
+            → row.extended_year ≢ extended_year) → result ≡ beside.friday_year extended_year }
     {
         chosen(self.rows, extended_year)
     }
 }
 
 /// The row of a year where there is one, and otherwise the tabular year.
-fn chosen(rows: &[HijriYear], extended_year: i32) -> HijriYear
+fn chosen(rows: &[HijriRow], extended_year: i32) -> HijriYear
     requires { IsRuleYear extended_year }
-    ensures { result ≡ table.chosen beside.friday_year rows.now extended_year }
+    ensures { result ≡ table.chosen beside.friday_year (years_of rows.now) extended_year }
 {
     match row_of(rows, extended_year) {
         Some(row) => row,
@@ -89,16 +101,23 @@ fn chosen(rows: &[HijriYear], extended_year: i32) -> HijriYear
     }
 }
 
+/// Whether two rows are equal in number, first day and months.
+fn is_same_row(row: HijriRow, other: HijriRow) -> bool
+    ensures { result ≡ is_same_row row other }
+{
+    row.year().has_parts_of(other.year())
+}
+
 /// Whether rows are equal in number, first day and months.
-fn are_same_rows(rows: &[HijriYear], others: &[HijriYear]) -> bool
-    ensures { result ≡ are_same_rows rows.now others.now }
+fn are_same_rows(rows: &[HijriRow], others: &[HijriRow]) -> bool
+    ensures { result ≡ pointwise is_same_row rows.now others.now }
 {
     if rows.len() != others.len() {
         return false;
     }
     let mut index = 0;
     'rows: while index < rows.len() {
-        if !rows[index].has_parts_of(others[index]) {
+        if !is_same_row(rows[index], others[index]) {
             return false;
         }
         index += 1;
@@ -119,16 +138,19 @@ fn friday_year(extended_year: i32) -> HijriYear
 }
 
 /// The row at an index, counted from 0.
-fn row_at(rows: &[HijriYear], index: usize) -> Option<HijriYear>
-    ensures { result ≡ slice_get rows.now index }
+fn row_at(rows: &[HijriRow], index: usize) -> Option<HijriYear>
+    ensures { result ≡ slice_get (years_of rows.now) index }
 {
-    rows.get(index).copied()
+    match rows.get(index) {
+        Some(row) => Some(row.year()),
+        None => None,
+    }
 }
 
 /// The row of a year. Rows follow one another, so its place follows from the first row's year.
-fn row_of(rows: &[HijriYear], extended_year: i32) -> Option<HijriYear>
+fn row_of(rows: &[HijriRow], extended_year: i32) -> Option<HijriYear>
     requires { IsRuleYear extended_year }
-    ensures { result ≡ table.row_of rows.now extended_year }
+    ensures { result ≡ table.row_of (years_of rows.now) extended_year }
 {
     match row_at(rows, 0) {
         None => None,
@@ -158,8 +180,8 @@ fn follows(before: HijriYear, row: HijriYear) -> bool
 }
 
 /// The row before the one at an index.
-fn row_before(rows: &[HijriYear], index: usize) -> Option<HijriYear>
-    ensures { result ≡ row_before rows.now index }
+fn row_before(rows: &[HijriRow], index: usize) -> Option<HijriYear>
+    ensures { result ≡ row_before (years_of rows.now) index }
 {
     if index == 0 {
         None
@@ -199,29 +221,30 @@ fn ends(row: HijriYear) -> bool
 }
 
 /// Whether a row's year is as it is to be.
-fn meets_year(rows: &[HijriYear], index: usize, row: HijriYear) -> bool
-    requires { IfSome (row_before rows.now index) (λ before. IsTableYear before.extended_year) }
-    ensures exact { result ≡ (is_next (row_before rows.now index) row && int_le row.extended_year (pos 9999)) }
+fn meets_year(rows: &[HijriRow], index: usize, row: HijriYear) -> bool
+    requires { IfSome (row_before (years_of rows.now) index) (λ before. IsTableYear before.extended_year) }
+    ensures exact { result ≡ (is_next (row_before (years_of rows.now) index) row
+        && int_le row.extended_year (pos 9999)) }
     ensures year { IsTrue result → IsTableYear row.extended_year }
 {
     is_next(row_before(rows, index), row) && row.extended_year <= 9999
 }
 
 /// Whether a row, if it is the last one, ends as it is to.
-fn meets_end(rows: &[HijriYear], index: usize, row: HijriYear) -> bool
-    requires within { index < length rows.now }
+fn meets_end(rows: &[HijriRow], index: usize, row: HijriYear) -> bool
+    requires within { index < length (years_of rows.now) }
     requires year { IsTableYear row.extended_year }
-    ensures { result ≡ meets beside.friday_year rows.now index row parts.End }
+    ensures { result ≡ meets beside.friday_year (years_of rows.now) index row parts.End }
 {
     index + 1 < rows.len() || ends(row)
 }
 
 /// The first part that a row breaks.
-fn first_broken(rows: &[HijriYear], index: usize, row: HijriYear) -> Option<TablePart>
-    requires row { IsRow rows.now index row }
-    requires before { IfSome (row_before rows.now index) (λ before. IsTableYear before.extended_year) }
-    ensures first { MatchOption result (MeetsAll beside.friday_year rows.now index row)
-        (IsFirstBroken beside.friday_year rows.now index row) }
+fn first_broken(rows: &[HijriRow], index: usize, row: HijriYear) -> Option<TablePart>
+    requires row { IsRow (years_of rows.now) index row }
+    requires before { IfSome (row_before (years_of rows.now) index) (λ before. IsTableYear before.extended_year) }
+    ensures first { MatchOption result (MeetsAll beside.friday_year (years_of rows.now) index row)
+        (IsFirstBroken beside.friday_year (years_of rows.now) index row) }
     ensures year { IsNone result → IsTableYear row.extended_year }
 {
     if !meets_year(rows, index, row) {
@@ -237,18 +260,20 @@ fn first_broken(rows: &[HijriYear], index: usize, row: HijriYear) -> Option<Tabl
 }
 
 /// Whether rows are accepted; if not, the first row and its first part that break.
-fn check(rows: &[HijriYear]) -> Result<(), TableFault>
-    ensures first { MatchResult result (λ _. IsAccepted beside.friday_year rows.now)
-        (IsFirstFault beside.friday_year rows.now) }
-    ensures exact { IsOk result ↔ IsAccepted beside.friday_year rows.now }
+fn check(rows: &[HijriRow]) -> Result<(), TableFault>
+    ensures first { MatchResult result (λ _. IsAccepted beside.friday_year (years_of rows.now))
+        (IsFirstFault beside.friday_year (years_of rows.now)) }
+    ensures exact { IsOk result ↔ IsAccepted beside.friday_year (years_of rows.now) }
 {
-    for (index, row) in rows.iter().enumerate() {
-        if let Some(part) = first_broken(rows, index, *row) {
+    let mut index = 0;
+    'rows: while let Some(year) = row_at(rows, index) {
+        if let Some(part) = first_broken(rows, index, year) {
             return Err(TableFault {
                 row: index + 1,
                 part,
             });
         }
+        index += 1;
     }
     Ok(())
 }

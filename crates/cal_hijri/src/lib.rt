@@ -3,6 +3,7 @@
 
 mod astronomical_simulation;
 mod hijri;
+mod hijri_row;
 mod hijri_table;
 mod hijri_year;
 mod rules;
@@ -12,6 +13,7 @@ mod umm_al_qura;
 
 pub use astronomical_simulation::AstronomicalSimulation;
 pub use hijri::{Hijri, HijriDateInner};
+pub use hijri_row::HijriRow;
 pub use hijri_table::HijriTable;
 pub use hijri_year::{HijriYear, PackedHijriDate};
 pub use rules::Rules;

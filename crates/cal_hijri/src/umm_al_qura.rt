@@ -38,16 +38,17 @@ impl<'t> Rules for UmmAlQura<'t> {
     ghost use Rattle.std.specs.Cmp.{on_equiv};
     ghost use Rattle.cal_algorithms.specs.declared.algorithm.CalendarAlgorithm.TheVariants.{Hijri};
     ghost use Rattle.cal_algorithms.specs.declared.algorithm.HijriCalendarAlgorithm.TheVariants.{Umalqura};
+    ghost use Rattle.cal_hijri.specs.HijriRows.{years_of};
     ghost use Rattle.cal_hijri.specs.SameRows.{are_same_rows};
     ghost use Rattle.cal_hijri.specs.TableRules.{same_rows-equivalence, table_reference, table_year, table-joins, table-numbered, table-references, table-shared};
 
     type DateCompatibilityError = MismatchedCalendarError;
 
-    ghost year_of = { λ s y. table_year s.table.rows.now y };
+    ghost year_of = { λ s y. table_year (years_of s.table.rows.now) y };
 
     ghost reference = { λ _ m d. table_reference m d };
 
-    ghost compatible = { λ s t. are_same_rows s.table.rows.now t.table.rows.now };
+    ghost compatible = { λ s t. are_same_rows (years_of s.table.rows.now) (years_of t.table.rows.now) };
 
     ghost algorithm = { λ _. Some (Hijri (Some Umalqura)) };
 
@@ -77,15 +78,15 @@ impl<'t> Rules for UmmAlQura<'t> {
         "Hijri (Umm al-Qura)"
     }
 
-    ghost numbered = { λ s. table-numbered s.table.rows.now s.table.accepted };
+    ghost numbered = { λ s. table-numbered (years_of s.table.rows.now) s.table.accepted };
 
-    ghost joins = { λ s. table-joins s.table.rows.now s.table.accepted };
+    ghost joins = { λ s. table-joins (years_of s.table.rows.now) s.table.accepted };
 
     ghost references = { λ _. table-references };
 
     ghost refusal = { λ _ _ _. record {} };
 
-    ghost alike = { on_equiv (λ s. s.table.rows.now) same_rows-equivalence };
+    ghost alike = { on_equiv (λ s. years_of s.table.rows.now) same_rows-equivalence };
 
-    ghost shared = { λ s t y h _. table-shared s.table.rows.now t.table.rows.now y h };
+    ghost shared = { λ s t y h _. table-shared (years_of s.table.rows.now) (years_of t.table.rows.now) y h };
 }

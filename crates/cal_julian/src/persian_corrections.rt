@@ -30,6 +30,15 @@ impl<'t> PersianCorrections<'t> {
         PersianCorrections { years: &[] }
     }
 
+    /// The corrections of years that are known to be accepted, as those of constant data can be by computation. No
+    /// year is looked at.
+    pub fn new(years: &'t [i32]) -> PersianCorrections<'t>
+        requires { AreCorrections years.now }
+        ensures { result.years.now ≡ years.now }
+    {
+        PersianCorrections { years }
+    }
+
     /// The corrections of these years.
     ///
     /// A [`TableFault`] names the first row, counted from 1, whose year isn't as it is to be, and the first part that

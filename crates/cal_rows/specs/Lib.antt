@@ -4,4 +4,5 @@ pub mod RowPlaces
 pub mod RowJoins
 pub mod Faults
 pub mod FaultLaws
+pub mod RowTests
 pub mod YearArguments

@@ -8,6 +8,7 @@ use Rattle.cal_coptic.specs.EthiopianSystem.{ethiopian_system}
 use Rattle.cal_coptic.specs.declared.ethiopian.EthiopianEraStyle.TheVariants.{AmeteMihret, AmeteAlem}
 use Rattle.cal_east_asian.specs.ComputedLaws.{computed_year}
 use Rattle.cal_east_asian.specs.EastAsianReferences.{side_reference}
+use Rattle.cal_east_asian.specs.EastAsianRows as east_asian
 use Rattle.cal_east_asian.specs.EastAsianSystem.{east_asian_system}
 use Rattle.cal_east_asian.specs.TableYears.{chosen_year}
 use Rattle.cal_east_asian.specs.declared.east_asian_table.EastAsianTable.{EastAsianTable}
@@ -21,6 +22,7 @@ use Rattle.cal_gregory.specs.JapaneseEras.{listed_eras}
 use Rattle.cal_gregory.specs.RocSystem.{roc_system}
 use Rattle.cal_gregory.specs.declared.japanese_eras.JapaneseEras.{JapaneseEras}
 use Rattle.cal_hebrew.specs.HebrewSystem.{hebrew_system}
+use Rattle.cal_hijri.specs.HijriRows as hijri_rows
 use Rattle.cal_hijri.specs.TableRules.{table_system}
 use Rattle.cal_hijri.specs.TabularRules.{tabular_system}
 use Rattle.cal_hijri.specs.declared.hijri_table.HijriTable.{HijriTable}
@@ -49,9 +51,9 @@ no_contents = record { china = []; korea = []; hijri = []; persian = []; eras = 
 
 abbrev pub contents_of : EastAsianTable → EastAsianTable → HijriTable → PersianCorrections → JapaneseEras → TableContents
 contents_of china korea hijri persian eras = record {
-  china = china.rows.now;
-  korea = korea.rows.now;
-  hijri = hijri.rows.now;
+  china = east_asian.years_of china.rows.now;
+  korea = east_asian.years_of korea.rows.now;
+  hijri = hijri_rows.years_of hijri.rows.now;
   persian = persian.years.now;
   eras = listed_eras eras;
 }

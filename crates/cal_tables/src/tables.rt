@@ -22,12 +22,13 @@ pub struct Tables<'t> {
 }
 
 impl<'t> Tables<'t> {
-    ghost use Rattle.std.specs.Prelude.{IsSome, IfSome, ◌↔◌};
+    ghost use Rattle.std.specs.Prelude.{[], IsSome, IfSome, ◌↔◌};
     ghost use Rattle.cal_tables.specs.Kinds.{table_contents, no_contents, contents_of};
     ghost use Rattle.cal_east_asian.specs.EastAsianReferences.{side_reference};
     ghost use Rattle.cal_east_asian.specs.EastAsianSystem.{east_asian_system};
     ghost use Rattle.cal_east_asian.specs.TableRules.{table_year};
     ghost use Rattle.cal_gregory.specs.JapaneseSystem.{japanese_system};
+    ghost use Rattle.cal_hijri.specs.HijriRows.{years_of};
     ghost use Rattle.cal_hijri.specs.TableRules.{umm_al_qura_system, simulated_mecca_system};
     ghost use Rattle.cal_julian.specs.PersianSystem.{persian_system};
     ghost use Rattle.cal_tables.specs.Kinds.{kind_system};
@@ -72,46 +73,52 @@ impl<'t> Tables<'t> {
 
     /// The Chinese calendar, with the rows of China.
     pub fn chinese(&self) -> ChineseTraditional<'t>
-        ensures { east_asian_system (table_year result.0.table) (side_reference side.China)
+        ensures system { east_asian_system (table_year result.0.table) (side_reference side.China)
             ≡ kind_system (table_contents self.now) kind.Chinese }
+        ensures table { result.0.table ≡ self.now.china }
     {
         ChineseTraditional::new(self.china)
     }
 
     /// The Korean calendar, with the rows of Korea.
     pub fn korean(&self) -> KoreanTraditional<'t>
-        ensures { east_asian_system (table_year result.0.table) (side_reference side.Korea)
+        ensures system { east_asian_system (table_year result.0.table) (side_reference side.Korea)
             ≡ kind_system (table_contents self.now) kind.Dangi }
+        ensures table { result.0.table ≡ self.now.korea }
     {
         KoreanTraditional::new(self.korea)
     }
 
     /// The Hijri calendar of Umm al-Qura, with its rows.
     pub fn umm_al_qura(&self) -> Hijri<UmmAlQura<'t>>
-        ensures { umm_al_qura_system result.0.table.rows.now
+        ensures system { umm_al_qura_system (years_of result.0.table.rows.now)
             ≡ kind_system (table_contents self.now) kind.HijriUmmAlQura }
+        ensures table { result.0.table ≡ self.now.umm_al_qura }
     {
         Hijri::new_umm_al_qura(self.umm_al_qura)
     }
 
     /// The Hijri calendar as it is simulated for Mecca, which has no rows.
     pub fn simulated_mecca(&self) -> Hijri<AstronomicalSimulation<'t>>
-        ensures { simulated_mecca_system result.0.table.rows.now
+        ensures system { simulated_mecca_system (years_of result.0.table.rows.now)
             ≡ kind_system (table_contents self.now) kind.HijriSimulatedMecca }
+        ensures rows { result.0.table.rows.now ≡ [] }
     {
         Hijri::new_simulated_mecca(HijriTable::none())
     }
 
     /// The Persian calendar, with the corrected years.
     pub fn persian(&self) -> Persian<'t>
-        ensures { persian_system result ≡ kind_system (table_contents self.now) kind.Persian }
+        ensures system { persian_system result ≡ kind_system (table_contents self.now) kind.Persian }
+        ensures corrections { result.corrections ≡ self.now.persian }
     {
         Persian::new(self.persian)
     }
 
     /// The Japanese calendar, with the eras that Japan lists.
     pub fn japanese(&self) -> Japanese
-        ensures { japanese_system result ≡ kind_system (table_contents self.now) kind.Japanese }
+        ensures system { japanese_system result ≡ kind_system (table_contents self.now) kind.Japanese }
+        ensures eras { result.eras ≡ self.now.eras }
     {
         Japanese::with_eras(self.eras)
     }

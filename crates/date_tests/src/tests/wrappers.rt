@@ -2,8 +2,8 @@
 
 use icu_calendar::laws::{back_from_another_calendar, date_of_its_day, date_of_its_fields};
 use icu_calendar::{
-    AsCalendar, Calendar, ChineseTraditional, Date, EastAsianTable, EastAsianTraditionalYear, Iso,
-    Julian, Month, RataDie, Ref, Side,
+    AsCalendar, Calendar, ChineseTraditional, Date, EastAsianRow, EastAsianTable,
+    EastAsianTraditionalYear, Iso, Julian, Month, RataDie, Ref, Side,
 };
 use known_dates::{IN_DAYS, has_parts_in, number_in};
 use std::cmp::Ordering;
@@ -74,7 +74,7 @@ where
 }
 
 /// The row of 1912 with a long first month, where the computed year has a short one.
-fn row_of_1912(rt: &impl Abort) -> EastAsianTraditionalYear {
+fn row_of_1912(rt: &impl Abort) -> EastAsianRow {
     let starts = [
         RataDie::new(698026),
         RataDie::new(698056),
@@ -91,7 +91,8 @@ fn row_of_1912(rt: &impl Abort) -> EastAsianTraditionalYear {
         RataDie::new(698380),
         RataDie::new(698380),
     ];
-    EastAsianTraditionalYear::try_new(1912, starts, None).expect(rt, "the year is there")
+    let year = EastAsianTraditionalYear::try_new(1912, starts, None);
+    year.expect(rt, "the year is there").row()
 }
 
 #[test]

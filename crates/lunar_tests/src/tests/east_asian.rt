@@ -11,8 +11,8 @@ use crate::tests::expected::{assert_at, assert_day, assert_holds, assert_same, a
 use cal_base::Calendar;
 use cal_days::RataDie;
 use cal_east_asian::{
-    ChineseTraditional, EastAsianTable, EastAsianTraditional, EastAsianTraditionalYear,
-    KoreanTraditional, Rules, Side, mean_year, qing_year,
+    ChineseTraditional, EastAsianRow, EastAsianTable, EastAsianTraditional,
+    EastAsianTraditionalYear, KoreanTraditional, Rules, Side, mean_year, qing_year,
 };
 use cal_types::{
     DateDifferenceOptions, DateDurationUnit, DateFields, DateFromFieldsError,
@@ -449,8 +449,8 @@ fn year_by_turns(related_iso: i32, first: i64, last: i64) -> Option<EastAsianTra
     EastAsianTraditionalYear::try_new(related_iso, starts, None)
 }
 
-/// A year of twelve months of 30 days.
-fn year_of_thirties(related_iso: i32, first: i64) -> Option<EastAsianTraditionalYear>
+/// A row of a year of twelve months of 30 days.
+fn row_of_thirties(rt: &impl Abort, related_iso: i32, first: i64) -> EastAsianRow
     requires { IsBetween (pos 0) (pos 4000000) first }
 {
     let starts = [
@@ -469,13 +469,15 @@ fn year_of_thirties(related_iso: i32, first: i64) -> Option<EastAsianTraditional
         day_after(first, 360),
         day_after(first, 390),
     ];
-    EastAsianTraditionalYear::try_new(related_iso, starts, None)
+    let year = EastAsianTraditionalYear::try_new(related_iso, starts, None);
+    year.expect(rt, "the year is there").row()
 }
 
 /// In the row's year of 1912 the first month has 30 days, and in the computed one 29.
 #[test]
 fn a_row_takes_the_place_of_a_computed_year(rt: HostRuntime) {
-    let rows = [year_by_turns(1912, 698026, 29).expect(&rt, "the year is there")];
+    let year = year_by_turns(1912, 698026, 29).expect(&rt, "the year is there");
+    let rows = [year.row()];
     let made = EastAsianTable::try_new(Side::China, &rows);
     let china = ChineseTraditional::new(made.expect(&rt, "the table is accepted"));
     let computed = ChineseTraditional::new(EastAsianTable::none(Side::China));
@@ -502,6 +504,43 @@ fn a_row_takes_the_place_of_a_computed_year(rt: HostRuntime) {
     assert_holds(&rt, "Korea", korea.is_ok());
 }
 
+/// January 19 of 2023 is day 738539, and places of leap months are 2 to 13.
+#[test]
+fn a_row_is_read_as_the_nearest_year(rt: HostRuntime) {
+    for (start_offset, leap_month, start, place) in [
+        (0, 0, 738539, None),
+        (3, 3, 738542, Some(3)),
+        (34, 2, 738573, Some(2)),
+        (35, 1, 738573, None),
+        (255, 13, 738573, Some(13)),
+        (255, 14, 738573, None),
+    ] {
+        let row = EastAsianRow {
+            related_iso: 2023,
+            long_months: 0x15b2,
+            leap_month,
+            start_offset,
+        };
+        let year = row.year();
+        assert_at(&rt, leap_month, year.new_year().to_i64_date(), start);
+        assert_at(&rt, leap_month, year.leap_month(), place);
+    }
+    for (related_iso, number) in [
+        (-8000001, -8000000),
+        (-8000000, -8000000),
+        (8000000, 8000000),
+        (i32::MAX, 8000000),
+    ] {
+        let row = EastAsianRow {
+            related_iso,
+            long_months: 0x15b2,
+            leap_month: 3,
+            start_offset: 3,
+        };
+        assert_at(&rt, related_iso, row.year().related_iso(), number);
+    }
+}
+
 /// That a year may start on a day, and its last month have so many.
 fn assert_start_and_end(rt: &impl Abort, first: i64, last: i64)
     ensures first { IsBetween (pos 0) (pos 4000000) first }
@@ -520,8 +559,8 @@ fn a_single_row_is_refused_for_its_first_fault(rt: HostRuntime) {
         (10000, 3652079, 29, TablePart::Year),
     ] {
         assert_start_and_end(&rt, first, last);
-        let row = year_by_turns(related_iso, first, last).expect(&rt, "the year is there");
-        let fault = EastAsianTable::try_new(Side::China, &[row]).err();
+        let year = year_by_turns(related_iso, first, last).expect(&rt, "the year is there");
+        let fault = EastAsianTable::try_new(Side::China, &[year.row()]).err();
         assert_at(&rt, related_iso, fault, Some(TableFault { row: 1, part }));
     }
 }
@@ -530,10 +569,10 @@ fn a_single_row_is_refused_for_its_first_fault(rt: HostRuntime) {
 /// the computed 1915 starts, and this is found before its want of a leap month.
 #[test]
 fn rows_are_refused_for_the_first_fault(rt: HostRuntime) {
-    let y1912 = year_of_thirties(1912, 698026).expect(&rt, "the year is there");
-    let y1913 = year_of_thirties(1913, 698386).expect(&rt, "the year is there");
-    let y1914 = year_of_thirties(1914, 698746).expect(&rt, "the year is there");
-    let y1915 = year_of_thirties(1915, 699106).expect(&rt, "the year is there");
+    let y1912 = row_of_thirties(&rt, 1912, 698026);
+    let y1913 = row_of_thirties(&rt, 1913, 698386);
+    let y1914 = row_of_thirties(&rt, 1914, 698746);
+    let y1915 = row_of_thirties(&rt, 1915, 699106);
     let four = [y1912, y1913, y1914, y1915];
     let three = [y1912, y1913, y1914];
     let gap = [y1912, y1914];

@@ -3,6 +3,7 @@
 ghost use Rattle.std.specs.Prelude.{◌≡◌, IsTrue, pos};
 ghost use Rattle.cal_days.specs.Day.{IsBetween};
 ghost use Rattle.cal_model.specs.CalendarList.{day_number};
+ghost use Rattle.cal_hijri.specs.HijriRows.{years_of};
 ghost use Rattle.cal_hijri.specs.HijriSystem.{hijri_belongs, packed_date};
 ghost use Rattle.cal_hijri.specs.TableRules.{table_year, umm_al_qura_system};
 ghost use Rattle.cal_hijri.specs.TabularRules.{tabular_system, tabular_year};
@@ -12,8 +13,8 @@ use crate::tests::expected::{assert_at, assert_day, assert_holds, assert_same};
 use cal_base::{Calendar, Iso};
 use cal_days::RataDie;
 use cal_hijri::{
-    AstronomicalSimulation, Hijri, HijriDateInner, HijriTable, HijriYear, TabularAlgorithm,
-    TabularAlgorithmEpoch, TabularAlgorithmLeapYears, UmmAlQura,
+    AstronomicalSimulation, Hijri, HijriDateInner, HijriRow, HijriTable, HijriYear,
+    TabularAlgorithm, TabularAlgorithmEpoch, TabularAlgorithmLeapYears, UmmAlQura,
 };
 use cal_types::{Month, TableFault, TablePart, YearInput};
 
@@ -74,7 +75,7 @@ fn a_date_belongs_to_its_own_epoch(rt: HostRuntime) {
 }
 
 /// The year 1445 of the Umm al-Qura calendar, if its last month ends where it is to.
-fn row_of_1445(end: i64) -> Option<HijriYear>
+fn row_of_1445(end: i64) -> Option<HijriRow>
     requires { IsBetween (pos 0) (pos 1000000) end }
 {
     let starts = [
@@ -92,7 +93,7 @@ fn row_of_1445(end: i64) -> Option<HijriYear>
         RataDie::new(739045),
         RataDie::new(end),
     ];
-    HijriYear::try_new(1445, starts)
+    HijriYear::try_new(1445, starts)?.row()
 }
 
 #[test]
@@ -125,6 +126,39 @@ fn a_row_takes_the_place_of_a_tabular_year(rt: HostRuntime) {
         "the same table",
         umm_al_qura.check_date_compatibility(&umm_al_qura).is_ok(),
     );
+}
+
+/// 1445 starts on day 738720, 5 days after the earliest day, and -8000000 and 8000000 are the last years.
+#[test]
+fn a_row_is_read_as_the_nearest_year(rt: HostRuntime) {
+    for (start_offset, start) in [
+        (0, 738715),
+        (5, 738720),
+        (10, 738725),
+        (11, 738725),
+        (255, 738725),
+    ] {
+        let row = HijriRow {
+            extended_year: 1445,
+            long_months: 0x92e,
+            start_offset,
+        };
+        let found = row.year().new_year().to_i64_date();
+        assert_at(&rt, start_offset, found, start);
+    }
+    for (extended_year, number) in [
+        (-8000001, -8000000),
+        (-8000000, -8000000),
+        (8000000, 8000000),
+        (i32::MAX, 8000000),
+    ] {
+        let row = HijriRow {
+            extended_year,
+            long_months: 0x92e,
+            start_offset: 5,
+        };
+        assert_at(&rt, extended_year, row.year().extended_year(), number);
+    }
 }
 
 #[test]
@@ -160,8 +194,8 @@ fn day_of_umm_al_qura<'t>(
     hijri: Hijri<UmmAlQura<'t>>,
     date: &HijriDateInner<UmmAlQura<'t>>,
 ) -> RataDie
-    requires { IsTrue (hijri_belongs (table_year hijri.0.table.rows.now) date.now.0.packed) }
-    ensures { result ≡ day_number (umm_al_qura_system hijri.entry.0.table.rows.now).list
+    requires { IsTrue (hijri_belongs (table_year (years_of hijri.0.table.rows.now)) date.now.0.packed) }
+    ensures { result ≡ day_number (umm_al_qura_system (years_of hijri.entry.0.table.rows.now)).list
         (packed_date date.now.0.packed) }
 {
     hijri.to_rata_die(date)

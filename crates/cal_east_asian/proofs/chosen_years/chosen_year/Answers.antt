@@ -6,6 +6,7 @@ use Rattle.cal_east_asian.specs.ComputedLaws.{computed_year}
 use Rattle.cal_east_asian.specs.TableYears as table
 use Rattle.cal_east_asian.specs.TableYears.{chosen_year}
 use Rattle.cal_east_asian.specs.declared.east_asian_traditional_year.EastAsianTraditionalYear.{EastAsianTraditionalYear}
+use Rattle.cal_east_asian.specs.EastAsianRows.{years_of}
 use Rattle.cal_east_asian.proofs.chosen_years.chosen_year.Goals as goal
 
 year_back : (y : ℤ) → IsRuleYear y → to_z w32 (of_z w32 y) ≡ y
@@ -20,10 +21,10 @@ absent f rows y z o same is none = ap (λ (x : Option EastAsianTraditionalYear).
 
 pub returns-in-Some : goal.returns-in-Some
 returns-in-Some c =
-    found (computed_year c.args.side) c.args.rows.now c.args.related_iso _ c.row_of.result c.in-Some.row (year_back c.args.related_iso c.requires) c.row_of.ensures c.in-Some.is
+    found (computed_year c.args.side) (years_of c.args.rows.now) c.args.related_iso _ c.row_of.result c.in-Some.row (year_back c.args.related_iso c.requires) c.row_of.ensures c.in-Some.is
 
 pub returns-in-None : goal.returns-in-None
 returns-in-None c =
     let f = computed_year c.args.side in
     let same = year_back c.args.related_iso c.requires in
-    c.computed_year.ensures.exact ∙ ap f same ∙ absent f c.args.rows.now c.args.related_iso _ c.row_of.result same c.row_of.ensures c.in-None.is
+    c.computed_year.ensures.exact ∙ ap f same ∙ absent f (years_of c.args.rows.now) c.args.related_iso _ c.row_of.result same c.row_of.ensures c.in-None.is

@@ -3,20 +3,22 @@ use Rattle.std.proofs.lemmas.Int.{by_lt_z}
 use Rattle.std.proofs.lemmas.Option.{slice_get_within}
 use Rattle.cal_days.proofs.Signed.{signed}
 use Rattle.cal_rows.specs.RowLaws.{number-at}
+use Rattle.std.proofs.lemmas.List.{length-map}
+use Rattle.cal_east_asian.specs.EastAsianRows.{row_year, years_of}
+use Rattle.cal_east_asian.specs.declared.east_asian_row.EastAsianRow.{EastAsianRow}
 use Rattle.cal_east_asian.specs.TableYears.{IsRow, number_of}
 use Rattle.cal_east_asian.specs.TableRules.{table_rows}
-use Rattle.cal_east_asian.specs.declared.east_asian_traditional_year.EastAsianTraditionalYear.{EastAsianTraditionalYear}
 use Rattle.cal_east_asian.proofs.TableMonthLemmas.{consecutive_rows, before-first, after-last}
 use Rattle.cal_east_asian.proofs.table_months.years_with_rows.Goals.{After-nearest_year}
 use Rattle.cal_east_asian.proofs.table_months.years_with_rows.Goals as goal
 
 first-row : (c : After-nearest_year) → IsRow (table_rows c.args.table.now) 0 c.in-Some.first
-first-row c = ap (λ (xs : List EastAsianTraditionalYear). slice_get xs 0) (sym c.rows-rows.ensures) ∙ (sym c.row_at.ensures ∙ c.in-Some.is)
+first-row c = ap (λ (xs : List EastAsianRow). slice_get (years_of xs) 0) (sym c.rows-rows.ensures) ∙ (sym c.row_at.ensures ∙ c.in-Some.is)
 
 last-row : (c : After-nearest_year) → IsRow (table_rows c.args.table.now) (length (table_rows c.args.table.now) - 1) c.in-Some-row_at.last
 last-row c =
-    ap (λ (xs : List EastAsianTraditionalYear). slice_get xs (length xs - 1)) (sym c.rows-rows.ensures)
-    ∙ (ap (slice_get c.rows-rows.result.now) (sym c.saturating_sub.ensures) ∙ (sym c.row_at-in-Some.ensures ∙ c.in-Some-row_at.is))
+    ap (λ (xs : List EastAsianRow). slice_get (years_of xs) (length (years_of xs) - 1)) (sym c.rows-rows.ensures)
+    ∙ (ap (slice_get (years_of c.rows-rows.result.now)) (ap (λ n. n - 1) (length-map c.rows-rows.result.now row_year) ∙ sym c.saturating_sub.ensures) ∙ (sym c.row_at-in-Some.ensures ∙ c.in-Some-row_at.is))
 
 pub returns-in-Some-row_at-clause-before : goal.returns-in-Some-row_at-clause-before
 returns-in-Some-row_at-clause-before c y low high =
@@ -53,9 +55,10 @@ returns-in-Some-row_at-clause-few c =
     let last_kept : to_z w32 (of_z w32 (to_z w32 (of_z w32 last.related_iso) +ℤ pos 1)) ≡ last.related_iso +ℤ pos 1 = omega (arith, signed, last.valid.0) in
     let far = number-at number_of rows (consecutive_rows t) first (first-row c) (length rows - 1) last (last-row c) in
     let some = slice_get_within rows 0 first (first-row c) in
-    by_lt_z {P = (to_z w32 (of_z w32 end) -ℤ to_z w32 (of_z w32 start)) ≤ℤ pos (length rows)} start end
+    let many : length rows ≡ length t.rows.now = length-map t.rows.now row_year in
+    by_lt_z {P = (to_z w32 (of_z w32 end) -ℤ to_z w32 (of_z w32 start)) ≤ℤ pos (length t.rows.now)} start end
     (λ lt.
     let above = low.after start (omega (arith, signed)) (omega (arith, signed, lt, high.within)) in
     let below = high.before (end -ℤ pos 1) (omega (arith, signed, start_kept, lt)) (omega (arith, signed)) in
-    omega (arith, signed, start_kept, end_kept, above, below, first_kept, last_kept, far, some))
+    omega (arith, signed, start_kept, end_kept, above, below, first_kept, last_kept, far, some, many))
     (λ le. omega (arith, signed, start_kept, end_kept, le))
