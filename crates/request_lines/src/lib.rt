@@ -17,4 +17,4 @@ pub use era_row::{EraRow, RowDate};
 pub use line::{Line, RequestLine, is_silent, read_line};
 pub use request::{Header, Request, read_request};
 pub use row::{Row, RowKind, YearRow, read_row};
-pub use words::{Words, byte, int, number};
+pub use words::Words;
