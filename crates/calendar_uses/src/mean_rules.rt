@@ -4,9 +4,7 @@ ghost use Rattle.std.specs.Prelude.{◌≡◌, Err};
 ghost use Rattle.icu_calendar.specs.MeanYears.{IsOffset};
 
 use icu_calendar::east_asian::{EastAsianTraditionalYear, Rules};
-use icu_calendar::{
-    CalendarAlgorithm, EcmaReferenceYearError, Month, UnstableSealed, mean_year,
-};
+use icu_calendar::{CalendarAlgorithm, EcmaReferenceYearError, Month, UnstableSealed, mean_year};
 
 /// The mean years at an offset from Greenwich, in milliseconds.
 #[derive(Clone, Copy, Debug)]

@@ -6,7 +6,8 @@ use Rattle.std.proofs.lemmas.List.{take-append-drop}
 use Rattle.std.specs.Option.{option_map, option_and_then, option_or}
 use Rattle.cal_types.specs.Month.{month_read}
 use Rattle.cal_types.specs.Bag.{Bag}
-use Rattle.request_lines.specs.Words.{is_text, int_of, byte_of}
+use Rattle.word_values.specs.Numbers.{int_of, byte_of}
+use Rattle.request_lines.specs.Words.{is_text}
 use Rattle.request_lines.specs.Bags.{Field, Era, EraYear, ExtendedYear, Month, MonthCode, OrdinalMonth, Day, bytes_of, has_key, field_read, no_fields, with_field, with_word, bag_before_to, bag_of_all}
 use Rattle.request_lines.specs.BagForms.{IsKeyed, SaysField, SayFields, key_of, HasNoKey, KeysOnce, only, beside, bag_with, SaysBag}
 

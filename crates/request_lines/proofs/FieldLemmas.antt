@@ -3,7 +3,7 @@ use Rattle.std.proofs.Common.{◌≡◌, ℕ, List, Option, Some, None, codes, d
 use Rattle.std.specs.Option.{option_map}
 use Rattle.cal_types.specs.Month.{month_read}
 use Rattle.cal_types.specs.Bag.{Bag}
-use Rattle.request_lines.specs.Words.{int_of, byte_of}
+use Rattle.word_values.specs.Numbers.{int_of, byte_of}
 use Rattle.request_lines.specs.Reading.{Read, IsReading}
 use Rattle.request_lines.specs.Bags.{Field, EraYear, Month, MonthCode, OrdinalMonth, Day, bytes_of, has_key, rarer_field_read}
 

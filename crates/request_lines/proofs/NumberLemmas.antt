@@ -7,7 +7,8 @@ use Rattle.std.proofs.lemmas.Bool.Decides.{nat_tests}
 use Rattle.std.proofs.lemmas.List.{take-append-drop, append-nil, length-append, length-take, length-drop, take-take, get_or-take, get_or-drop}
 use borrow.Author.Tests.{ltb-true, ltb-false}
 use Rattle.cal_model.proofs.DateTests.{and-left, and-right, true-and}
-use Rattle.request_lines.specs.Words.{number_of, digits_value, words_of, AreLeadingDigits}
+use Rattle.word_values.specs.Numbers.{number_of, digits_value, AreLeadingDigits}
+use Rattle.request_lines.specs.Words.{words_of}
 use Rattle.request_lines.specs.Reading.{next_word}
 use Rattle.request_lines.specs.Taking.{is_no_space}
 use Rattle.request_lines.proofs.TakingLemmas.{parted, key_before}

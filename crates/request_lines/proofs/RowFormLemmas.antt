@@ -1,6 +1,7 @@
 -- Words are read as a row exactly where they are of the form of a row line.
 use Rattle.std.proofs.Common.{◌≡◌, ◌∙◌, ℕ, Bool, true, false, cond, List, [], ◌∷◌, Option, Some, None, refl, sym, ap, subst, codes}
-use Rattle.request_lines.specs.Words.{is_text, int_of, byte_of}
+use Rattle.word_values.specs.Numbers.{int_of, byte_of}
+use Rattle.request_lines.specs.Words.{is_text}
 use Rattle.request_lines.specs.Reading.{and_then}
 use Rattle.request_lines.specs.Requests.{fixed_word}
 use Rattle.request_lines.specs.Rows.{YearRow, EraRow, Row, China, Korea, Hijri, Persian, Era, kind_named, lengths_of, leap_of, code_of, lunisolar_read, lunar_read, era_read, parts_read, at_end, row_read}

@@ -3,7 +3,7 @@ use Rattle.std.specs.Prelude.{◌≡◌, ◌≢◌, List, [], ◌∷◌, ◌++�
 use Rattle.std.specs.Option.{option_or}
 use Rattle.cal_types.specs.Month.{month_read}
 use Rattle.cal_types.specs.Bag.{Bag}
-use Rattle.request_lines.specs.Words.{int_of, byte_of}
+use Rattle.word_values.specs.Numbers.{int_of, byte_of}
 use Rattle.request_lines.specs.Bags.{Field, Era, EraYear, ExtendedYear, Month, MonthCode, OrdinalMonth, Day, bytes_of, no_fields}
 
 -- the word is the key, and behind it a text that reads as the value

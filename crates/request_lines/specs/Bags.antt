@@ -3,7 +3,8 @@ use Rattle.std.specs.Prelude.{ℕ, ℤ, Bool, List, [], ◌∷◌, Option, Some,
 use Rattle.std.specs.Option.{option_map, option_and_then}
 use Rattle.cal_types.specs.Month.{MonthParts, month_read}
 use Rattle.cal_types.specs.Bag.{Bag}
-use Rattle.request_lines.specs.Words.{is_text, int_of, byte_of}
+use Rattle.word_values.specs.Numbers.{int_of, byte_of}
+use Rattle.request_lines.specs.Words.{is_text}
 use Rattle.request_lines.specs.Reading.{Read}
 
 -- a field and its value

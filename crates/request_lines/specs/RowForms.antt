@@ -1,6 +1,6 @@
 -- The form of a row line, as one statement of all its words.
 use Rattle.std.specs.Prelude.{◌≡◌, ℕ, ℤ, List, [], ◌∷◌, Some, codes}
-use Rattle.request_lines.specs.Words.{int_of, byte_of}
+use Rattle.word_values.specs.Numbers.{int_of, byte_of}
 use Rattle.request_lines.specs.Rows.{YearRow, EraRow, Row, China, Korea, Hijri, Persian, Era, lengths_of, leap_of, code_of, row_read}
 
 -- `YEAR START LENGTHS LEAP`

@@ -2,7 +2,8 @@
 use Rattle.std.specs.Prelude.{ℕ, ℤ, Bool, ◌==◌, ◌&&◌, ◌||◌, nat_lt, nat_le, List, [], ◌∷◌, length, codes, Option, Some, None, if◌then◌else◌}
 use Rattle.std.specs.List.{list_all}
 use Rattle.std.specs.Option.{option_and_then}
-use Rattle.request_lines.specs.Words.{is_text, int_of, byte_of}
+use Rattle.word_values.specs.Numbers.{int_of, byte_of}
+use Rattle.request_lines.specs.Words.{is_text}
 use Rattle.request_lines.specs.Reading.{Read, next_word, and_then}
 use Rattle.request_lines.specs.Requests.{fixed_word}
 use Rattle.request_lines.specs.declared.era_row.RowDate.{RowDate}

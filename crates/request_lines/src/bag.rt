@@ -11,6 +11,7 @@ ghost use Rattle.request_lines.specs.WordsLeft.{words_left};
 use crate::reading::{next_byte, next_int};
 use crate::words::Words;
 use cal_types::{DateFields, Month};
+use word_values::read_month_code;
 
 // A field of a bag, and its value.
 #[derive(Clone, Copy, Debug)]
@@ -52,7 +53,7 @@ fn next_month(words: &mut Words) -> Option<Month>
     ensures { let reading = next_word month_read (words_left words.old) in
         IsReading reading (option_map month_parts result) (words_left words.new) }
 {
-    Month::try_from_utf8(words.next()?).ok()
+    read_month_code(words.next()?)
 }
 
 // Sets the field that the next word KEY=VALUE names, of those that name a date beside an extended year, a month

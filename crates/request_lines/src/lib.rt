@@ -17,4 +17,4 @@ pub use era_row::{EraRow, RowDate};
 pub use line::{Line, LineKind, RequestLine, is_silent, line_kind, read_line};
 pub use request::{Header, Request, read_request};
 pub use row::{Row, RowKind, YearRow, read_row};
-pub use words::{Words, byte, int, number};
+pub use words::Words;

@@ -1,7 +1,7 @@
 //! Words that are read one after another.
 ghost use Rattle.std.specs.Prelude.{◌≡◌, true};
 ghost use Rattle.std.specs.List.{list_all};
-ghost use Rattle.request_lines.specs.Words.{byte_of, int_of};
+ghost use Rattle.word_values.specs.Numbers.{byte_of, int_of};
 ghost use Rattle.request_lines.specs.WordsLeft.{words_left};
 ghost use Rattle.request_lines.specs.Taking.{is_no_space};
 ghost use Rattle.request_lines.specs.Reading.{IsReading, next_word};

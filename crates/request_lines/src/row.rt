@@ -9,7 +9,8 @@ ghost use Rattle.request_lines.specs.Rows.{kind_named, is_length, are_lengths, l
 
 use crate::era_row::{EraRow, RowDate};
 use crate::reading::{next_byte, next_int, next_is};
-use crate::words::{Words, byte};
+use crate::words::Words;
+use word_values::read_byte;
 
 /// Which table a row is of.
 #[derive(Clone, Copy, Debug)]
@@ -109,7 +110,7 @@ fn next_lengths<'a>(words: &mut Words<'a>, most: usize) -> Option<&'a [u8]>
 fn next_leap(words: &mut Words, lengths: &[u8]) -> Option<u8>
     ensures { IsReading (next_word (leap_of lengths.now) (words_left words.old)) result (words_left words.new) }
 {
-    let leap = byte(words.next()?)?;
+    let leap = read_byte(words.next()?)?;
     let months = if leap == 0 { 12 } else { 13 };
     if lengths.len() == months {
         Some(leap)

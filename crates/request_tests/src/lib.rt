@@ -1,4 +1,4 @@
-//! Tests of the words of a line by their public calls.
+//! Tests of the words of a line, and of what one word says, by their public calls.
 //!
 //! What a contract says is proved where it stands; here are values that come from outside.
 #![tactic(auto)]

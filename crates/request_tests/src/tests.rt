@@ -1,6 +1,8 @@
-//! Words between spaces, and the numbers that words spell.
+//! Words between spaces, and the numbers and months that words spell.
 
-use request_lines::{Words, byte, int};
+use cal_types::Month;
+use request_lines::Words;
+use word_values::{read_byte, read_int, read_month_code, read_number};
 
 #[test]
 fn words_stand_between_spaces(rt: HostRuntime) {
@@ -14,17 +16,32 @@ fn words_stand_between_spaces(rt: HostRuntime) {
 
 #[test]
 fn numbers_have_one_to_nine_digits(rt: HostRuntime) {
-    assert_eq!(rt; int(b"-007"), Some(-7));
-    assert_eq!(rt; int(b"999999999"), Some(999999999));
-    assert_eq!(rt; int(b"-"), None);
-    assert_eq!(rt; int(b"1234567890"), None);
-    assert_eq!(rt; int(b"+1"), None);
+    assert_eq!(rt; read_int(b"-007"), Some(-7));
+    assert_eq!(rt; read_int(b"999999999"), Some(999999999));
+    assert_eq!(rt; read_int(b"-"), None);
+    assert_eq!(rt; read_int(b"1234567890"), None);
+    assert_eq!(rt; read_int(b"+1"), None);
 }
 
 #[test]
 fn bytes_have_one_to_three_digits(rt: HostRuntime) {
-    assert_eq!(rt; byte(b"255"), Some(255));
-    assert_eq!(rt; byte(b"007"), Some(7));
-    assert_eq!(rt; byte(b"256"), None);
-    assert_eq!(rt; byte(b"0255"), None);
+    assert_eq!(rt; read_byte(b"255"), Some(255));
+    assert_eq!(rt; read_byte(b"007"), Some(7));
+    assert_eq!(rt; read_byte(b"256"), None);
+    assert_eq!(rt; read_byte(b"0255"), None);
+}
+
+#[test]
+fn numbers_have_as_many_digits_as_are_asked_for(rt: HostRuntime) {
+    assert_eq!(rt; read_number(b"100000", 6), Some(100000));
+    assert_eq!(rt; read_number(b"1000000", 6), None);
+    assert_eq!(rt; read_number(b"", 6), None);
+}
+
+#[test]
+fn month_codes_are_whole_words(rt: HostRuntime) {
+    assert_eq!(rt; read_month_code(b"M05L"), Some(Month::leap(5)));
+    assert_eq!(rt; read_month_code(b"M13"), Some(Month::new(13)));
+    assert_eq!(rt; read_month_code(b"M5"), None);
+    assert_eq!(rt; read_month_code(b"M05L "), None);
 }

@@ -6,7 +6,7 @@ use Rattle.cal_types.specs.Month.{month_read}
 use Rattle.cal_types.specs.MonthParts.{month_parts}
 use Rattle.request_lines.specs.Reading.{Read, IsReading}
 use Rattle.request_lines.specs.WordsLeft.{words_left}
-use Rattle.request_lines.specs.Words.{int_of, byte_of}
+use Rattle.word_values.specs.Numbers.{int_of, byte_of}
 use Rattle.request_lines.specs.Bags.{ExtendedYear, Month, Day, rarer_field_read, with_field}
 use Rattle.request_lines.proofs.FieldLemmas.{behind_year, behind_month, sets_nothing}
 use Rattle.request_lines.proofs.KeyLemmas.{key_missed, key_fails, key_sets, was_taken}

@@ -4,7 +4,7 @@ use Rattle.cal_days.proofs.Signed.{signed}
 use Rattle.cal_types.specs.Bag.{Bag, bag_of}
 use Rattle.request_lines.specs.Reading.{Read, IsReading}
 use Rattle.request_lines.specs.WordsLeft.{words_left}
-use Rattle.request_lines.specs.Words.{int_of, byte_of}
+use Rattle.word_values.specs.Numbers.{int_of, byte_of}
 use Rattle.request_lines.specs.Bags.{Era, EraYear, MonthCode, OrdinalMonth, bytes_of, with_field}
 use Rattle.request_lines.proofs.FieldLemmas.{behind_era, behind_era_year, behind_month_code, sets_nothing}
 use Rattle.request_lines.proofs.KeyLemmas.{key_missed, key_fails, key_sets, was_taken}

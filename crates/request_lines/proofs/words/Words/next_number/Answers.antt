@@ -1,6 +1,6 @@
 use Rattle.std.proofs.Common.{◌∷◌, ◌-◌, ℕ, length, take, drop, sym, ap, subst, ◌∙◌, ◌<◌, arith}
 use Rattle.std.proofs.lemmas.List.{take_rest}
-use Rattle.request_lines.specs.Words.{number_of, AreLeadingDigits}
+use Rattle.word_values.specs.Numbers.{number_of, AreLeadingDigits}
 use Rattle.request_lines.specs.WordsLeft.{words_from}
 use Rattle.request_lines.specs.Reading.{next_word}
 use Rattle.request_lines.proofs.TakingLemmas.{empty, is_other}

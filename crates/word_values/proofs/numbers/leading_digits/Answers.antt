@@ -1,6 +1,6 @@
 use Rattle.std.proofs.Common.{◌^◌, ◌≤◌, arith}
 use Rattle.std.proofs.Math.Nat.{pow-le-pow_right}
-use Rattle.request_lines.proofs.words.leading_digits.Goals as goal
+use Rattle.word_values.proofs.numbers.leading_digits.Goals as goal
 
 pub overflow_mul-value : goal.overflow_mul-value
 overflow_mul-value c =

@@ -1,8 +1,8 @@
 use Rattle.std.proofs.Common.{◌≡◌, ◌<◌, ◌^◌, take, true}
 use Rattle.std.specs.List.{list_all}
 use Rattle.std.specs.Char.{is_ascii_digit}
-use Rattle.request_lines.specs.Words.{digits_value}
-use Rattle.request_lines.proofs.words.leading_digits.Given as goal
+use Rattle.word_values.specs.Numbers.{digits_value}
+use Rattle.word_values.proofs.numbers.leading_digits.Given as goal
 
 abbrev pub invariant-loop-byte : goal.invariant-loop-byte
 invariant-loop-byte l = record {
