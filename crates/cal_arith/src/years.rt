@@ -287,7 +287,8 @@ pub trait DateFieldsResolver: Years {
     ghost era_in_range: { (s : Self) (era : List ℕ) (n y : ℤ) → IsFieldYear n
         → (names s).reads era n ≡ Some y → IsRuleYear y };
 
-    /// An era's year near its start has valid days.
+    /// An era's year near its start has valid days: this is all that a constructor needs of it. An era within 10000
+    /// years of year 0 reads years from -9999 to 9999 as ones from -20000 to 20000, far within.
     ghost era_covered: { (s : Self) (era : List ℕ) (n y : ℤ) → IsConstructorYear n
         → (names s).reads era n ≡ Some y → IsCoveredYear y };
 
