@@ -1,14 +1,27 @@
 //! Pointers to calendars.
 
-ghost use Rattle.std.specs.Prelude.{◌≡◌};
+ghost use Rattle.std.specs.Prelude.{◌≡◌, ⊤};
 
 use crate::calendar::AsCalendar;
+use std::alloc::AllocError;
 use std::ops::Deref;
 use std::rc::Rc;
 
 /// A calendar that is borrowed.
-#[derive(Clone, Copy, PartialEq, Eq, Debug)]
+#[derive(PartialEq, Eq, Debug)]
 pub struct Ref<'a, C>(pub &'a C);
+
+impl<'a, C> Copy for Ref<'a, C> {}
+
+impl<'a, C> Clone for Ref<'a, C> {
+    ghost is_clone = { λ r s. s ≡ r };
+
+    ghost is_infallible = { λ _. ⊤ };
+
+    fn clone(&self) -> Result<Ref<'a, C>, AllocError> {
+        Ok(*self)
+    }
+}
 
 impl<'a, C> Deref for Ref<'a, C> {
     type Target = C;
