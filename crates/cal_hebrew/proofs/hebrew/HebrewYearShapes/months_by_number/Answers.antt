@@ -12,14 +12,14 @@ counted : (year months : ℤ) → IsRuleYear year → months ≡ months_before (
 counted year months rule value = let kept : to_z w32 (of_z w32 year) ≡ year = omega (arith, signed_casts, rule) in value ∙ ap months_before kept
 
 pub overflow_cast-result-1 : goal.overflow_cast-result-1
-overflow_cast-result-1 g c =
+overflow_cast-result-1 c =
     let first = counted c.args.first c.months_before_year-2.result c.requires.first c.months_before_year-2.ensures.value in
     let last = counted c.args.last c.months_before_year.result c.requires.last c.months_before_year.ensures.value in
     let rises = months_before-rises c.args.first c.args.last c.requires.order in
     (omega (arith, signed_casts, first, last, rises, c.months_before_year.ensures.bound, c.months_before_year-2.ensures.bound), omega (arith, signed_casts, first, last, rises, c.months_before_year.ensures.bound, c.months_before_year-2.ensures.bound))
 
 pub returns-clause-count : goal.returns-clause-count
-returns-clause-count g c =
+returns-clause-count c =
     let first = counted c.args.first c.months_before_year-2.result c.requires.first c.months_before_year-2.ensures.value in
     let last = counted c.args.last c.months_before_year.result c.requires.last c.months_before_year.ensures.value in
     let rises = months_before-rises c.args.first c.args.last c.requires.order in

@@ -8,7 +8,7 @@ use Rattle.cal_julian.specs.PersianCorrected.{corrected_years}
 use Rattle.cal_julian.proofs.persian.PersianYearShapes.months_by_number.Goals as goal
 
 pub returns-clause-count : goal.returns-clause-count
-returns-clause-count g c =
+returns-clause-count c =
     let apart : to_z w32 (of_z w32 (to_z w32 (of_z w32 c.args.last) -ℤ to_z w32 (of_z w32 c.args.first))) ≡ c.args.last -ℤ c.args.first = omega (arith, signed_casts, c.requires.first, c.requires.last) in
     let there : to_z w32 (of_z w32 c.args.last) ≡ c.args.last = omega (arith, signed_casts, c.requires.last) in
     let number = month_number-twelve (persian_list (corrected_years c.args.self.now)) (persian_list-plain (corrected_years c.args.self.now)).count in
