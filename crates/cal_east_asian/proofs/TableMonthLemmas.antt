@@ -78,9 +78,9 @@ module _ (t : EastAsianTable) where
       let rule : IsRuleYear there = (omega (arith, signed, low, order), omega (arith, signed, high, to_is, two)) in
       let there_is : kept there ≡ there = omega (arith, signed, rule) in
       let value : r ≡ span (computed_month_count t.side) from there =
-          e ∙ (ap (λ (x : Side). span (computed_month_count x) (kept from) (kept there)) same
-          ∙ (ap (λ (z : ℤ). span (computed_month_count t.side) z (kept there)) from_is
-          ∙ ap (λ (z : ℤ). span (computed_month_count t.side) from z) there_is)) in
+      e ∙ (ap (λ (x : Side). span (computed_month_count x) (kept from) (kept there)) same
+      ∙ (ap (λ (z : ℤ). span (computed_month_count t.side) z (kept there)) from_is
+      ∙ ap (λ (z : ℤ). span (computed_month_count t.side) from z) there_is)) in
       let count = run-span from there order low rule (subst (λ (z : ℤ). AreComputed t z there) from_is here) in
       let bound = run-bound (years_up (there -ℤ from)) from there (omega (arith, signed, order)) in
       (omega (arith, signed, ap before there_is, count, value), omega (arith, signed, count, value, bound), omega (arith, signed, count, value, bound, low, rule))

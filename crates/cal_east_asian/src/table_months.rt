@@ -68,5 +68,8 @@ pub(crate) fn months_without_rows(table: &EastAsianTable<'_>, from: i32, to: i32
         month_number list result.0 1 ≡ month_number list from 1 +ℤ pos result.1 }
 {
     let there = first_with_row(table, from, to);
-    (there, computed_months_between(table.side(), from, there) as u32)
+    (
+        there,
+        computed_months_between(table.side(), from, there) as u32,
+    )
 }
