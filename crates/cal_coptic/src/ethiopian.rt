@@ -94,7 +94,9 @@ impl Ethiopian {
 
 /// The Ethiopian calendar in the style Amete Mihret.
 impl Default for Ethiopian {
-    ghost is_default = { λ c. c.era_style ≡ EthiopianEraStyle.AmeteMihret };
+    ghost use Rattle.cal_coptic.specs.declared.ethiopian.EthiopianEraStyle.TheVariants.{AmeteMihret};
+
+    ghost is_default = { λ c. c.era_style ≡ AmeteMihret };
 
     fn default() -> Ethiopian {
         Ethiopian::new()

@@ -10,8 +10,8 @@ counted c =
     kept_run c.args.table.now c.args.from c.first_with_row-there.result c.args.to c.computed_months_between.result c.side.result
     c.requires.from c.requires.to (omega (arith, signed, there.within)) (omega (arith, signed, there.within)) there.before c.side.ensures c.computed_months_between.ensures
 
-pub overflow_cast-result-1 : goal.overflow_cast-result-1
-overflow_cast-result-1 c = let n = counted (goal.at.overflow_cast-result-1 c).After-computed_months_between in (omega (arith, signed, n), omega (arith, signed, n))
+pub overflow_cast-result : goal.overflow_cast-result
+overflow_cast-result c = let n = counted (goal.at.overflow_cast-result c).After-computed_months_between in (omega (arith, signed, n), omega (arith, signed, n))
 
 pub returns-clause-count : goal.returns-clause-count
 returns-clause-count c = let n = counted (goal.at.returns-clause-count c).After-computed_months_between in omega (arith, signed, n)

@@ -11,8 +11,8 @@ use Rattle.cal_hebrew.proofs.hebrew.HebrewYearShapes.months_by_number.Goals as g
 counted : (year months : ℤ) → IsRuleYear year → months ≡ months_before (to_z w32 (of_z w32 year)) → months ≡ months_before year
 counted year months rule value = let kept : to_z w32 (of_z w32 year) ≡ year = omega (arith, signed_casts, rule) in value ∙ ap months_before kept
 
-pub overflow_cast-result-1 : goal.overflow_cast-result-1
-overflow_cast-result-1 c =
+pub overflow_cast-result : goal.overflow_cast-result
+overflow_cast-result c =
     let first = counted c.args.first c.months_before_year-2.result c.requires.first c.months_before_year-2.ensures.value in
     let last = counted c.args.last c.months_before_year.result c.requires.last c.months_before_year.ensures.value in
     let rises = months_before-rises c.args.first c.args.last c.requires.order in
