@@ -1,5 +1,5 @@
 -- The laws of a calendar, for any calendar: those of the one that it holds.
-use Rattle.std.proofs.Common.{◌≡◌, ℕ, ℤ, ◌==◌, Bool, true, [], ◌∷◌, Some, refl, sym, ap, subst, ◌∙◌, pos}
+use Rattle.std.proofs.Common.{◌≡◌, ℕ, ℤ, ◌==◌, Bool, true, [], ◌∷◌, Some, refl, sym, ap, subst, ◌∙◌, pos, ◌+ℤ◌}
 use Rattle.std.specs.Prelude.{IsTrue, ◌&&◌, None, Option, if◌then◌else◌, slice_index_or}
 use Rattle.std.specs.Ordering.{int_cmp, int_eq}
 use Rattle.std.specs.Cmp.{IsEquivalence, on_equiv, int_eq_equiv}
@@ -15,7 +15,7 @@ use Rattle.cal_model.specs.Renumbered.{counted_date}
 use Rattle.cal_model.proofs.RenumberedBoundLemmas.{ranged-renumbered, covered-renumbered}
 use Rattle.cal_model.proofs.CountedDateLemmas.{counted-valid, valid-counted, day_number-counted}
 use Rattle.cal_base.specs.GregorianList.{gregorian_list}
-use Rattle.cal_base.specs.OffsetListLaws.{offset_list-lawful, offset_list-ranged, offset_list-covered, true-offset}
+use Rattle.cal_base.specs.OffsetListLaws.{offset_list-lawful, offset_list-ranged, offset_list-shifted, offset_list-covered, true-offset}
 use Rattle.cal_coptic.specs.CopticList.{coptic_list}
 use Rattle.cal_coptic.specs.CopticLaws as coptic_bounds
 use Rattle.cal_coptic.specs.CopticLaws.{coptic_list-lawful, coptic_list-bounded}
@@ -105,6 +105,26 @@ any_ranged (calendar.JapaneseExtended _) t h = offset_list-ranged (pos 0) (true-
 any_ranged (calendar.Julian _) t h = (julian_bounds.years-ranged t h).0
 any_ranged (calendar.Persian c) t h = (persian_bounds.years-ranged (corrected_years c) c.corrections.known t h).0
 any_ranged (calendar.Roc _) t h = offset_list-ranged roc_offset (true-offset roc_offset refl) t h
+
+-- so do these years as adding counts them
+pub any_shifted : (c : AnyCalendar) (t : Date) → IsValidDate (any_system c).list t → IsFieldYear (t.year +ℤ (any_system c).year_shift)
+any_shifted (calendar.Buddhist _) t h = offset_list-shifted buddhist_offset (true-offset buddhist_offset refl) t h
+any_shifted (calendar.Chinese c) t h = (east_asian_bounds.years-ranged (tables.table_year c.0.table) (tables.table-years c.0.table) t h).1
+any_shifted (calendar.Coptic _) t h = (coptic_bounds.years-ranged t h).1
+any_shifted (calendar.Dangi c) t h = (east_asian_bounds.years-ranged (tables.table_year c.0.table) (tables.table-years c.0.table) t h).1
+any_shifted (calendar.Ethiopian c) t h = (ranged-renumbered (coptic_offset c.era_style) (coptic_offset-small c.era_style) coptic_list coptic_list-bounded t h).1
+any_shifted (calendar.Gregorian _) t h = offset_list-shifted (pos 0) (true-offset (pos 0) refl) t h
+any_shifted (calendar.Hebrew _) t h = (hebrew_bounds.years-ranged t h).1
+any_shifted (calendar.HijriSimulated c) t h = (hijri_bounds.years-ranged (table_year c.0.table.rows.now) (table-numbered c.0.table.rows.now c.0.table.accepted) (table-joins c.0.table.rows.now c.0.table.accepted) t h).1
+any_shifted (calendar.HijriTabular c) t h = (hijri_bounds.years-ranged (tabular_year c.0) (tabular-numbered c.0) (tabular-joins c.0) t h).1
+any_shifted (calendar.HijriUmmAlQura c) t h = (hijri_bounds.years-ranged (table_year c.0.table.rows.now) (table-numbered c.0.table.rows.now c.0.table.accepted) (table-joins c.0.table.rows.now c.0.table.accepted) t h).1
+any_shifted (calendar.Indian _) t h = (indian_bounds.years-ranged t h).1
+any_shifted (calendar.Iso _) t h = offset_list-shifted (pos 0) (true-offset (pos 0) refl) t h
+any_shifted (calendar.Japanese _) t h = offset_list-shifted (pos 0) (true-offset (pos 0) refl) t h
+any_shifted (calendar.JapaneseExtended _) t h = offset_list-shifted (pos 0) (true-offset (pos 0) refl) t h
+any_shifted (calendar.Julian _) t h = (julian_bounds.years-ranged t h).1
+any_shifted (calendar.Persian c) t h = (persian_bounds.years-ranged (corrected_years c) c.corrections.known t h).1
+any_shifted (calendar.Roc _) t h = offset_list-shifted roc_offset (true-offset roc_offset refl) t h
 
 -- the days of small years are valid
 pub any_covered : (c : AnyCalendar) (t : Date) → IsCoveredYear t.year → IsDate (any_system c).list t

@@ -296,7 +296,7 @@ impl<'t> PartialOrd for AnyDateInner<'t> {
 impl<'t> UnstableSealed for AnyCalendar<'t> {}
 
 impl<'t> Calendar for AnyCalendar<'t> {
-    ghost use Rattle.cal_any.specs.AnyLaws.{any_lawful, any_dated, any_ranged, any_covered, any_named, any_equal_days, any_ordered_days};
+    ghost use Rattle.cal_any.specs.AnyLaws.{any_lawful, any_dated, any_ranged, any_shifted, any_covered, any_named, any_equal_days, any_ordered_days};
     ghost use Rattle.cal_any.specs.AnyLaws.{any_compatible_itself, any_compatible_back, any_compatible_on};
     ghost use Rattle.cal_any.specs.AnyLaws.{any_shared, any_shared_day};
 
@@ -442,6 +442,8 @@ impl<'t> Calendar for AnyCalendar<'t> {
     ghost dated = { any_dated };
 
     ghost ranged = { any_ranged };
+
+    ghost shifted = { any_shifted };
 
     ghost covered = { any_covered };
 

@@ -1,6 +1,6 @@
 //! The sequence of all months.
 
-ghost use Rattle.std.specs.Prelude.{◌≡◌, ◌≤◌, ◌<◌, ◌*◌, IfSome, IsSome, pos, neg_ℤ, ◌+ℤ◌, ◌*ℤ◌, ◌≤ℤ◌};
+ghost use Rattle.std.specs.Prelude.{◌≡◌, ◌≤◌, ◌<◌, ◌+◌, ◌*◌, IfSome, IsSome, pos, neg_ℤ, unsigned_abs, ◌+ℤ◌, ◌-ℤ◌, ◌*ℤ◌, ◌≤ℤ◌};
 ghost use Rattle.cal_model.specs.CalendarList.{IsMonthsAfter, month_count, month_number};
 ghost use Rattle.cal_model.specs.Difference.{toward};
 ghost use Rattle.cal_arith.specs.Counting.{IsCountable, IsMonthsFrom};
@@ -22,6 +22,39 @@ pub struct YearMonth<Y> {
     pub month: u8,
 }
 
+/// How many months lie between the first day of a year and that of another which isn't before it.
+///
+/// Years whose months the calendar doesn't count by their numbers are looked up, at the cost of one tick each.
+pub(crate) fn months_between_counted<C: YearShapes, L: Ledger>(
+    first: C::YearInfo,
+    last: C::YearInfo,
+    cal: &C,
+    steps: &mut Steps<L>,
+) -> u32
+    requires first { IsGiven (C.years cal.now) first }
+    requires last { IsGiven (C.years cal.now) last }
+    requires order { let y = C.years cal.now in y.extended first ≤ℤ y.extended last }
+    ensures count { let y = C.years cal.now in
+        month_number y.list (y.extended last) 1 ≡ month_number y.list (y.extended first) 1 +ℤ pos result }
+    ensures ticks { let y = C.years cal.now in
+        steps.new ≤ steps.old + unsigned_abs (y.extended last -ℤ y.extended first) }
+{
+    let end = cal.extended_from_year_info(last);
+    let mut number = cal.extended_from_year_info(first);
+    let mut count = 0;
+    'years: while number < end {
+        let (next, months) = cal.months_by_number(number, end);
+        count += months;
+        number = next;
+        if number < end {
+            let year = cal.year_counted(number, steps);
+            count += u32::from(cal.months_in_provided_year(year));
+            number += 1;
+        }
+    }
+    count
+}
+
 /// How many months lie between the first days of two years, by a counter that nobody reads.
 fn months_between_with_blank<C: YearShapes, L: Ledger>(
     first: C::YearInfo,
@@ -39,7 +72,7 @@ fn months_between_with_blank<C: YearShapes, L: Ledger>(
         month_number y.list (y.extended last) 1 ≡ month_number y.list (y.extended first) 1 +ℤ pos result }
 {
     let mut steps = Steps::<L>::new(blank);
-    cal.months_between_years(first, last, &mut steps)
+    months_between_counted(first, last, cal, &mut steps)
 }
 
 /// How many months lie between the first days of two years.

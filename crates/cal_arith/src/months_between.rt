@@ -12,7 +12,7 @@ ghost use Rattle.cal_arith.specs.Directions.{is_backward};
 
 use crate::dates::Ymd;
 use crate::direction::Direction;
-use crate::months::YearMonth;
+use crate::months::{YearMonth, months_between_counted};
 use crate::past::is_past_day;
 use crate::steps::Steps;
 use crate::years::YearShapes;
@@ -50,7 +50,7 @@ fn months_apart<C: YearShapes, L: Ledger>(
     ensures ticks { let y = C.years cal.now in
         steps.new ≤ steps.old + unsigned_abs (y.extended last.year -ℤ y.extended first.year) }
 {
-    let between = cal.months_between_years(first.year, last.year, steps);
+    let between = months_between_counted(first.year, last.year, cal, steps);
     between + u32::from(last.month) - u32::from(first.month)
 }
 

@@ -29,6 +29,10 @@ offset_list-lawful offset = plain-lawful 12 (offset_list offset) (offset_list-pl
 pub offset_list-ranged : (offset : ℤ) → IsOffset offset → (t : Date) → IsValidDate (offset_list offset) t → IsFieldYear t.year
 offset_list-ranged offset small t h = (ranged-renumbered offset small gregorian_list gregorian_list-bounded t h).0
 
+-- and so do their ISO years
+pub offset_list-shifted : (offset : ℤ) → IsOffset offset → (t : Date) → IsValidDate (offset_list offset) t → IsFieldYear (t.year +ℤ offset)
+offset_list-shifted offset small t h = (ranged-renumbered offset small gregorian_list gregorian_list-bounded t h).1
+
 pub offset_list-covered : (offset : ℤ) → IsOffset offset → (t : Date) → IsCoveredYear t.year → IsDate (offset_list offset) t → IsValidDay (day_number (offset_list offset) t)
 offset_list-covered offset small = covered-renumbered offset small gregorian_list gregorian_list-bounded
 

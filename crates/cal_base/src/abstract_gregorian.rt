@@ -62,13 +62,8 @@ impl<Y: GregorianYears> YearShapes for AbstractGregorian<Y> {
         12 * count
     }
 
-    fn months_between_years<L: Ledger>(
-        &self,
-        first: IsoYear,
-        last: IsoYear,
-        _steps: &mut Steps<L>,
-    ) -> u32 {
-        12 * (last.number - first.number) as u32
+    fn months_by_number(&self, first: i32, last: i32) -> (i32, u32) {
+        (last, 12 * (last - first) as u32)
     }
 
     fn ordinal_from_month(
@@ -183,7 +178,7 @@ impl<Y: GregorianYears> Calendar for AbstractGregorian<Y> {
     ghost use Rattle.std.proofs.Common.{ap};
     ghost use Rattle.cal_base.specs.OffsetSystem.{offset_system, offset_date, packed_belongs};
     ghost use Rattle.cal_base.specs.Compatibility.{never_refused};
-    ghost use Rattle.cal_base.specs.OffsetListLaws.{offset_list-lawful, offset_list-ranged, offset_list-covered};
+    ghost use Rattle.cal_base.specs.OffsetListLaws.{offset_list-lawful, offset_list-ranged, offset_list-shifted, offset_list-covered};
     ghost use Rattle.cal_base.specs.OffsetSystemLaws.{packed-dated, packed-equal, packed-ordered, packed-shared};
 
     type DateInner = ArithmeticDate<AbstractGregorian<Y>>;
@@ -335,6 +330,8 @@ impl<Y: GregorianYears> Calendar for AbstractGregorian<Y> {
     ghost dated = { λ s d h. packed-dated (Y.offset s.0) d.packed h };
 
     ghost ranged = { λ s. offset_list-ranged (Y.offset s.0) (Y.offset_bound s.0) };
+
+    ghost shifted = { λ s. offset_list-shifted (Y.offset s.0) (Y.offset_bound s.0) };
 
     ghost covered = { λ s. offset_list-covered (Y.offset s.0) (Y.offset_bound s.0) };
 

@@ -198,6 +198,8 @@ impl<C: NamedYears> Calendar for Arithmetic<C> {
 
     ghost ranged = { λ s t h. (C.ranged s.0 t h).0 };
 
+    ghost shifted = { λ s t h. (C.ranged s.0 t h).1 };
+
     ghost covered = { λ s. C.covered s.0 };
 
     ghost named = { λ s t. C.named s.0 t.year };

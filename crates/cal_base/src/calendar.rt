@@ -286,6 +286,10 @@ pub trait Calendar: UnstableSealed + Drop {
     /// The extended years of dates with valid days lie from -1040000 to 1040000.
     ghost ranged: { (s : Self) (t : Date) → IsValidDate (system s).list t → IsFieldYear t.year };
 
+    /// So do these years as adding counts them.
+    ghost shifted: { (s : Self) (t : Date) → IsValidDate (system s).list t →
+        IsFieldYear (t.year +ℤ (system s).year_shift) };
+
     /// The days of years from -980000 to 980000 are valid.
     ghost covered: { (s : Self) (t : Date) → IsCoveredYear t.year → IsDate (system s).list t →
         IsValidDay (day_number (system s).list t) };

@@ -97,7 +97,7 @@ impl Calendar for Iso {
     ghost use Rattle.std.proofs.Common.{ap};
     ghost use Rattle.cal_base.specs.IsoSystem.{iso_system, iso_date, iso_belongs};
     ghost use Rattle.cal_base.specs.Compatibility.{never_refused};
-    ghost use Rattle.cal_base.specs.OffsetListLaws.{offset_list-lawful, offset_list-ranged, offset_list-covered, true-offset};
+    ghost use Rattle.cal_base.specs.OffsetListLaws.{offset_list-lawful, offset_list-ranged, offset_list-shifted, offset_list-covered, true-offset};
     ghost use Rattle.cal_base.specs.OffsetSystemLaws.{packed-dated, packed-equal, packed-ordered};
 
     type DateInner = IsoDateInner;
@@ -242,6 +242,8 @@ impl Calendar for Iso {
     ghost dated = { λ _ d h. packed-dated (pos 0) d.0.packed h };
 
     ghost ranged = { λ _. offset_list-ranged (pos 0) (true-offset (pos 0) refl) };
+
+    ghost shifted = { λ _. offset_list-shifted (pos 0) (true-offset (pos 0) refl) };
 
     ghost covered = { λ _. offset_list-covered (pos 0) (true-offset (pos 0) refl) };
 

@@ -65,13 +65,8 @@ impl YearShapes for Coptic {
         13 * count
     }
 
-    fn months_between_years<L: Ledger>(
-        &self,
-        first: CopticYear,
-        last: CopticYear,
-        _steps: &mut Steps<L>,
-    ) -> u32 {
-        13 * (last.number - first.number) as u32
+    fn months_by_number(&self, first: i32, last: i32) -> (i32, u32) {
+        (last, 13 * (last - first) as u32)
     }
 
     fn ordinal_from_month(
@@ -376,6 +371,8 @@ impl Calendar for Coptic {
     ghost dated = { λ _ d h. coptic_belongs-dated d h };
 
     ghost ranged = { λ _ t h. (years-ranged t h).0 };
+
+    ghost shifted = { λ _ t h. (years-ranged t h).1 };
 
     ghost covered = { λ _ t. days-covered t };
 

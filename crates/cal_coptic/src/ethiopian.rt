@@ -94,6 +94,10 @@ impl Ethiopian {
 
 /// The Ethiopian calendar in the style Amete Mihret.
 impl Default for Ethiopian {
+    ghost use Rattle.cal_coptic.specs.declared.ethiopian.EthiopianEraStyle.TheVariants.{AmeteMihret};
+
+    ghost is_default = { λ c. c.era_style ≡ AmeteMihret };
+
     fn default() -> Ethiopian {
         Ethiopian::new()
     }
@@ -137,13 +141,8 @@ impl YearShapes for Ethiopian {
         13 * count
     }
 
-    fn months_between_years<L: Ledger>(
-        &self,
-        first: CopticYear,
-        last: CopticYear,
-        _steps: &mut Steps<L>,
-    ) -> u32 {
-        13 * (last.number - first.number) as u32
+    fn months_by_number(&self, first: i32, last: i32) -> (i32, u32) {
+        (last, 13 * (last - first) as u32)
     }
 
     fn ordinal_from_month(
@@ -510,6 +509,9 @@ impl Calendar for Ethiopian {
 
     ghost ranged = { λ s t h. (ranged-renumbered (coptic_offset s.era_style) (coptic_offset-small s.era_style)
         coptic_list coptic_list-bounded t h).0 };
+
+    ghost shifted = { λ s t h. (ranged-renumbered (coptic_offset s.era_style) (coptic_offset-small s.era_style)
+        coptic_list coptic_list-bounded t h).1 };
 
     ghost covered = { λ s. covered-renumbered (coptic_offset s.era_style) (coptic_offset-small s.era_style)
         coptic_list coptic_list-bounded };

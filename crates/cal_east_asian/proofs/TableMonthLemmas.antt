@@ -1,5 +1,6 @@
 -- The months of the years that a table chooses, in a run of years without rows, and the years that have none.
 use Rattle.std.proofs.Common.{◌≡◌, ℕ, zero, suc, ◌-◌, ◌*◌, ◌<◌, length, Some, None, slice_get, refl, sym, ap, subst, ◌∙◌, to_z, of_z, w32, arith, ℤ, pos, ◌+ℤ◌, ◌-ℤ◌, ◌≤ℤ◌, ◌<ℤ◌}
+use Rattle.std.proofs.lemmas.Int.{by_lt_z}
 use Rattle.std.proofs.lemmas.Option.{slice_get_within}
 use Rattle.cal_days.specs.Day.{IsRuleYear}
 use Rattle.cal_days.specs.Sums.{years_up, total, span}
@@ -68,38 +69,28 @@ module _ (t : EastAsianTable) where
       let e : z ≡ y +ℤ pos n = omega (arith, signed) in
       omega (arith, signed, run n y z e low high computed, span-up (computed_month_count t.side) y z n e)
 
-  -- the same on both sides of the years that may have rows, and the bounds
-  pub record AreEnds (from to a b r s : ℤ) : Type 0 where
-    pub first : before a ≡ before from +ℤ r
-    pub last : before to ≡ before b +ℤ s
-    pub most : (before from ≤ℤ before a) × (before a ≤ℤ before b) × (before b ≤ℤ before to) × (before to ≤ℤ (before from +ℤ pos 208000000))
-
-  pub both_ends : (from to a b r s : ℤ) (side other : Side) → IsRuleYear from → IsRuleYear to → from ≤ℤ a → a ≤ℤ b → b ≤ℤ to → AreComputed t from a → AreComputed t b to → side ≡ t.side → other ≡ t.side → r ≡ span (computed_month_count side) from a → s ≡ span (computed_month_count other) b to → AreEnds from to a b r s
-  both_ends from to a b r s side other low high one two three here there same same_too e f =
-      let first = run-span from a one low (omega (arith, signed, low, one), omega (arith, signed, high, two, three)) here in
-      let last = run-span b to three (omega (arith, signed, low, one, two), omega (arith, signed, high, three)) high there in
-      let whole = run-bound (years_up (to -ℤ from)) from to (omega (arith, signed, one, two, three)) in
-      record {
-        first = first ∙ ap (λ (z : ℤ). before from +ℤ z) (ap (λ (x : Side). span (computed_month_count x) from a) (sym same) ∙ sym e);
-        last = last ∙ ap (λ (z : ℤ). before b +ℤ z) (ap (λ (x : Side). span (computed_month_count x) b to) (sym same_too) ∙ sym f);
-        most = ((run-bound (years_up (a -ℤ from)) from a (omega (arith, signed, one))).0, (run-bound (years_up (b -ℤ a)) a b (omega (arith, signed, two))).0, (run-bound (years_up (to -ℤ b)) b to (omega (arith, signed, three))).0, omega (arith, signed, whole, low, high, one, two, three));
-      }
-
-  -- the same of numbers as calls take them
-  pub kept_ends : (from to a b r s : ℤ) (side other : Side) → IsRuleYear from → IsRuleYear to → kept from ≤ℤ a → a ≤ℤ b → b ≤ℤ kept to → AreComputed t (kept from) a → AreComputed t b (kept to) → side ≡ t.side → other ≡ t.side → r ≡ span (computed_month_count side) (kept from) (kept a) → s ≡ span (computed_month_count other) (kept b) (kept to) → AreEnds (kept from) (kept to) (kept a) (kept b) r s
-  kept_ends from to a b r s side other low high one two three here there =
+  -- the months up to a later year of such a run, of numbers as calls take them
+  pub kept_run : (from there to r : ℤ) (side : Side) → IsRuleYear from → IsRuleYear to → kept from ≤ℤ there → there ≤ℤ kept to → AreComputed t (kept from) there → side ≡ t.side → r ≡ span (computed_month_count side) (kept from) (kept there) → (before (kept there) ≡ before from +ℤ r) × (pos 0 ≤ℤ r) × (r ≤ℤ pos 208000000)
+  kept_run from there to r side low high one two here same e =
       let from_is : kept from ≡ from = omega (arith, signed, low) in
       let to_is : kept to ≡ to = omega (arith, signed, high) in
-      let a_is : kept a ≡ a = omega (arith, signed, low, high, one, two, three, from_is, to_is) in
-      let b_is : kept b ≡ b = omega (arith, signed, low, high, one, two, three, from_is, to_is) in
-      both_ends (kept from) (kept to) (kept a) (kept b) r s side other
-      (omega (arith, signed, from_is, low), omega (arith, signed, from_is, low)) (omega (arith, signed, to_is, high), omega (arith, signed, to_is, high))
-      (omega (arith, signed, a_is, one)) (omega (arith, signed, a_is, b_is, two)) (omega (arith, signed, b_is, three))
-      (subst (λ (z : ℤ). AreComputed t (kept from) z) (sym a_is) here) (subst (λ (z : ℤ). AreComputed t z (kept to)) (sym b_is) there)
+      let order : from ≤ℤ there = omega (arith, signed, from_is, one) in
+      let rule : IsRuleYear there = (omega (arith, signed, low, order), omega (arith, signed, high, to_is, two)) in
+      let there_is : kept there ≡ there = omega (arith, signed, rule) in
+      let value : r ≡ span (computed_month_count t.side) from there =
+      e ∙ (ap (λ (x : Side). span (computed_month_count x) (kept from) (kept there)) same
+      ∙ (ap (λ (z : ℤ). span (computed_month_count t.side) z (kept there)) from_is
+      ∙ ap (λ (z : ℤ). span (computed_month_count t.side) from z) there_is)) in
+      let count = run-span from there order low rule (subst (λ (z : ℤ). AreComputed t z there) from_is here) in
+      let bound = run-bound (years_up (there -ℤ from)) from there (omega (arith, signed, order)) in
+      (omega (arith, signed, ap before there_is, count, value), omega (arith, signed, count, value, bound), omega (arith, signed, count, value, bound, low, rule))
 
-  -- the months before a year lie between those before an earlier and those before a later one
-  pub between : (a y b : ℤ) → a ≤ℤ y → y ≤ℤ b → (before a ≤ℤ before y) × (before y ≤ℤ before b)
-  between a y b h k = ((run-bound (years_up (y -ℤ a)) a y (omega (arith, signed, h))).0, (run-bound (years_up (b -ℤ y)) y b (omega (arith, signed, k))).0)
+  -- where no year between two runs is left out, they are one
+  pub joined : (from a b to : ℤ) → b ≤ℤ a → AreComputed t from a → AreComputed t b to → AreComputed t from to
+  joined from a b to order here there y low high =
+      by_lt_z {P = table_year t y ≡ computed_year t.side y} y a
+      (λ lt. here y low lt)
+      (λ le. there y (omega (arith, signed, le, order)) high)
 
   pub consecutive_rows : AreConsecutive number_of (table_rows t)
   consecutive_rows = accepted-consecutive (computed_year t.side) (table_rows t) t.accepted

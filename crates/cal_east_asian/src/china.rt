@@ -10,11 +10,9 @@ use crate::reference_years::reference_year;
 use crate::rules::Rules;
 use crate::same_rows::have_same_rows;
 use crate::sides::Side;
-use crate::table_months::months_between;
-use cal_arith::Steps;
+use crate::table_months::months_without_rows;
 use cal_base::scaffold::UnstableSealed;
 use cal_types::{CalendarAlgorithm, EcmaReferenceYearError, MismatchedCalendarError, Month};
-use std::sync::ledger::Ledger;
 
 /// The rules of the Chinese calendar, with a table of years.
 ///
@@ -82,14 +80,8 @@ impl<'t> Rules for China<'t> {
         self.table.year(related_iso)
     }
 
-    /// Only years that may have a row are looked up, and the months of the others are counted in closed form.
-    fn months_between_years<L: Ledger>(
-        &self,
-        first: EastAsianTraditionalYear,
-        last: EastAsianTraditionalYear,
-        steps: &mut Steps<L>,
-    ) -> u32 {
-        months_between(&self.table, first.related_iso, last.related_iso, steps) as u32
+    fn months_by_number(&self, first: i32, last: i32) -> (i32, u32) {
+        months_without_rows(&self.table, first, last)
     }
 
     fn ecma_reference_year(&self, month: Month, day: u8) -> Result<i32, EcmaReferenceYearError> {

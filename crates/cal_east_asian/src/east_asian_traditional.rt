@@ -82,13 +82,8 @@ impl<R: Rules> YearShapes for EastAsianTraditional<R> {
         12 * count + count / 3
     }
 
-    fn months_between_years<L: Ledger>(
-        &self,
-        first: EastAsianTraditionalYear,
-        last: EastAsianTraditionalYear,
-        steps: &mut Steps<L>,
-    ) -> u32 {
-        self.0.months_between_years(first, last, steps)
+    fn months_by_number(&self, first: i32, last: i32) -> (i32, u32) {
+        self.0.months_by_number(first, last)
     }
 
     fn ordinal_from_month(
@@ -397,6 +392,8 @@ impl<R: Rules> Calendar for EastAsianTraditional<R> {
     ghost dated = { λ s d h. belongs-dated (R.year_of s.0) d.0.packed h };
 
     ghost ranged = { λ s t h. (years-ranged (R.year_of s.0) (R.lawful s.0) t h).0 };
+
+    ghost shifted = { λ s t h. (years-ranged (R.year_of s.0) (R.lawful s.0) t h).1 };
 
     ghost covered = { λ s t. days-covered (R.year_of s.0) (R.lawful s.0) t };
 

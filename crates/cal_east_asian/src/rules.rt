@@ -1,28 +1,24 @@
 //! What decides the years of a Chinese or Korean calendar.
 
-ghost use Rattle.std.specs.Prelude.{◌≡◌, ◌↔◌, ◌≤◌, ◌+◌, ℕ, ℤ, Bool, List, Option, Result, IsTrue, IsOk, Ok, Err, pos, false, unsigned_abs, ◌+ℤ◌, ◌-ℤ◌, ◌≤ℤ◌, ◌<ℤ◌};
+ghost use Rattle.std.specs.Prelude.{◌≡◌, ◌↔◌, ℕ, ℤ, Bool, List, Option, Result, IsTrue, IsOk, Ok, Err, pos, false, ◌+ℤ◌, ◌≤ℤ◌, ◌<ℤ◌};
 ghost use Rattle.std.specs.Cmp.{IsEquivalence};
-ghost use Rattle.cal_days.specs.Day.{IsFieldYear, IsRuleYear, IsValidDay};
+ghost use Rattle.cal_days.specs.Day.{IsBetween, IsFieldYear, IsRuleYear, IsValidDay};
 ghost use Rattle.cal_types.specs.Month.{MonthParts};
 ghost use Rattle.cal_types.specs.MonthParts.{month_parts};
 ghost use Rattle.cal_algorithms.specs.declared.algorithm.CalendarAlgorithm.{CalendarAlgorithm};
 ghost use Rattle.cal_errors.specs.declared.errors.EcmaReferenceYearError.{EcmaReferenceYearError};
 ghost use Rattle.cal_errors.specs.declared.errors.EcmaReferenceYearError.TheVariants.{MonthNotInCalendar, UseRegularIfConstrain};
 ghost use Rattle.cal_model.specs.CalendarList.{month_number};
-ghost use Rattle.cal_arith.specs.Given.{IsGiven};
-ghost use Rattle.cal_east_asian.specs.EastAsianList.{east_asian_list, east_asian_years};
+ghost use Rattle.cal_east_asian.specs.EastAsianList.{east_asian_list};
 ghost use Rattle.cal_east_asian.specs.EastAsianPlaces.{is_east_asian_month};
 ghost use Rattle.cal_east_asian.specs.EastAsianYears.{AreYears, end_day};
 ghost use Rattle.cal_east_asian.specs.declared.east_asian_traditional_year.EastAsianTraditionalYear.{EastAsianTraditionalYear};
 
-use crate::east_asian_months::months_in_year;
 use crate::east_asian_traditional_year::EastAsianTraditionalYear;
-use cal_arith::Steps;
 use cal_base::scaffold::UnstableSealed;
 use cal_days::{RataDie, gregorian};
 use cal_types::{CalendarAlgorithm, EcmaReferenceYearError, Month};
 use std::fmt::Debug;
-use std::sync::ledger::Ledger;
 
 /// What decides the years of a Chinese or Korean calendar: which months have 30 days, and where leap months stand.
 ///
@@ -73,29 +69,18 @@ pub trait Rules: Copy + Debug + UnstableSealed + Drop {
         }
     }
 
-    /// How many months lie between the first day of a year of these rules and that of another which isn't before it,
-    /// at the cost of at most one tick for each year between them.
-    fn months_between_years<L: Ledger>(
-        &self,
-        first: EastAsianTraditionalYear,
-        last: EastAsianTraditionalYear,
-        steps: &mut Steps<L>,
-    ) -> u32
-        requires first { IsGiven (east_asian_years (year_of self.now)) first }
-        requires last { IsGiven (east_asian_years (year_of self.now)) last }
-        requires order { first.related_iso ≤ℤ last.related_iso }
+    /// A year from one number up to another, and how many months lie between the first days of the first year and of
+    /// that one, as far as the rules count them by the numbers alone: where they can't, it is the first year itself.
+    fn months_by_number(&self, first: i32, last: i32) -> (i32, u32)
+        requires first { IsRuleYear first }
+        requires last { IsRuleYear last }
+        requires order { first ≤ℤ last }
+        ensures within { IsBetween first last result.0 }
         ensures count { let list = east_asian_list (year_of self.now) in
-            month_number list last.related_iso 1 ≡ month_number list first.related_iso 1 +ℤ pos result }
-        ensures ticks { steps.new ≤ steps.old + unsigned_abs (last.related_iso -ℤ first.related_iso) }
+            month_number list result.0 1 ≡ month_number list first 1 +ℤ pos result.1 }
     {
-        let mut year = first;
-        let mut count = 0;
-        'years: while year.related_iso < last.related_iso {
-            count += u32::from(months_in_year(year.leap_month));
-            steps.tick();
-            year = self.year(year.related_iso + 1);
-        }
-        count
+        let _any_year = last;
+        (first, 0)
     }
 
     /// The reference year of a month and a day, in which a date without a year stands (ECMAScript Temporal's

@@ -1,16 +1,13 @@
 //! The months between two years that a table chooses: those of computed years in closed form.
 
-ghost use Rattle.std.specs.Prelude.{◌≡◌, ◌≤ℤ◌, ◌<ℤ◌, ◌+ℤ◌, ◌-ℤ◌, ℤ, pos, ◌+◌, ◌≤◌, length, unsigned_abs};
+ghost use Rattle.std.specs.Prelude.{◌≡◌, ◌≤ℤ◌, ◌<ℤ◌, ◌+ℤ◌, ℤ, pos};
 ghost use Rattle.cal_days.specs.Day.{IsBetween, IsRuleYear};
 ghost use Rattle.cal_model.specs.CalendarList.{month_number};
 ghost use Rattle.cal_east_asian.specs.TableMonths.{AreComputed, table_list};
 
 use crate::chosen_years::row_at;
 use crate::computed_years::computed_months_between;
-use crate::east_asian_months::months_in_year;
 use crate::east_asian_table::EastAsianTable;
-use cal_arith::Steps;
-use std::sync::ledger::Ledger;
 
 /// The nearest year to one, of those from one on up to another.
 fn nearest_year(year: i32, from: i32, to: i32) -> i32
@@ -36,7 +33,6 @@ fn years_with_rows(table: &EastAsianTable<'_>, from: i32, to: i32) -> (i32, i32)
     ensures last { result.1 ≤ℤ to }
     ensures before { AreComputed table.now from result.0 }
     ensures after { AreComputed table.now result.1 to }
-    ensures few { (result.1 -ℤ result.0) ≤ℤ pos (length table.now.rows.now) }
 {
     let rows = table.rows();
     match row_at(rows, 0) {
@@ -51,31 +47,29 @@ fn years_with_rows(table: &EastAsianTable<'_>, from: i32, to: i32) -> (i32, i32)
     }
 }
 
-/// How many months lie between the first day of a year and that of another which isn't before it. Only years that
-/// may have a row are looked up, at the cost of one tick each, and these are at most as many as the rows.
-pub(crate) fn months_between<L: Ledger>(
-    table: &EastAsianTable<'_>,
-    from: i32,
-    to: i32,
-    steps: &mut Steps<L>,
-) -> i64
+/// The first of the years from one on up to another that may have a row. Where none has one it is the other.
+fn first_with_row(table: &EastAsianTable<'_>, from: i32, to: i32) -> i32
+    requires order { from ≤ℤ to }
+    ensures within { IsBetween from to result }
+    ensures before { AreComputed table.now from result }
+{
+    let (start, end) = years_with_rows(table, from, to);
+    if start < end { start } else { to }
+}
+
+/// A year from one up to another that isn't before it, and how many months lie between the first days of the one and
+/// of that year: in closed form, as far as no year may have a row.
+pub(crate) fn months_without_rows(table: &EastAsianTable<'_>, from: i32, to: i32) -> (i32, u32)
     requires from { IsRuleYear from }
     requires to { IsRuleYear to }
     requires order { from ≤ℤ to }
+    ensures within { IsBetween from to result.0 }
     ensures count { let list = table_list table.now in
-        month_number list to 1 ≡ month_number list from 1 +ℤ result }
-    ensures range { IsBetween (pos 0) (pos 250000000) result }
-    ensures ticks { steps.new ≤ steps.old + unsigned_abs (to -ℤ from) }
-    ensures few { steps.new ≤ steps.old + length table.now.rows.now }
+        month_number list result.0 1 ≡ month_number list from 1 +ℤ pos result.1 }
 {
-    let (start, end) = years_with_rows(table, from, to);
-    let mut count = computed_months_between(table.side(), from, start)
-        + computed_months_between(table.side(), end, to);
-    let mut year = start;
-    'years: while year < end {
-        steps.tick();
-        count += i64::from(months_in_year(table.year(year).leap_month));
-        year += 1;
-    }
-    count
+    let there = first_with_row(table, from, to);
+    (
+        there,
+        computed_months_between(table.side(), from, there) as u32,
+    )
 }

@@ -89,7 +89,7 @@ impl Calendar for Buddhist {
     ghost use Rattle.std.proofs.Common.{ap};
     ghost use Rattle.cal_algorithms.specs.declared.algorithm.CalendarAlgorithm.TheVariants as algorithms;
     ghost use Rattle.cal_base.specs.Compatibility.{never_refused};
-    ghost use Rattle.cal_base.specs.OffsetListLaws.{offset_list-lawful, offset_list-ranged, offset_list-covered, true-offset};
+    ghost use Rattle.cal_base.specs.OffsetListLaws.{offset_list-lawful, offset_list-ranged, offset_list-shifted, offset_list-covered, true-offset};
     ghost use Rattle.cal_base.specs.OffsetSystemLaws.{packed-dated, packed-equal, packed-ordered};
     ghost use Rattle.cal_gregory.specs.BuddhistSystem.{buddhist_system, buddhist_date, buddhist_belongs};
     ghost use Rattle.cal_gregory.specs.BuddhistEra.{buddhist_offset};
@@ -236,6 +236,8 @@ impl Calendar for Buddhist {
     ghost dated = { λ _ d h. packed-dated buddhist_offset d.0.packed h };
 
     ghost ranged = { λ _. offset_list-ranged buddhist_offset (true-offset buddhist_offset refl) };
+
+    ghost shifted = { λ _. offset_list-shifted buddhist_offset (true-offset buddhist_offset refl) };
 
     ghost covered = { λ _. offset_list-covered buddhist_offset (true-offset buddhist_offset refl) };
 

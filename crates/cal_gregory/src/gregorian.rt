@@ -121,7 +121,7 @@ impl Calendar for Gregorian {
     ghost use Rattle.std.proofs.Common.{ap};
     ghost use Rattle.cal_algorithms.specs.declared.algorithm.CalendarAlgorithm.TheVariants.{Gregory};
     ghost use Rattle.cal_base.specs.Compatibility.{never_refused};
-    ghost use Rattle.cal_base.specs.OffsetListLaws.{offset_list-lawful, offset_list-ranged, offset_list-covered, true-offset};
+    ghost use Rattle.cal_base.specs.OffsetListLaws.{offset_list-lawful, offset_list-ranged, offset_list-shifted, offset_list-covered, true-offset};
     ghost use Rattle.cal_base.specs.OffsetSystemLaws.{packed-dated, packed-equal, packed-ordered};
     ghost use Rattle.cal_gregory.specs.GregorianSystem.{gregorian_system, gregorian_date, gregorian_belongs};
     ghost use Rattle.cal_gregory.specs.CommonEraLaws.{common_era-named};
@@ -268,6 +268,8 @@ impl Calendar for Gregorian {
     ghost dated = { λ _ d h. packed-dated (pos 0) d.0.packed h };
 
     ghost ranged = { λ _. offset_list-ranged (pos 0) (true-offset (pos 0) refl) };
+
+    ghost shifted = { λ _. offset_list-shifted (pos 0) (true-offset (pos 0) refl) };
 
     ghost covered = { λ _. offset_list-covered (pos 0) (true-offset (pos 0) refl) };
 

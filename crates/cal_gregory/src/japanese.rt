@@ -153,7 +153,7 @@ impl Calendar for Japanese {
     ghost use Rattle.std.proofs.Common.{ap};
     ghost use Rattle.cal_algorithms.specs.declared.algorithm.CalendarAlgorithm.TheVariants as algorithms;
     ghost use Rattle.cal_base.specs.Compatibility.{never_refused};
-    ghost use Rattle.cal_base.specs.OffsetListLaws.{offset_list-lawful, offset_list-ranged, offset_list-covered, true-offset};
+    ghost use Rattle.cal_base.specs.OffsetListLaws.{offset_list-lawful, offset_list-ranged, offset_list-shifted, offset_list-covered, true-offset};
     ghost use Rattle.cal_base.specs.OffsetSystemLaws.{packed-dated, packed-equal, packed-ordered};
     ghost use Rattle.cal_gregory.specs.JapaneseSystem.{japanese_system, japanese_date, japanese_belongs};
     ghost use Rattle.cal_gregory.specs.JapaneseLaws.{japanese_era-named};
@@ -300,6 +300,8 @@ impl Calendar for Japanese {
     ghost dated = { λ _ d h. packed-dated (pos 0) d.0.packed h };
 
     ghost ranged = { λ _. offset_list-ranged (pos 0) (true-offset (pos 0) refl) };
+
+    ghost shifted = { λ _. offset_list-shifted (pos 0) (true-offset (pos 0) refl) };
 
     ghost covered = { λ _. offset_list-covered (pos 0) (true-offset (pos 0) refl) };
 

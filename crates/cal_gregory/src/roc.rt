@@ -127,7 +127,7 @@ impl Calendar for Roc {
     ghost use Rattle.std.proofs.Common.{ap};
     ghost use Rattle.cal_algorithms.specs.declared.algorithm.CalendarAlgorithm.TheVariants as algorithms;
     ghost use Rattle.cal_base.specs.Compatibility.{never_refused};
-    ghost use Rattle.cal_base.specs.OffsetListLaws.{offset_list-lawful, offset_list-ranged, offset_list-covered, true-offset};
+    ghost use Rattle.cal_base.specs.OffsetListLaws.{offset_list-lawful, offset_list-ranged, offset_list-shifted, offset_list-covered, true-offset};
     ghost use Rattle.cal_base.specs.OffsetSystemLaws.{packed-dated, packed-equal, packed-ordered};
     ghost use Rattle.cal_gregory.specs.RocSystem.{roc_system, roc_date, roc_belongs};
     ghost use Rattle.cal_gregory.specs.RocEra.{roc_offset};
@@ -275,6 +275,8 @@ impl Calendar for Roc {
     ghost dated = { λ _ d h. packed-dated roc_offset d.0.packed h };
 
     ghost ranged = { λ _. offset_list-ranged roc_offset (true-offset roc_offset refl) };
+
+    ghost shifted = { λ _. offset_list-shifted roc_offset (true-offset roc_offset refl) };
 
     ghost covered = { λ _. offset_list-covered roc_offset (true-offset roc_offset refl) };
 

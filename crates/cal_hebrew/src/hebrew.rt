@@ -96,13 +96,9 @@ impl YearShapes for Hebrew {
         12 * count
     }
 
-    fn months_between_years<L: Ledger>(
-        &self,
-        first: HebrewYear,
-        last: HebrewYear,
-        _steps: &mut Steps<L>,
-    ) -> u32 {
-        (months_before_year(last.extended_year) - months_before_year(first.extended_year)) as u32
+    fn months_by_number(&self, first: i32, last: i32) -> (i32, u32) {
+        let months = months_before_year(last) - months_before_year(first);
+        (last, months as u32)
     }
 
     fn ordinal_from_month(
@@ -450,6 +446,8 @@ impl Calendar for Hebrew {
     ghost dated = { λ _ d h. hebrew_belongs-dated d h };
 
     ghost ranged = { λ _ t h. (years-ranged t h).0 };
+
+    ghost shifted = { λ _ t h. (years-ranged t h).1 };
 
     ghost covered = { λ _ t. days-covered t };
 

@@ -116,13 +116,8 @@ impl<R: Rules> YearShapes for Hijri<R> {
         12 * count
     }
 
-    fn months_between_years<L: Ledger>(
-        &self,
-        first: HijriYear,
-        last: HijriYear,
-        _steps: &mut Steps<L>,
-    ) -> u32 {
-        12 * (last.extended_year - first.extended_year) as u32
+    fn months_by_number(&self, first: i32, last: i32) -> (i32, u32) {
+        (last, 12 * (last - first) as u32)
     }
 
     fn ordinal_from_month(
@@ -448,6 +443,8 @@ impl<R: Rules> Calendar for Hijri<R> {
     ghost dated = { λ s d h. belongs-dated (R.year_of s.0) d.0.packed h };
 
     ghost ranged = { λ s t h. (years-ranged (R.year_of s.0) (R.numbered s.0) (R.joins s.0) t h).0 };
+
+    ghost shifted = { λ s t h. (years-ranged (R.year_of s.0) (R.numbered s.0) (R.joins s.0) t h).1 };
 
     ghost covered = { λ s t. days-covered (R.year_of s.0) (R.numbered s.0) (R.joins s.0) t };
 

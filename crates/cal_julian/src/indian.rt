@@ -271,13 +271,8 @@ impl YearShapes for Indian {
         12 * count
     }
 
-    fn months_between_years<L: Ledger>(
-        &self,
-        first: IndianYear,
-        last: IndianYear,
-        _steps: &mut Steps<L>,
-    ) -> u32 {
-        12 * (last.extended_year - first.extended_year) as u32
+    fn months_by_number(&self, first: i32, last: i32) -> (i32, u32) {
+        (last, 12 * (last - first) as u32)
     }
 
     fn ordinal_from_month(
@@ -598,6 +593,8 @@ impl Calendar for Indian {
     ghost dated = { λ _ d h. indian_belongs-dated d h };
 
     ghost ranged = { λ _ t h. (years-ranged t h).0 };
+
+    ghost shifted = { λ _ t h. (years-ranged t h).1 };
 
     ghost covered = { λ _ t. days-covered t };
 

@@ -180,13 +180,8 @@ impl YearShapes for Julian {
         12 * count
     }
 
-    fn months_between_years<L: Ledger>(
-        &self,
-        first: JulianYear,
-        last: JulianYear,
-        _steps: &mut Steps<L>,
-    ) -> u32 {
-        12 * (last.extended_year - first.extended_year) as u32
+    fn months_by_number(&self, first: i32, last: i32) -> (i32, u32) {
+        (last, 12 * (last - first) as u32)
     }
 
     fn ordinal_from_month(
@@ -520,6 +515,8 @@ impl Calendar for Julian {
     ghost dated = { λ _ d h. julian_belongs-dated d h };
 
     ghost ranged = { λ _ t h. (years-ranged t h).0 };
+
+    ghost shifted = { λ _ t h. (years-ranged t h).1 };
 
     ghost covered = { λ _ t. days-covered t };
 

@@ -141,13 +141,8 @@ impl<'t> YearShapes for Persian<'t> {
         12 * count
     }
 
-    fn months_between_years<L: Ledger>(
-        &self,
-        first: PersianYear,
-        last: PersianYear,
-        _steps: &mut Steps<L>,
-    ) -> u32 {
-        12 * (last.extended_year - first.extended_year) as u32
+    fn months_by_number(&self, first: i32, last: i32) -> (i32, u32) {
+        (last, 12 * (last - first) as u32)
     }
 
     fn ordinal_from_month(
@@ -481,6 +476,8 @@ impl<'t> Calendar for Persian<'t> {
     ghost dated = { λ s d h. persian_belongs-dated s d h };
 
     ghost ranged = { λ s t h. (years-ranged (corrected_years s) s.corrections.known t h).0 };
+
+    ghost shifted = { λ s t h. (years-ranged (corrected_years s) s.corrections.known t h).1 };
 
     ghost covered = { λ s t. days-covered (corrected_years s) s.corrections.known t };
 
