@@ -172,7 +172,7 @@ span_lasts = record { ends = behind_ends span_behind (λ status. status ≡ Tabl
 
 -- where more lines come, their answers come behind those to the first
 span_grows : GrowsAtLine span_behind
-span_grows = record { at_line = λ rows n request others more text status h. by rows n others more text status h; }
+span_grows = record { at_line = λ rows n request others more text status h. by rows n others more text status h }
   where
     by : (rows : TableRows) (n : ℕ) (others more : List (List ℕ)) (text : List ℕ) (status : Status) → OverTables (λ tables t s. AnswersAll tables others n t s) rows text status
         → (added : List ℕ) × (next : Status) × OverTables (λ tables t s. AnswersAll tables (others ++ more) n t s) rows (text ++ added) next

@@ -115,20 +115,28 @@ GoesOn b all whole text = (text ≡ []) ⊎ ((added : List ℕ) × (next : Statu
 says_more : (b : Behind) → GrowsAtLine b → (bytes : List ℕ) (all : List ℕ) (whole : Bool) (others : List (List ℕ)) (rows : TableRows) (end : RowsEnd) (text : List ℕ) (status : Status) → lines_in all whole ≡ lines_in bytes false ++ others
     → EndRows end (lines_in bytes false) rows → SaysAt b end false rows text status → GoesOn b all whole text
 says_more b grows bytes all whole others rows WithLines text status lines h (x, e) = inl x
-says_more b grows bytes all whole others rows (AtFaultyRow n why) text status lines (line, more, h, row, is, takes) (x, e) = inr ([], status, record {
-  rows = rows;
-  end = AtFaultyRow n why;
-  ends = subst (λ (y : List (List ℕ)). EndRows (AtFaultyRow n why) y rows) (sym lines) (line, more ++ others, end_before (lines_in bytes false) others rows n line more h, row, is, takes);
-  says = (append-nil text ∙ x, e);
-})
+says_more b grows bytes all whole others rows (AtFaultyRow n why) text status lines (line, more, h, row, is, takes) (x, e) = inr (
+  [],
+  status,
+  record {
+    rows = rows;
+    end = AtFaultyRow n why;
+    ends = subst (λ (y : List (List ℕ)). EndRows (AtFaultyRow n why) y rows) (sym lines) (line, more ++ others, end_before (lines_in bytes false) others rows n line more h, row, is, takes);
+    says = (append-nil text ∙ x, e);
+  },
+)
 says_more b grows bytes all whole others rows (AtRequest n request rest) text status lines (line, more, h, is, same) says =
     let (added, next, written) = grows.at_line rows n request rest others text status says in
-    inr (added, next, record {
-      rows = rows;
-      end = AtRequest n request (rest ++ others);
-      ends = subst (λ (y : List (List ℕ)). EndRows (AtRequest n request (rest ++ others)) y rows) (sym lines) (line, more ++ others, end_before (lines_in bytes false) others rows n line more h, is, ap (λ t. t ++ others) same);
-      says = written;
-    })
+    inr (
+      added,
+      next,
+      record {
+        rows = rows;
+        end = AtRequest n request (rest ++ others);
+        ends = subst (λ (y : List (List ℕ)). EndRows (AtRequest n request (rest ++ others)) y rows) (sym lines) (line, more ++ others, end_before (lines_in bytes false) others rows n line more h, is, ap (λ t. t ++ others) same);
+        says = written;
+      },
+    )
 
 -- so the text for what has come is a prefix of the text for what comes later
 pub behind_prefix : (b : Behind) → WritesOnce b → GrowsAtLine b → PrefixesHavePrefixes (SaysBehindRows b)

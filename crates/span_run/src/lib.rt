@@ -11,6 +11,7 @@
 
 mod answers;
 mod command;
+mod command_run;
 mod endings;
 mod gather;
 mod generating;
@@ -20,7 +21,6 @@ pub mod laws;
 pub mod lists;
 mod replies;
 mod row_years;
-mod command_run;
 mod serving;
 mod standard;
 mod status;
@@ -30,11 +30,11 @@ mod totals;
 pub mod writer;
 
 pub use answers::{Answered, Progress, answer};
+pub use command_run::run;
 pub use generator::generated_request;
 pub use kinds::{name_dates, show_days};
 pub use replies::reply;
 pub use standard::run_on_standard;
-pub use command_run::run;
 pub use status::{Status, code};
 pub use table::{RowFault, Table, TableRefusal, push_row_refusal, push_table_refusal};
 pub use table_rows::{TableRows, Taken};
