@@ -10,3 +10,4 @@ pub mod EthiopianNames
 pub mod EthiopianLaws
 pub mod EthiopianSystem
 pub mod EthiopianSystemLaws
+pub mod StyleOrder

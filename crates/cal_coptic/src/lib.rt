@@ -4,6 +4,7 @@
 mod coptic;
 mod coptic_year;
 mod ethiopian;
+pub mod laws;
 
 pub use coptic::{Coptic, CopticDateInner};
 pub use coptic_year::{CopticYear, PackedCopticDate};

@@ -11,6 +11,7 @@ pub mod HijriRows
 pub mod PackedYears
 pub mod HijriSystem
 pub mod HijriSystemLaws
+pub mod RuleOrder
 pub mod TabularRules
 pub mod TableFriday
 pub mod TableYears

@@ -6,6 +6,7 @@ mod hijri;
 mod hijri_row;
 mod hijri_table;
 mod hijri_year;
+pub mod laws;
 mod rules;
 mod table_references;
 mod tabular_algorithm;
