@@ -1,7 +1,7 @@
 //! Reads request lines from standard input, and writes an answer to each.
 #![tactic(auto)]
 
-use span_run::{code, run_on_standard};
+use calspan_run::{code, run_on_standard};
 use std::process::ExitCode;
 
 fn main(rt: HostRuntime) -> ExitCode {

@@ -1,7 +1,7 @@
 //! The program again, over an input whose rows make no table: its stored run ends with another status than `calspan`'s.
 #![tactic(auto)]
 
-use span_run::{code, run_on_standard};
+use calspan_run::{code, run_on_standard};
 use std::process::ExitCode;
 
 fn main(rt: HostRuntime) -> ExitCode {

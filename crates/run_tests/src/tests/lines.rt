@@ -3,7 +3,7 @@
 use crate::tests::runs::{Calls, Case, assert_answers, assert_count, assert_run, calls_of};
 use line_reader::LIMIT;
 use reply_texts::{Pending, push_signed, push_two_digits};
-use span_run::{Status, code};
+use calspan_run::{Status, code};
 use std::test::Fail;
 
 struct Answered {

@@ -1,7 +1,7 @@
 //! Row lines before requests, and what is written. The answers are worked by hand or by an independent implementation.
 
 use crate::tests::runs::{Calls, Case, assert_answers, assert_run, calls_of};
-use span_run::Status;
+use calspan_run::Status;
 use std::alloc::Global;
 use std::process::Abort;
 use std::test::Fail;

@@ -1,7 +1,7 @@
 //! Runs over memory, and what they are to come to. What is asserted of a run is proved once, here.
 
 use byte_io::{MemorySink, MemorySource, PlainSink, PlainSource, Source};
-use span_run::{Status, run};
+use calspan_run::{Status, run};
 use std::alloc::Global;
 use std::process::Abort;
 use std::test::Fail;

@@ -12,7 +12,7 @@ use known_dates::{
     is_named, number_of, parts_of,
 };
 use request_parts::{DayParts, SpanParts};
-use span_run::{name_dates, show_days};
+use calspan_run::{name_dates, show_days};
 use std::process::Abort;
 
 /// A year, a month and a day.

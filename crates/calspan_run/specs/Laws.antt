@@ -1,0 +1,52 @@
+-- Laws of what commands write.
+use Rattle.std.specs.Prelude.{◌≡◌, ℕ, Bool, true, false, List, ◌++◌}
+use Rattle.byte_io.specs.Bytes.{IsPrefix}
+use Rattle.cal_tables.specs.Kinds.{TableContents}
+use Rattle.calspan_run.specs.Generator.{IsGenerated}
+use Rattle.calspan_run.specs.ListEnds.{ListEnds}
+use Rattle.calspan_run.specs.Rules.{list_rules}
+use Rattle.calspan_run.specs.Run.{Outside}
+use Rattle.calspan_run.specs.Serving.{Rules, Serves}
+use Rattle.calspan_run.specs.declared.status.Status.{Status}
+
+-- to every input, and to what has come of one, a text and a status
+abbrev pub EveryInputHas : (List ℕ → Bool → List ℕ → Status → Type 0) → Type 0
+EveryInputHas Says = (bytes : List ℕ) (whole : Bool) → (text : List ℕ) × (status : Status) × Says bytes whole text status
+
+-- to no input two texts or two statuses
+abbrev pub IsUnique : (List ℕ → Bool → List ℕ → Status → Type 0) → Type 0
+IsUnique Says = (bytes : List ℕ) (whole : Bool) (a b : List ℕ) (s t : Status) → Says bytes whole a s → Says bytes whole b t → (a ≡ b) × (s ≡ t)
+
+-- the text for what has come of an input is a prefix of the text for what comes of it later
+abbrev pub PrefixesHavePrefixes : (List ℕ → Bool → List ℕ → Status → Type 0) → Type 0
+PrefixesHavePrefixes Says = (bytes more : List ℕ) (whole : Bool) (a b : List ℕ) (s t : Status) → Says bytes false a s → Says (bytes ++ more) whole b t → IsPrefix a b
+
+-- what ends a run at a line, ends it whatever comes behind
+abbrev pub LinesEndForGood : Rules → Type 0
+LinesEndForGood c = (bytes more : List ℕ) (whole : Bool) (text : List ℕ) (status : Status) → c.EndsAtLine status → c.Says bytes false text status → c.Says (bytes ++ more) whole text status
+
+-- where memory may be lacking, it may be lacking whatever comes behind
+abbrev pub LacksForGood : Rules → Type 0
+LacksForGood c = (bytes more : List ℕ) → c.MayLack bytes false → c.MayLack (bytes ++ more) true
+
+-- the two
+pub record AreLasting (c : Rules) : Type 0 where
+  pub ends : LinesEndForGood c
+  pub lacks : LacksForGood c
+
+-- over any tables there is one list, or one line that refuses it
+pub record IsList (Lists : TableContents → List ℕ → Bool → Type 0) : Type 0 where
+  pub exists : (tables : TableContents) → (text : List ℕ) × (refused : Bool) × Lists tables text refused
+  pub unique : (tables : TableContents) (x y : List ℕ) (p q : Bool) → Lists tables x p → Lists tables y q → (x ≡ y) × (p ≡ q)
+
+-- then every input has one text and one status
+abbrev pub ListsHaveOneText : Type 1
+ListsHaveOneText = (Lists : TableContents → List ℕ → Bool → Type 0) → IsList Lists → EveryInputHas (list_rules Lists).Says × IsUnique (list_rules Lists).Says
+
+-- how a run of a list ends, by what was read and written
+abbrev pub ListsEnd : Type 1
+ListsEnd = (Lists : TableContents → List ℕ → Bool → Type 0) (status : Status) (before now : Outside) → Serves (list_rules Lists) status before now → ListEnds Lists status before now
+
+-- to every number of requests there is a line, and only one
+abbrev pub EveryNumberHasOneLine : Type 0
+EveryNumberHasOneLine = (n : ℕ) → ((text : List ℕ) × IsGenerated n text) × ((a b : List ℕ) → IsGenerated n a → IsGenerated n b → a ≡ b)

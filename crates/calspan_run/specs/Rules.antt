@@ -1,0 +1,35 @@
+-- What the runs of the commands are held to.
+use Rattle.std.specs.Prelude.{◌≡◌, ℕ, Bool, List, ◌⊎◌}
+use Rattle.cal_tables.specs.Kinds.{TableContents}
+use Rattle.line_reader.specs.Lines.{lines_in}
+use Rattle.calspan_run.specs.BehindRows.{SaysBehindRows}
+use Rattle.calspan_run.specs.Generator.{IsGenerated}
+use Rattle.calspan_run.specs.ListAnswers.{list_behind}
+use Rattle.calspan_run.specs.Run.{RowComesFirst}
+use Rattle.calspan_run.specs.Serving.{Rules}
+use Rattle.calspan_run.specs.Answers.{IsAnswers}
+use Rattle.calspan_run.specs.declared.status.Status.TheVariants.{Done, Refused, TableRefused}
+
+-- `span`: a line ends the run where it refuses a row or a table
+abbrev pub span_rules : Rules
+span_rules = record {
+  Says = IsAnswers;
+  EndsAtLine = λ status. status ≡ TableRefused;
+  MayLack = λ bytes whole. RowComesFirst (lines_in bytes whole);
+}
+
+-- a list over the tables: any line that is no row line ends the run too
+abbrev pub list_rules : (TableContents → List ℕ → Bool → Type 0) → Rules
+list_rules Lists = record {
+  Says = SaysBehindRows (list_behind Lists);
+  EndsAtLine = λ status. (status ≡ Refused) ⊎ (status ≡ TableRefused);
+  MayLack = λ bytes whole. RowComesFirst (lines_in bytes whole);
+}
+
+-- `gen`: the line of so many requests is written, whatever the input is
+abbrev pub generator_rules : ℕ → Rules
+generator_rules count = record {
+  Says = λ bytes whole text status. IsGenerated count text × (status ≡ Done);
+  EndsAtLine = λ status. status ≡ Done;
+  MayLack = λ bytes whole. ⊥;
+}

@@ -1,0 +1,72 @@
+//! The program's run.
+ghost use Rattle.std.specs.Prelude.{◌≡◌, ◌≢◌, ◌≤◌, true, List, Option, ℕ, Some, None, IfSome, ◌↔◌, length, map, string_bytes};
+ghost use Rattle.line_reader.specs.Lines.{lines_in};
+ghost use Rattle.calspan_run.specs.Command.{command_of};
+ghost use Rattle.calspan_run.specs.Rules.{generator_rules, span_rules};
+ghost use Rattle.calspan_run.specs.Run.{outside, NoFault, RowComesFirst, limit};
+ghost use Rattle.calspan_run.specs.Serving.{IsAnswered, Serves};
+
+use crate::command::{Command, read_command};
+use crate::generated::generating::serve_totals;
+use crate::span::serving::serve_span;
+use crate::status::Status;
+use byte_io::{Sink, Source};
+use std::alloc::Global;
+
+/// Does what the words of the command line ask for: with the word `span` alone, reads the source to
+/// its end, line by line, and writes the answer to each line to the sink, over the tables whose rows stand before the
+/// first request line; with the word `gen` and a number of one to
+/// six digits up to 100000, writes one line of counts and sums over the answers to so many requests, and reads
+/// nothing.
+///
+/// The status says how the run ended, and what was written then:
+///
+/// - `Done` and `Refused`: all answers to the input; `Refused` where one of them is `err`. With `gen`, `Done` where the
+///   line was written.
+/// - `Words`: nothing, and nothing was read. This comes exactly where the words aren't of these two forms.
+/// - `ReadFault`: the source counted a fault. The answers to all lines whose LF was read.
+/// - `WriteFault`: the sink counted a fault. A prefix of the answers to what was read; nothing is promised of how
+///   long it is.
+/// - `TooLong`: the source gave more than 16777216 bytes. The answers to all lines whose LF is among
+///   the first 16777216.
+/// - `TableRefused`: a row line is refused (`table line N syntax`, `range` or `late`), or a table
+///   (`table NAME ROW PART`). The answers before, and that line.
+/// - `NoMemory`: there was no memory for a row, which can be where the first line that gives anything is a row
+///   line, and nowhere else. Nothing.
+pub fn run<S: Source, K: Sink>(
+    alloc: Global,
+    words: &[String],
+    source: &mut S,
+    sink: &mut K,
+) -> Status
+    ensures words { (result ≡ Status.Words) ↔ (command_of (map string_bytes words.now) ≡ None) }
+    ensures untouched { result ≡ Status.Words → (source.new ≡ source.old) × (sink.new ≡ sink.old) }
+
+    // How a run over the lines ends, and what it took and wrote.
+    ensures span { command_of (map string_bytes words.now) ≡ Some Command.Span → Serves span_rules result
+        (outside (S.left source.old) (K.taken sink.old) (S.faults source.old) (K.faults sink.old))
+        (outside (S.left source.new) (K.taken sink.new) (S.faults source.new) (K.faults sink.new)) }
+
+    // With a number of requests nothing is read, and their line is written.
+    ensures generated { (count : ℕ) → command_of (map string_bytes words.now) ≡ Some (Command.Generate count)
+        → (source.new ≡ source.old)
+        × Serves (generator_rules count) result
+        (outside (S.left source.old) (K.taken sink.old) (S.faults source.old) (K.faults sink.old))
+        (outside (S.left source.new) (K.taken sink.new) (S.faults source.new) (K.faults sink.new)) }
+
+    // Over every input within the limit, with no fault and with memory for its rows, all answers are written.
+    ensures headline { command_of (map string_bytes words.now) ≡ Some Command.Span
+        → IfSome (S.left source.old) (λ input. length input ≤ limit → NoFault
+        (outside (S.left source.old) (K.taken sink.old) (S.faults source.old) (K.faults sink.old))
+        (outside (S.left source.new) (K.taken sink.new) (S.faults source.new) (K.faults sink.new))
+        → (RowComesFirst (lines_in input true) → result ≢ Status.NoMemory)
+        → IsAnswered span_rules
+        (outside (S.left source.old) (K.taken sink.old) (S.faults source.old) (K.faults sink.old))
+        (outside (S.left source.new) (K.taken sink.new) (S.faults source.new) (K.faults sink.new)) result input) }
+{
+    match read_command(words) {
+        Some(Command::Span) => serve_span(alloc, source, sink),
+        Some(Command::Generate(count)) => serve_totals(count, sink),
+        None => Status::Words,
+    }
+}

@@ -1,0 +1,179 @@
+//! Sums over the answers to requests.
+ghost use Rattle.std.specs.Prelude.{◌≡◌, ◌+◌, ◌<◌, ◌≤◌, ◌++◌};
+ghost use Rattle.arrayvec.specs.ArrayVec.{array_vec_len};
+ghost use Rattle.cal_days.specs.Day.{IsValidDay};
+ghost use Rattle.request_parts.specs.Parts.{IsDay};
+ghost use Rattle.calspan_run.specs.Generator.{AreTotals, IsCounted, no_totals, parts_text, totals_text, with_refusal, with_span};
+ghost use Rattle.request_lines.specs.RequestSaid.{request_said};
+ghost use Rattle.calspan_run.specs.TotalBounds.{AreBounded, counted};
+
+use crate::generated::generator::generated_request;
+use crate::span::kinds::name_dates;
+use cal_tables::Tables;
+use reply_texts::{Pending, push_all, push_number, push_signed};
+use request_lines::Request;
+use request_parts::{DayParts, SpanParts};
+
+/// How many requests have an answer and how many are refused; the sum of the day numbers of all dates; and the sums
+/// of the parts of all durations, without their signs.
+#[derive(Clone, Copy, Debug, PartialEq, Eq)]
+pub struct Totals {
+    /// The requests that have an answer.
+    pub answered: u32,
+    /// The requests that are refused.
+    pub refused: u32,
+    /// The sum of the day numbers of both dates of each answer.
+    pub day_numbers: i64,
+    /// The sum of the durations' years.
+    pub years: u64,
+    /// The sum of the durations' months.
+    pub months: u64,
+    /// The sum of the durations' weeks.
+    pub weeks: u64,
+    /// The sum of the durations' days.
+    pub days: u64,
+}
+
+impl Totals {
+    /// Before the first request.
+    pub fn new() -> Totals
+        ensures { result ≡ no_totals }
+    {
+        Totals {
+            answered: 0,
+            refused: 0,
+            day_numbers: 0,
+            years: 0,
+            months: 0,
+            weeks: 0,
+            days: 0,
+        }
+    }
+}
+
+// The day number of a date.
+fn day_number_of(parts: &DayParts) -> i64
+    requires { IsDay parts.now }
+    ensures value { result ≡ parts.now.rata_die }
+    ensures valid { IsValidDay result }
+{
+    parts.rata_die.to_i64_date()
+}
+
+// A sum with one more part of a duration.
+fn added(sum: u64, part: u32) -> u64
+    requires { sum ≤ 429496729500000 }
+    ensures value { result ≡ sum + part }
+    ensures bound { result ≤ sum + 4294967295 }
+{
+    sum + u64::from(part)
+}
+
+// The totals with one more answer.
+fn with_span(totals: Totals, parts: &SpanParts) -> Totals
+    requires few { counted totals < 100000 }
+    requires bounded { AreBounded totals }
+    requires from { IsDay parts.now.from }
+    requires to { IsDay parts.now.to }
+    ensures value { let p = parts.now in result ≡ with_span totals p.from.rata_die p.to.rata_die p.duration }
+    ensures bounded { AreBounded result }
+    ensures one { counted result ≡ counted totals + 1 }
+{
+    let days = day_number_of(&parts.from) + day_number_of(&parts.to);
+    Totals {
+        answered: totals.answered + 1,
+        refused: totals.refused,
+        day_numbers: totals.day_numbers + days,
+        years: added(totals.years, parts.duration.years),
+        months: added(totals.months, parts.duration.months),
+        weeks: added(totals.weeks, parts.duration.weeks),
+        days: added(totals.days, parts.duration.days),
+    }
+}
+
+// The totals with one more refusal.
+fn with_refusal(totals: Totals) -> Totals
+    requires few { counted totals < 100000 }
+    requires bounded { AreBounded totals }
+    ensures value { result ≡ with_refusal totals }
+    ensures bounded { AreBounded result }
+    ensures one { counted result ≡ counted totals + 1 }
+{
+    Totals {
+        refused: totals.refused + 1,
+        ..totals
+    }
+}
+
+// The totals with one more request, in calendars without rows of tables.
+fn with_request(totals: Totals, request: &Request) -> Totals
+    requires few { counted totals < 100000 }
+    requires bounded { AreBounded totals }
+    ensures counted { IsCounted (request_said request.now) totals result }
+    ensures bounded { AreBounded result }
+    ensures one { counted result ≡ counted totals + 1 }
+{
+    let header = &request.header;
+    let tables = Tables::none();
+    let mut parts = SpanParts::unnamed();
+    match name_dates(
+        &mut parts,
+        header.calendar,
+        &tables,
+        &request.from,
+        &request.to,
+        header.options,
+        header.difference,
+    ) {
+        Ok(()) => with_span(totals, &parts),
+        Err(_) => with_refusal(totals),
+    }
+}
+
+/// The totals over the first so many requests that a number asks for.
+pub fn totals_over(count: u32) -> Totals
+    requires { count ≤ 100000 }
+    ensures { AreTotals count result }
+{
+    let mut totals = Totals::new();
+    let mut index = 0;
+    'requests: while index < count {
+        totals = with_request(totals, &generated_request(index));
+        index += 1;
+    }
+    totals
+}
+
+/// Appends the line of so many requests and their totals.
+pub fn push_totals(text: &mut Pending, count: u32, totals: &Totals)
+    requires { array_vec_len text.old + 200 ≤ 8192 }
+    ensures { text.new.items ≡ text.old.items ++ totals_text count totals.now }
+{
+    push_all(text, b"gen ");
+    push_number(text, u64::from(count));
+    push_all(text, b" ok ");
+    push_number(text, u64::from(totals.answered));
+    push_all(text, b" err ");
+    push_number(text, u64::from(totals.refused));
+    push_all(text, b" sum ");
+    push_signed(text, totals.day_numbers);
+    push_parts(text, totals);
+    text.push(b'\n');
+}
+
+// The sums of the durations' parts.
+fn push_parts(text: &mut Pending, totals: &Totals)
+    requires { array_vec_len text.old + 91 ≤ 8192 }
+    ensures items { let t = totals.now in
+        text.new.items ≡ text.old.items ++ parts_text t }
+    ensures len { array_vec_len text.new ≤ array_vec_len text.old + 91 }
+{
+    push_all(text, b" parts ");
+    push_number(text, totals.years);
+    text.push(b' ');
+    push_number(text, totals.months);
+    text.push(b' ');
+    push_number(text, totals.weeks);
+    text.push(b' ');
+    push_number(text, totals.days);
+}

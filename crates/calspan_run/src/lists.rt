@@ -1,0 +1,87 @@
+//! A run of a command that lists something over tables.
+ghost use Rattle.std.specs.Prelude.{◌≡◌, ◌+◌, ◌≤◌, ℕ, List, Bool, Option, if◌then◌else◌, codes};
+ghost use Rattle.byte_io.specs.Faults.{HasCause};
+ghost use Rattle.cal_tables.specs.Kinds.{TableContents, table_contents};
+ghost use Rattle.calspan_run.specs.Refusals.{refusal};
+ghost use Rattle.calspan_run.specs.BehindRows.{OverTables};
+ghost use Rattle.calspan_run.specs.Endings.{EndsWith, Listed};
+ghost use Rattle.calspan_run.specs.ListAnswers.{list_end};
+ghost use Rattle.calspan_run.specs.RowsSaid.{rows_said};
+ghost use Rattle.calspan_run.specs.Rules.{list_rules};
+ghost use Rattle.calspan_run.specs.Run.{outside};
+ghost use Rattle.calspan_run.specs.Serving.{Serves};
+ghost use Rattle.calspan_run.specs.declared.status.Status.{Status};
+
+use crate::endings::{end_with, refuse_row, refuse_table};
+use crate::rows::gather::{Gathered, gather};
+use crate::rows::table_rows::TableRows;
+use crate::status::Status;
+use byte_io::{Failed, Sink, Source};
+use cal_tables::Tables;
+use line_reader::{LineBuffer, Reader};
+use reply_texts::{Pending, push_about};
+use std::alloc::Global;
+
+/// What a command lists over tables.
+pub trait TableList {
+    /// The text over some tables: the lines of the list, or the one line that refuses it.
+    ghost lists: { Self → TableContents → List ℕ → Bool → Type 0 };
+
+    /// Writes the list, or the line that refuses it, and answers whether it is refused.
+    fn write<K: Sink>(&self, tables: &Tables<'_>, sink: &mut K) -> Result<bool, Failed>
+        ensures listed { Listed result (K.taken sink.old) (K.taken sink.new)
+            (lists self.now (table_contents tables.now)) }
+        ensures cause { HasCause (K.faults sink.old) (K.faults sink.new) result };
+}
+
+// Refuses the line of this number, which is no row line.
+fn refuse_line<K: Sink>(number: u64, is_long: bool, sink: &mut K) -> Status
+    ensures { EndsWith result Status.Refused (K.taken sink.old) (K.taken sink.new) (K.faults sink.old)
+        (K.faults sink.new) (refusal number (if is_long then codes "long" else codes "syntax")) }
+{
+    let mut text = Pending::new();
+    let why: &[u8] = if is_long { b"long" } else { b"syntax" };
+    push_about(&mut text, b"err line ", number, why);
+    end_with(&text, Status::Refused, sink)
+}
+
+// Writes the list over the tables of these rows, where they are accepted.
+fn list_over<L: TableList, K: Sink>(rows: &TableRows, list: &L, sink: &mut K) -> Status
+    ensures { (text : List ℕ) × (status : Status)
+        × OverTables (list_end (L.lists list.now)) (rows_said rows.now) text status
+        × EndsWith result status (K.taken sink.old) (K.taken sink.new) (K.faults sink.old) (K.faults sink.new) text }
+{
+    let tables = match rows.tables() {
+        Ok(tables) => tables,
+        Err(refusal) => return refuse_table(refusal, sink),
+    };
+    match list.write(&tables, sink) {
+        Ok(true) => Status::Refused,
+        Ok(false) => Status::Done,
+        Err(_) => Status::WriteFault,
+    }
+}
+
+/// Reads row lines to the end of the source, and writes the list over their tables. Any other line is refused, and ends
+/// the run at once.
+pub fn serve_list<L: TableList, S: Source, K: Sink>(
+    alloc: Global,
+    list: &L,
+    source: &mut S,
+    sink: &mut K,
+) -> Status
+    ensures { Serves (list_rules (L.lists list.now)) result
+        (outside (S.left source.old) (K.taken sink.old) (S.faults source.old) (K.faults sink.old))
+        (outside (S.left source.new) (K.taken sink.new) (S.faults source.new) (K.faults sink.new)) }
+{
+    let mut reader = Reader::new();
+    let mut line = LineBuffer::new();
+    let mut rows = TableRows::new(alloc);
+    match gather(&mut rows, &mut reader, &mut line, source) {
+        Gathered::Request => refuse_line(reader.lines(), line.over, sink),
+        Gathered::LastRequest => refuse_line(reader.lines() + 1, line.over, sink),
+        Gathered::End => list_over(&rows, list, sink),
+        Gathered::Refused(number, why) => refuse_row(number, why, sink),
+        Gathered::Stopped(status) => status,
+    }
+}

@@ -1,0 +1,6 @@
+//! The command `span`: requests, and the answers to lines.
+
+pub(crate) mod answers;
+pub(crate) mod kinds;
+pub(crate) mod replies;
+pub(crate) mod serving;

@@ -1,0 +1,134 @@
+//! A text that is written in pieces, however long it is, with about one write for each buffer.
+ghost use Rattle.std.specs.Prelude.{◌≡◌, ◌+◌, ◌≤◌, ◌++◌, [], ℕ, List, Option, length, OnOk};
+ghost use Rattle.std.specs.Iterator.{AlwaysYields, IsFinite};
+ghost use Rattle.arrayvec.specs.ArrayVec.{array_vec_len};
+ghost use Rattle.byte_io.specs.Faults.{HasCause};
+ghost use Rattle.calspan_run.specs.TextSoFar.{TextSoFar, Pushed, lines_text};
+ghost use Rattle.calspan_run.specs.Written.{Wrote};
+
+use byte_io::{Failed, Sink};
+use reply_texts::{Pending, push_all};
+
+/// How the items of a list are written, a line each.
+pub trait ItemLines {
+    /// An item of the list.
+    type Item;
+
+    /// The line of an item.
+    ghost line_of: { Self → Self.Item → List ℕ };
+
+    /// Appends the line of an item, which takes at most 512 bytes.
+    fn push_line(&self, text: &mut Pending, item: Self::Item)
+        requires { array_vec_len text.old + 512 ≤ 8192 }
+        ensures { text.new.items ≡ text.old.items ++ line_of self.now item };
+}
+
+/// Writes all of a text, in as many pieces as the sink takes. Where that fails, a prefix of it was written.
+pub fn write_all<K: Sink>(text: &[u8], sink: &mut K) -> Result<(), Failed>
+    ensures wrote { Wrote result (K.taken sink.old) (K.taken sink.new) text.now }
+    ensures cause { HasCause (K.faults sink.old) (K.faults sink.new) result }
+{
+    let mut at = 0;
+    while at < text.len() {
+        at += sink.write(&text[at..])?;
+    }
+    Ok(())
+}
+
+/// Writes what is pending. Where that fails, a prefix of it was written.
+pub fn flush<K: Sink>(pending: &mut Pending, sink: &mut K) -> Result<(), Failed>
+    ensures text { (before : Option (List ℕ)) (text : List ℕ)
+        → TextSoFar before (K.taken sink.old) pending.old.items text
+        → Pushed result before (K.taken sink.new) pending.new.items text }
+    ensures none { OnOk result (pending.new.items ≡ []) }
+    ensures cause { HasCause (K.faults sink.old) (K.faults sink.new) result }
+{
+    write_all(pending, sink)?;
+    pending.clear();
+    Ok(())
+}
+
+/// Writes what is pending where there might be no room for a line of 512 bytes.
+pub fn make_room<K: Sink>(pending: &mut Pending, sink: &mut K) -> Result<(), Failed>
+    ensures text { (before : Option (List ℕ)) (text : List ℕ)
+        → TextSoFar before (K.taken sink.old) pending.old.items text
+        → Pushed result before (K.taken sink.new) pending.new.items text }
+    ensures room { OnOk result (array_vec_len pending.new + 512 ≤ 8192) }
+    ensures cause { HasCause (K.faults sink.old) (K.faults sink.new) result }
+{
+    if pending.remaining_capacity() >= 512 {
+        return Ok(());
+    }
+    flush(pending, sink)
+}
+
+// Writes what is pending, and then pushes a piece that didn't fit behind it.
+fn push_past<K: Sink>(pending: &mut Pending, piece: &[u8], sink: &mut K) -> Result<(), Failed>
+    ensures text { (before : Option (List ℕ)) (text : List ℕ)
+        → TextSoFar before (K.taken sink.old) pending.old.items text
+        → Pushed result before (K.taken sink.new) pending.new.items (text ++ piece.now) }
+    ensures cause { HasCause (K.faults sink.old) (K.faults sink.new) result }
+{
+    flush(pending, sink)?;
+    if piece.len() > pending.remaining_capacity() {
+        return write_all(piece, sink);
+    }
+    push_all(pending, piece);
+    Ok(())
+}
+
+/// Pushes a piece of any length. What is pending is written first where the piece doesn't fit behind it.
+pub fn push<K: Sink>(pending: &mut Pending, piece: &[u8], sink: &mut K) -> Result<(), Failed>
+    ensures text { (before : Option (List ℕ)) (text : List ℕ)
+        → TextSoFar before (K.taken sink.old) pending.old.items text
+        → Pushed result before (K.taken sink.new) pending.new.items (text ++ piece.now) }
+    ensures cause { HasCause (K.faults sink.old) (K.faults sink.new) result }
+{
+    if piece.len() > pending.remaining_capacity() {
+        return push_past(pending, piece, sink);
+    }
+    push_all(pending, piece);
+    Ok(())
+}
+
+/// Pushes a line for each item of a list. Where a write fails, a prefix of the whole text was written.
+pub fn push_lines<L: ItemLines, I: Iterator<Item = L::Item> + Drop, K: Sink>(
+    items: I,
+    lines: &L,
+    pending: &mut Pending,
+    sink: &mut K,
+) -> Result<(), Failed>
+where
+    L::Item: Drop,
+    requires can { I.can_next items }
+    requires ends { IsFinite (I.remaining items) }
+    ensures text { (all : List L.Item) (before : Option (List ℕ)) (text : List ℕ)
+        → AlwaysYields I.next_gives (λ x. x) items all → TextSoFar before (K.taken sink.old) pending.old.items text
+        → Pushed result before (K.taken sink.new) pending.new.items (text ++ lines_text (L.line_of lines.now) all) }
+    ensures cause { HasCause (K.faults sink.old) (K.faults sink.new) result }
+{
+    for item in items {
+        make_room(pending, sink)?;
+        lines.push_line(pending, item);
+    }
+    Ok(())
+}
+
+/// Writes a line for each item of a list. Where that fails, a prefix of the lines was written.
+pub fn write_lines<L: ItemLines, I: Iterator<Item = L::Item> + Drop, K: Sink>(
+    items: I,
+    lines: &L,
+    sink: &mut K,
+) -> Result<(), Failed>
+where
+    L::Item: Drop,
+    requires can { I.can_next items }
+    requires ends { IsFinite (I.remaining items) }
+    ensures wrote { (all : List L.Item) → AlwaysYields I.next_gives (λ x. x) items all
+        → Wrote result (K.taken sink.old) (K.taken sink.new) (lines_text (L.line_of lines.now) all) }
+    ensures cause { HasCause (K.faults sink.old) (K.faults sink.new) result }
+{
+    let mut pending = Pending::new();
+    push_lines(items, lines, &mut pending, sink)?;
+    flush(&mut pending, sink)
+}
