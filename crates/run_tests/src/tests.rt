@@ -1,5 +1,6 @@
 //! Lines of all kinds, requests and rows of tables, and what is written for them.
 
+mod faults;
 mod lines;
 mod requests;
 mod rows;

@@ -1,9 +1,9 @@
 //! Lines of all kinds, faults and limits, the words of the command line, and texts of numbers.
 
 use crate::tests::runs::{Calls, Case, assert_answers, assert_count, assert_run, calls_of};
+use calspan_run::{Status, code};
 use line_reader::LIMIT;
 use reply_texts::{Pending, push_signed, push_two_digits};
-use calspan_run::{Status, code};
 use std::test::Fail;
 
 struct Answered {
