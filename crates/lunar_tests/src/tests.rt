@@ -1,5 +1,6 @@
 //! Known days and years, tables that are refused, and calendars over rules of a caller.
 
+mod counted_years;
 mod east_asian;
 mod expected;
 mod hijri;

@@ -47,6 +47,34 @@ fn a_date_is_counted_copied_and_borrowed(rt: HostRuntime) {
     }
 }
 
+/// The day number of a date that is given away.
+fn number_of_given<'c, C: AsCalendar>(date: Date<Ref<'c, C>>) -> i64
+where
+    C::Calendar: Calendar,
+{
+    number_in(&date)
+}
+
+/// A pointer that counts isn't copied; a date that borrows one is.
+#[test]
+fn a_date_that_borrows_a_pointer_is_given_twice(rt: HostRuntime) {
+    let date = Date::from_rata_die(RataDie::new(727443), Iso);
+    match date.into_ref_counted(rt.alloc()) {
+        Ok(counted) => {
+            let borrowed = counted.as_borrowed();
+            assert!(rt; number_of_given(borrowed) == 727443);
+            assert!(rt; number_of_given(borrowed) == 727443);
+            let (first, second) = (borrowed, borrowed);
+            assert!(rt; first == second);
+            assert_same(&rt, &first, &second, 727443);
+        }
+        Err(back) => {
+            assert!(rt; number_in(&back) == 727443);
+            assert!(rt; false, "no memory");
+        }
+    }
+}
+
 #[test]
 fn dates_are_taken_apart_and_shown_in_iso(rt: HostRuntime) {
     let date = Date::from_rata_die(RataDie::new(738156), Julian);
