@@ -1,5 +1,5 @@
 -- The occurrences of a rule in a window.
-use Rattle.std.specs.Prelude.{◌≡◌, ◌<◌, ◌<ℤ◌, ◌↔◌, AllPairs, Contains, Ok, MatchOption, pos, ◌+ℤ◌, ℕ, zero, suc, ◌+◌, ◌*◌, cond, List, [], ◌++◌, Option, Some, None, option_to_list, ℤ}
+use Rattle.std.specs.Prelude.{◌≡◌, ◌<◌, ◌<ℤ◌, ◌↔◌, AllPairs, Contains, Ok, ℕ, zero, suc, ◌*◌, cond, List, [], ◌++◌, Option, Some, None, option_to_list, ℤ}
 use Rattle.std.specs.Option.{option_and_then}
 use Rattle.cal_days.specs.Day.{IsBetween, is_between}
 use Rattle.cal_model.specs.CalendarList.{Date, day_number}

@@ -1,9 +1,8 @@
 //! The occurrences of a rule in a window, one after another.
 
-ghost use Rattle.std.specs.Prelude.{◌≡◌, ◌+ℤ◌, IsTrue, Some};
+ghost use Rattle.std.specs.Prelude.{◌≡◌, IsTrue, Some};
 ghost use Rattle.std.specs.Option.{ForSome};
 ghost use Rattle.std.specs.Iterator.{YieldsFirst, item_count};
-ghost use Rattle.cal_days.specs.Day.{IsFieldYear};
 ghost use Rattle.cal_recur.specs.FirstIndex.{AreBefore};
 ghost use Rattle.cal_recur.specs.Listing.{AreOccurrences, GoesOn, occurrences, occurrences_left};
 
@@ -16,16 +15,18 @@ use cal_days::RataDie;
 use cal_types::Window;
 use search::first_within;
 
-/// An occurrence: its index, counted from 0 at the start, and its day.
+/// An occurrence of a rule.
 #[derive(Clone, Copy, Debug, PartialEq)]
 pub struct Occurrence {
-    /// How many times the rule's units lie between the start and the occurrence.
+    /// How many times the rule's units were added to the start: 0 is the start itself. At most 838240000, the most
+    /// days that adding takes.
     pub index: u32,
-    /// The day.
+    /// The day, from -365242499 to 365242134.
     pub day: RataDie,
 }
 
-/// The occurrences of a rule in a window, in the order of their indices, which is that of their days.
+/// The occurrences of a rule in a window, which [`recur`] makes. It is an iterator; the indices of its items rise, and
+/// so do their days.
 #[derive(Drop)]
 pub struct Recurrence<C: Calendar> {
     calendar: C,
@@ -36,16 +37,25 @@ pub struct Recurrence<C: Calendar> {
     /// The index that is looked at next.
     index: u32,
     ghost belongs: { IsTrue (C.belongs calendar start) },
-    ghost year: { IsFieldYear ((C.date_of calendar start).year +ℤ (C.system calendar).year_shift) },
     ghost before: { ForSome rest
         (λ w. AreBefore (C.system calendar) (C.date_of calendar start) rule w.first index) },
 }
 
-/// The occurrences of a rule in a window: the start with 0, 1, 2 and so on times the rule's units added, each
-/// counted from the start, where its day is in the window.
+/// The occurrences of a rule in a window: the start with 0, 1, 2 and so on times the rule's units added (ECMAScript
+/// Temporal's NonISODateAdd), each counted from the start, where its day is in the window. There is none before the
+/// start. The start has to belong to the calendar, which [`Calendar::owns`] tests; each inner date in an answer of the
+/// calendar does.
 ///
-/// What the rule skips is left out, and the index goes on. The first item is found from the difference of the start
-/// and the window's first day, and each further one by one sum, or two where some are skipped.
+/// What the rule skips, and what adding refuses as out of its range, is left out. From January 31, 2021 (day 737821),
+/// every month up to April 30 (737910) gives the indices 0, 1, 2 and 3 under [`Missing::Constrain`] (the last days of
+/// the months), and 0 and 2 under [`Missing::Skip`] (January 31 and March 31).
+///
+/// The first item takes one difference ([`Calendar::until`]), from the start to the window's first day. From there on
+/// each occurrence takes one sum ([`Calendar::add`]), or two where it is skipped, and at most two lie before the
+/// window. How far it lies from the start doesn't matter, and no memory is taken.
+///
+/// [`Missing::Constrain`]: crate::Missing::Constrain
+/// [`Missing::Skip`]: crate::Missing::Skip
 pub fn recur<C: Calendar + Copy>(
     calendar: C,
     start: C::DateInner,
@@ -73,10 +83,11 @@ pub fn recur<C: Calendar + Copy>(
 }
 
 impl<C: Calendar + Copy> Recurrence<C> {
-    /// The days that are left: the whole window before the first item, then those after the last item that was
-    /// given. `None` where that was the window's last day, or once there was no further item.
+    /// The days that are left: the whole window before the first item, and after an item those from the next day on.
+    /// `None` where that item was on the window's last day, and once there was no further item.
     ///
-    /// The items are those that were given, and then those of the same recurrence in these days.
+    /// A caller may stop after any item and go on later with a recurrence of the same start and rule in these days: it
+    /// gives the items that this one has left, with their indices.
     pub fn rest(&self) -> Option<Window>
         ensures { result ≡ self.now.rest }
     {

@@ -1,7 +1,6 @@
 //! The first occurrence in a window.
 
-ghost use Rattle.std.specs.Prelude.{◌≡◌, ◌*◌, ◌≤◌, ◌<◌, ℕ, ℤ, ◌+ℤ◌, IsTrue, IfSome, MatchOption, Some, None, cond};
-ghost use Rattle.cal_days.specs.Day.{IsBetween, IsFieldYear};
+ghost use Rattle.std.specs.Prelude.{◌≡◌, ◌*◌, ◌≤◌, ℕ, ℤ, IsTrue, IfSome, MatchOption, Some, None, cond};
 ghost use Rattle.cal_recur.specs.Occurrence.{occurrence};
 ghost use Rattle.cal_recur.specs.Rule.{overflow_of};
 ghost use Rattle.cal_recur.specs.FirstIndex.{AreBefore, constrained};
@@ -14,7 +13,8 @@ use cal_base::Calendar;
 use cal_days::RataDie;
 use cal_types::{Overflow, Window};
 
-/// The first occurrence in a window, of those whose index is at least `from`.
+/// The first occurrence in a window, of those whose index is at least `from`. The search ends at the first occurrence
+/// under [`Overflow::Constrain`] that is past the window or refused, also where the rule skips all before it.
 pub(crate) fn first_within<C: Calendar>(
     calendar: &C,
     start: &C::DateInner,
@@ -23,7 +23,6 @@ pub(crate) fn first_within<C: Calendar>(
     window: &Window,
 ) -> Option<Occurrence>
     requires belongs { IsTrue (C.belongs calendar.now start.now) }
-    requires year { IsFieldYear ((C.date_of calendar.now start.now).year +ℤ (C.system calendar.now).year_shift) }
     requires before { AreBefore (C.system calendar.now) (C.date_of calendar.now start.now) rule window.now.first from }
     ensures first { let s = C.system calendar.now in let t = C.date_of calendar.now start.now in
         MatchOption result ((k : ℕ) → listed s t rule window.now.first window.now.last k ≡ None)

@@ -21,7 +21,7 @@ returns-in-Some-clause-steps g c =
     let dated = g.met.C.Calendar.dated self.calendar self.start self.belongs in
     let w = c.in_ok-window.window in (
       ap (occurrences_left s t self.rule) c.in_ok-window.was
-          ∙ occurrences-left s law t dated self.year self.rule w.first w.last c.in-Some.item c.in-Some.ensures.first c.after-self.result c.after-self.ensures,
+          ∙ occurrences-left s law t dated (g.met.C.Calendar.shifted self.calendar t dated) self.rule w.first w.last c.in-Some.item c.in-Some.ensures.first c.after-self.result c.after-self.ensures,
       record {
         calendar = refl;
         start = refl;
@@ -39,7 +39,7 @@ returns-in-Some-clause-goes g c =
     let dated = g.met.C.Calendar.dated self.calendar self.start self.belongs in
     let w = c.in_ok-window.window in
     progress _ _ _ c.in-Some.item (ap (occurrences_left s t self.rule) c.in_ok-window.was
-    ∙ occurrences-left s law t dated self.year self.rule w.first w.last c.in-Some.item c.in-Some.ensures.first c.after-self.result c.after-self.ensures)
+    ∙ occurrences-left s law t dated (g.met.C.Calendar.shifted self.calendar t dated) self.rule w.first w.last c.in-Some.item c.in-Some.ensures.first c.after-self.result c.after-self.ensures)
 
 pub invariant_of-self-in-Some : goal.invariant_of-self-in-Some
 invariant_of-self-in-Some g c =
@@ -51,6 +51,5 @@ invariant_of-self-in-Some g c =
     let w = c.in_ok-window.window in
     record {
       belongs = self.belongs;
-      year = self.year;
-      before = first-before-left s law t dated self.year self.rule w.first w.last c.in-Some.item c.in-Some.ensures.first c.after-self.result c.after-self.ensures;
+      before = first-before-left s law t dated (g.met.C.Calendar.shifted self.calendar t dated) self.rule w.first w.last c.in-Some.item c.in-Some.ensures.first c.after-self.result c.after-self.ensures;
     }
