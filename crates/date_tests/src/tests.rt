@@ -3,6 +3,7 @@
 mod comparing;
 mod conversions;
 mod getters;
+mod published_calendars;
 mod texts;
 mod weeks;
 mod wrappers;
