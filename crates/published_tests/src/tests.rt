@@ -6,13 +6,9 @@ mod new_years;
 
 use cal_base::Calendar;
 use cal_days::RataDie;
-use cal_types::Month;
+use cal_types::{Month, YearInput};
 use new_years::{CHINESE_NEW_YEARS, KOREAN_NEW_YEARS, PERSIAN_NEW_YEARS, UMM_AL_QURA_NEW_YEARS};
-use published_years::{
-    FIRST_CHINESE_YEAR, FIRST_CORRECTED_PERSIAN_YEAR, FIRST_KOREAN_YEAR, FIRST_UMM_AL_QURA_YEAR,
-    LAST_CHINESE_YEAR, LAST_CORRECTED_PERSIAN_YEAR, LAST_KOREAN_YEAR, LAST_UMM_AL_QURA_YEAR,
-    chinese, korean, persian, tables, umm_al_qura,
-};
+use published_years::{chinese, korean, persian, tables, umm_al_qura};
 use std::process::Abort;
 
 /// That a day is valid.
@@ -20,6 +16,11 @@ fn assert_day(rt: &impl Abort, number: i64)
     ensures { IsValidDay number }
 {
     assert!(rt; -365242499 <= number && number <= 365242134);
+}
+
+/// That what was found in a year is as expected.
+fn assert_same(rt: &impl Abort, year: i32, found: i64, expected: i64) {
+    assert_eq!(rt; found, expected, "in {year}");
 }
 
 /// That a date of a calendar is made on this day, and that the day is shown as this date.
@@ -32,21 +33,25 @@ fn assert_known<C: Calendar>(
     number: i64,
 ) {
     assert_day(rt, number);
-    let made = calendar.new_date(year.into(), month, day);
-    let made_on = made.ok().map(|date| calendar.to_rata_die(&date));
-    assert!(rt;
-        made_on == Some(RataDie::new(number)),
-        "{year} isn't made on {number}"
-    );
+    let made = calendar.new_date(YearInput::Extended(year), month, day);
+    let made = made.expect(rt, "the date is there");
+    assert_same(rt, year, calendar.to_rata_die(&made).to_i64_date(), number);
     let shown = calendar.from_rata_die(RataDie::new(number));
-    let shown_month = calendar.month(&shown).to_input();
-    assert!(rt;
-        calendar.extended_year(&shown) == year,
-        "{number} isn't in {year}"
+    assert_same(
+        rt,
+        year,
+        i64::from(calendar.extended_year(&shown)),
+        i64::from(year),
     );
     assert!(rt;
-        shown_month == month && calendar.day_of_month(&shown).0 == day,
-        "in {year}"
+        calendar.month(&shown).to_input() == month,
+        "the month of day {number}"
+    );
+    assert_same(
+        rt,
+        year,
+        i64::from(calendar.day_of_month(&shown).0),
+        i64::from(day),
     );
 }
 
@@ -111,22 +116,8 @@ fn months_begin_on_known_days(rt: HostRuntime) {
     assert_known(&rt, umm_al_qura(), 1446, Month::new(9), 1, 739311);
     // 2025-03-20
     assert_known(&rt, persian(), 1403, Month::new(12), 30, 739330);
-    let without = persian().new_date(1502.into(), Month::new(12), 30);
+    let without = persian().new_date(YearInput::Extended(1502), Month::new(12), 30);
     assert!(&rt; without.is_err(), "1502 has a leap day");
-    let with = persian().new_date(1503.into(), Month::new(12), 30);
+    let with = persian().new_date(YearInput::Extended(1503), Month::new(12), 30);
     assert!(&rt; with.is_ok(), "1503 has no leap day");
-}
-
-#[test]
-fn published_years_are_those_that_the_constants_name(rt: HostRuntime) {
-    assert_eq!(&rt; (FIRST_CHINESE_YEAR, LAST_CHINESE_YEAR), (1912, 2099));
-    assert_eq!(&rt; (FIRST_KOREAN_YEAR, LAST_KOREAN_YEAR), (1912, 2097));
-    assert_eq!(&rt;
-        (FIRST_UMM_AL_QURA_YEAR, LAST_UMM_AL_QURA_YEAR),
-        (1300, 1600)
-    );
-    assert_eq!(&rt;
-        (FIRST_CORRECTED_PERSIAN_YEAR, LAST_CORRECTED_PERSIAN_YEAR),
-        (1502, 2987)
-    );
 }
