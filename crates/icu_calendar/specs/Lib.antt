@@ -99,3 +99,4 @@ pub use Rattle.cal_any.specs.AnyLaws
 pub use Rattle.cal_tables.specs.Kinds
 pub use Rattle.cal_spans.specs.Spans
 pub use Rattle.cal_kinds.specs.KindNames
+pub use Rattle.published_years.specs.Published

@@ -14,6 +14,7 @@ pub mod hijri;
 mod ixdtf_record;
 pub mod laws;
 mod placing;
+pub mod published;
 mod record_dates;
 mod recurrences;
 mod span_parts;

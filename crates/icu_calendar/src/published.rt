@@ -1,0 +1,16 @@
+//! The published years of the calendars that go by tables, as constant data: calendars and tables of them.
+//!
+//! [`chinese`] has the years 1912 to 2099, [`korean`] 1912 to 2097, [`umm_al_qura`] 1300 to 1600, and [`persian`] 78
+//! corrections of the rule of 33 years from 1502 to 2987. Any other year is the computed one.
+//!
+//! ```
+//! let new_year = Date::try_new(2023.into(), Month::new(1), 1, published::chinese());
+//! // on 2023-01-22 of the ISO calendar
+//! ```
+
+pub use published_years::{
+    FIRST_CHINESE_YEAR, FIRST_CORRECTED_PERSIAN_YEAR, FIRST_KOREAN_YEAR, FIRST_UMM_AL_QURA_YEAR,
+    LAST_CHINESE_YEAR, LAST_CORRECTED_PERSIAN_YEAR, LAST_KOREAN_YEAR, LAST_UMM_AL_QURA_YEAR,
+    china_table, chinese, korea_table, korean, persian, persian_corrections, tables, umm_al_qura,
+    umm_al_qura_table,
+};

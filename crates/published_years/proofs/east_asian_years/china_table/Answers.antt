@@ -1,0 +1,11 @@
+use Rattle.published_years.proofs.EastAsianLemmas.{china-accepted, china-years}
+use Rattle.published_years.proofs.east_asian_years.china_table.Goals as goal
+
+pub new-requires : goal.new-requires
+new-requires c = china-accepted
+
+pub returns-clause-accepted : goal.returns-clause-accepted
+returns-clause-accepted c = china-accepted
+
+pub returns-clause-years : goal.returns-clause-years
+returns-clause-years c = china-years

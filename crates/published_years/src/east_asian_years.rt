@@ -1,0 +1,74 @@
+//! The published years of China and of Korea.
+
+ghost use Rattle.std.specs.Prelude.{◌≡◌, map};
+ghost use Rattle.cal_east_asian.specs.ComputedLaws.{computed_year};
+ghost use Rattle.cal_east_asian.specs.EastAsianRows.{years_of};
+ghost use Rattle.cal_east_asian.specs.TableAccepted.{IsAccepted};
+ghost use Rattle.cal_east_asian.specs.TableYears.{number_of};
+ghost use Rattle.cal_east_asian.specs.declared.sides.Side.TheVariants as side;
+ghost use Rattle.published_years.specs.Published.{numbers_through};
+
+use crate::east_asian_data::{
+    CHINA, FIRST_CHINESE_YEAR, FIRST_KOREAN_YEAR, KOREA, LAST_CHINESE_YEAR, LAST_KOREAN_YEAR,
+};
+use cal_east_asian::{ChineseTraditional, EastAsianTable, KoreanTraditional, Side};
+
+/// The table of the Chinese years from [`FIRST_CHINESE_YEAR`] to [`LAST_CHINESE_YEAR`], 1912 to 2099.
+///
+/// They go by the rule of GB/T 33661-2017 at 8 hours from Greenwich throughout, computed with GNU Emacs 28.2; PyMeeus
+/// 0.5.11 gives the same. Almanacs of before 1929 went by the local time of Beijing, so that a few of their months
+/// begin on other days: the new year of 1916 was kept on 1916-02-03, and is 1916-02-04 here. The table ends with 2099,
+/// since the real year 2100 doesn't join the computed year that follows.
+pub fn china_table() -> EastAsianTable<'static>
+    ensures side { result.side ≡ side.China }
+    ensures rows { result.rows.now ≡ CHINA }
+    ensures accepted { IsAccepted (computed_year side.China) (years_of CHINA) }
+    ensures years { map number_of (years_of CHINA) ≡ numbers_through FIRST_CHINESE_YEAR LAST_CHINESE_YEAR }
+{
+    EastAsianTable::new(Side::China, &CHINA)
+}
+
+/// The table of the Korean years from [`FIRST_KOREAN_YEAR`] to [`LAST_KOREAN_YEAR`], 1912 to 2097.
+///
+/// They go by the same rule as China's at 9 hours from Greenwich, computed with GNU Emacs 28.2; PyMeeus 0.5.11 gives
+/// the same.
+pub fn korea_table() -> EastAsianTable<'static>
+    ensures side { result.side ≡ side.Korea }
+    ensures rows { result.rows.now ≡ KOREA }
+    ensures accepted { IsAccepted (computed_year side.Korea) (years_of KOREA) }
+    ensures years { map number_of (years_of KOREA) ≡ numbers_through FIRST_KOREAN_YEAR LAST_KOREAN_YEAR }
+{
+    EastAsianTable::new(Side::Korea, &KOREA)
+}
+
+/// The Chinese calendar with the years that [`china_table`] has.
+///
+/// A year from 1900 to 1911 is that of the Qing calendar. Any other year, before 1900 or after [`LAST_CHINESE_YEAR`],
+/// has mean new moons and mean solar terms: its new year may fall a day or a month beside the real one.
+///
+/// ```
+/// let new_year = Date::try_new(2023.into(), Month::new(1), 1, published_years::chinese());
+/// // on 2023-01-22 of the ISO calendar
+/// ```
+pub fn chinese() -> ChineseTraditional<'static>
+    ensures side { result.0.table.side ≡ side.China }
+    ensures rows { result.0.table.rows.now ≡ CHINA }
+{
+    ChineseTraditional::new(china_table())
+}
+
+/// The Korean calendar with the years that [`korea_table`] has.
+///
+/// A year from 1900 to 1911 is that of the Qing calendar. Any other year, before 1900 or after [`LAST_KOREAN_YEAR`],
+/// has mean new moons and mean solar terms: its new year may fall a day or a month beside the real one.
+///
+/// ```
+/// let new_year = Date::try_new(2027.into(), Month::new(1), 1, published_years::korean());
+/// // on 2027-02-07 of the ISO calendar, a day after China's
+/// ```
+pub fn korean() -> KoreanTraditional<'static>
+    ensures side { result.0.table.side ≡ side.Korea }
+    ensures rows { result.0.table.rows.now ≡ KOREA }
+{
+    KoreanTraditional::new(korea_table())
+}

@@ -1,0 +1,36 @@
+//! The published years of Umm al-Qura.
+
+ghost use Rattle.std.specs.Prelude.{◌≡◌, map};
+ghost use Rattle.cal_hijri.specs.HijriRows.{years_of};
+ghost use Rattle.cal_hijri.specs.TableAccepted.{IsAccepted};
+ghost use Rattle.cal_hijri.specs.TableFriday.{friday_year};
+ghost use Rattle.cal_hijri.specs.TableYears.{number_of};
+ghost use Rattle.published_years.specs.Published.{numbers_through};
+
+use crate::hijri_data::{FIRST_UMM_AL_QURA_YEAR, LAST_UMM_AL_QURA_YEAR, UMM_AL_QURA};
+use cal_hijri::{Hijri, HijriTable, UmmAlQura};
+
+/// The table of the Umm al-Qura years from [`FIRST_UMM_AL_QURA_YEAR`] to [`LAST_UMM_AL_QURA_YEAR`], 1300 to 1600.
+///
+/// They are those of Java 17 (`HijrahDate`) and of ICU 72 and 78, which are the same.
+pub fn umm_al_qura_table() -> HijriTable<'static>
+    ensures rows { result.rows.now ≡ UMM_AL_QURA }
+    ensures accepted { IsAccepted friday_year (years_of UMM_AL_QURA) }
+    ensures years { map number_of (years_of UMM_AL_QURA)
+        ≡ numbers_through FIRST_UMM_AL_QURA_YEAR LAST_UMM_AL_QURA_YEAR }
+{
+    HijriTable::new(&UMM_AL_QURA)
+}
+
+/// The Hijri calendar of Umm al-Qura with the years that [`umm_al_qura_table`] has. Any other year is the tabular one
+/// of type II, from Friday on.
+///
+/// ```
+/// let ramadan = Date::try_new(1446.into(), Month::new(9), 1, published_years::umm_al_qura());
+/// // on 2025-03-01 of the ISO calendar
+/// ```
+pub fn umm_al_qura() -> Hijri<UmmAlQura<'static>>
+    ensures { result.0.table.rows.now ≡ UMM_AL_QURA }
+{
+    Hijri::new_umm_al_qura(umm_al_qura_table())
+}
