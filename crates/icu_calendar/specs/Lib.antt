@@ -28,6 +28,9 @@ pub use Rattle.cal_types.specs.DurationText
 pub use Rattle.cal_types.specs.WeekNumber
 pub use Rattle.cal_types.specs.WeekdaySet
 pub use Rattle.cal_types.specs.Year
+pub use Rattle.cal_types.specs.Leaping
+pub use Rattle.cal_types.specs.Windows
+pub use Rattle.cal_types.specs.WindowDays
 pub use Rattle.cal_model.specs.CalendarList
 pub use Rattle.cal_model.specs.YearNames
 pub use Rattle.cal_model.specs.Eras
@@ -39,6 +42,8 @@ pub use Rattle.cal_model.specs.Placing
 pub use Rattle.cal_model.specs.Adding
 pub use Rattle.cal_model.specs.Difference
 pub use Rattle.cal_model.specs.Renumbered
+pub use Rattle.cal_model.specs.DayDates
+pub use Rattle.cal_model.specs.Anniversary
 pub use Rattle.cal_arith.specs.Dates
 pub use Rattle.cal_arith.specs.Given
 pub use Rattle.cal_arith.specs.Ticks
@@ -93,6 +98,8 @@ pub use Rattle.cal_east_asian.specs.RuleLaws
 pub use Rattle.cal_east_asian.specs.QingYears
 pub use Rattle.cal_east_asian.specs.ComputedYears
 pub use Rattle.cal_east_asian.specs.TableYears
+pub use Rattle.cal_anniversary.specs.Asking
+pub use Rattle.cal_anniversary.specs.Listing
 pub use Rattle.cal_any.specs.AnySystem
 pub use Rattle.cal_any.specs.AnyOrder
 pub use Rattle.cal_any.specs.AnyLaws

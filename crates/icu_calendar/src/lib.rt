@@ -4,6 +4,8 @@
 //! as [`AnyCalendar`]. All that a caller needs is passed on from here.
 #![tactic(auto)]
 
+mod anniversaries;
+pub mod anniversary;
 mod constructors;
 mod date;
 mod date_parsing;
@@ -21,6 +23,9 @@ mod span_parts;
 mod spans;
 mod weeks;
 
+pub use anniversaries::Anniversaries;
+pub use anniversaries::anniversaries;
+pub use cal_anniversary::AnniversaryError;
 pub use cal_any::AnyCalendar;
 pub use cal_any::AnyCalendarKind;
 pub use cal_any::AnyDateInner;
@@ -113,6 +118,7 @@ pub use cal_types::HijriCalendarAlgorithm;
 pub use cal_types::IntoYearInfo;
 pub use cal_types::IsoWeekOfYear;
 pub use cal_types::LeapStatus;
+pub use cal_types::Leaping;
 pub use cal_types::LunisolarDateError;
 pub use cal_types::MismatchedCalendarError;
 pub use cal_types::MissingFieldsStrategy;

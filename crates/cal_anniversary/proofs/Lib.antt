@@ -1,0 +1,5 @@
+pub mod AskingLemmas
+pub mod ListingLemmas
+pub mod WindowLemmas
+pub mod YearLemmas
+pub mod YieldLemmas

@@ -1,0 +1,4 @@
+pub mod Asking
+pub mod Found
+pub mod Listing
+pub mod YearlyDays

@@ -1,0 +1,43 @@
+//! Birthdays, memorial days and yearly feasts in any calendar.
+
+ghost use Rattle.std.specs.Prelude.{◌≡◌, IfOk, Some};
+ghost use Rattle.cal_types.specs.MonthParts.{month_parts};
+ghost use Rattle.cal_model.specs.Anniversary.{anniversaries_between};
+ghost use Rattle.cal_any.specs.AnySystem.{any_system};
+ghost use Rattle.cal_anniversary.specs.Asking.{anniversary_fault, fault_of};
+ghost use Rattle.cal_anniversary.specs.Listing.{days_left};
+
+use cal_anniversary::{AnniversaryError, anniversaries as anniversaries_in};
+use cal_any::AnyCalendar;
+use cal_types::{Leaping, Month, Window};
+
+/// The days of a window that a month and a day of a calendar name, each once and in order.
+pub type Anniversaries<'t> = cal_anniversary::Anniversaries<AnyCalendar<'t>>;
+
+/// The days of a window that a month and a day of a calendar name, each once and in order: birthdays, memorial days and
+/// yearly feasts.
+///
+/// Under [`Leaping::Exact`] these are the days whose dates have the month and the day; under [`Leaping::Constrain`]
+/// each year has one, with the month's stand-in or the month's last day where the year lacks them. The list over what
+/// `rest` answers after some items is the list of those that are left. An item takes one look-up for each year that is
+/// passed.
+///
+/// # Errors
+///
+/// In this order: [`AnniversaryError::MonthNotInCalendar`] where no year of the calendar has the month, and
+/// [`AnniversaryError::InvalidDay`] where the day isn't from 1 to 31.
+pub fn anniversaries<'t>(
+    calendar: AnyCalendar<'t>,
+    month: Month,
+    day: u8,
+    leaping: Leaping,
+    window: Window,
+) -> Result<Anniversaries<'t>, AnniversaryError>
+    ensures list { let list = (any_system calendar.entry).list in let m = month_parts month in
+        IfOk result (λ a. days_left (any_system a.calendar).list a.asked a.rest
+        ≡ anniversaries_between list leaping m day window.first window.last) }
+    ensures rest { IfOk result (λ a. a.rest ≡ Some window) }
+    ensures fault { fault_of result ≡ anniversary_fault (any_system calendar.entry).list (month_parts month) day }
+{
+    anniversaries_in(calendar, month, day, leaping, window)
+}
