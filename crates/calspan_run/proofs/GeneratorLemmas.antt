@@ -14,7 +14,10 @@ use Rattle.calspan_run.specs.Endings.{MayEnd}
 use Rattle.calspan_run.specs.Laws.{AreLasting}
 use Rattle.calspan_run.specs.Replies.{options_of}
 use Rattle.calspan_run.specs.Rules.{generator_rules}
-use Rattle.calspan_run.specs.declared.status.Status.TheVariants.{Done}
+use Rattle.calspan_run.specs.Run.{Outside}
+use Rattle.calspan_run.specs.Serving.{Serves}
+use Rattle.calspan_run.specs.declared.status.Status.{Status}
+use Rattle.calspan_run.specs.declared.status.Status.TheVariants.{Done, Words}
 use Rattle.calspan_run.proofs.KnownLemmas.{consumes_none}
 use Rattle.request_lines.specs.Requests.{Request}
 use Rattle.calspan_run.specs.declared.generated.totals.Totals.{Totals}
@@ -100,3 +103,7 @@ generator_lasts count = record {
   ends = λ bytes more whole text status ends says. says;
   lacks = λ bytes more lacks. absurd lacks;
 }
+
+-- and no such run ends as one of other words
+pub not_words : (count : ℕ) (status : Status) (before now : Outside) → Serves (generator_rules count) status before now → status ≡ Words → ⊥
+not_words count status before now h e = subst (λ (s : Status). Serves (generator_rules count) s before now) e h

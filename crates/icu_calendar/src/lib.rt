@@ -4,7 +4,6 @@
 //! as [`AnyCalendar`]. All that a caller needs is passed on from here.
 #![tactic(auto)]
 
-mod anniversaries;
 pub mod anniversary;
 mod constructors;
 mod date;
@@ -22,9 +21,8 @@ mod recurrences;
 mod span_parts;
 mod spans;
 mod weeks;
+mod yearly_days;
 
-pub use anniversaries::Anniversaries;
-pub use anniversaries::anniversaries;
 pub use cal_anniversary::AnniversaryError;
 pub use cal_any::AnyCalendar;
 pub use cal_any::AnyCalendarKind;
@@ -152,3 +150,5 @@ pub use span_parts::Span;
 pub use spans::NamedDates;
 pub use spans::named_dates;
 pub use spans::span;
+pub use yearly_days::Anniversaries;
+pub use yearly_days::anniversaries;

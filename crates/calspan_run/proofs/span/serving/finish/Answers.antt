@@ -1,7 +1,7 @@
 use Rattle.std.proofs.Common.{◌≡◌, ◌+◌, ◌++◌, ◌∷◌, [], List, ℕ, inr, refl, sym, ap, subst, ◌∙◌}
-use Rattle.calspan_run.specs.Underway.{AnswersBehind, standing_of}
+use Rattle.calspan_run.specs.Underway.{AnswersBehind}
 use Rattle.calspan_run.specs.Answers.{Answering, status_at}
-use Rattle.calspan_run.specs.Progress.{answered_status}
+use Rattle.calspan_run.specs.Progress.{answered_status, standing_of}
 use Rattle.calspan_run.specs.Written.{with_open_line}
 use Rattle.calspan_run.proofs.UnderwayLemmas.{behind_push, behind_more, ends_from, standing_status}
 use Rattle.calspan_run.proofs.InputLemmas.{is_none, is_some, opened}

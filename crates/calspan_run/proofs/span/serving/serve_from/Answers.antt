@@ -1,7 +1,7 @@
 use Rattle.std.proofs.Common.{◌++◌, refl, subst, ◌∙◌, inr, arith}
 use Rattle.line_reader.specs.Lines.{open_line}
 use Rattle.request_lines.specs.Lines.{line_of}
-use Rattle.calspan_run.specs.Underway.{standing_of}
+use Rattle.calspan_run.specs.Progress.{standing_of}
 use Rattle.calspan_run.specs.Answers.{Answering, IsAnswerTo, status_at}
 use Rattle.calspan_run.specs.TableRows.{contents_of}
 use Rattle.calspan_run.specs.declared.span.answers.Answered.{Answered}

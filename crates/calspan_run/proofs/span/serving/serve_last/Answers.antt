@@ -2,8 +2,7 @@ use Rattle.std.proofs.Common.{◌+◌, [], Bool, inr, refl, ap, subst}
 use Rattle.line_reader.specs.Lines.{open_line}
 use Rattle.line_reader.specs.Reader.{lines_given}
 use Rattle.request_lines.specs.Lines.{line_of}
-use Rattle.calspan_run.specs.Underway.{standing_of}
-use Rattle.calspan_run.specs.Progress.{answered_status}
+use Rattle.calspan_run.specs.Progress.{answered_status, standing_of}
 use Rattle.calspan_run.specs.RowsSaid.{rows_said}
 use Rattle.calspan_run.specs.Rules.{span_rules}
 use Rattle.calspan_run.specs.Answers.{Answering, IsAnswerTo, status_at}

@@ -1,7 +1,7 @@
 use Rattle.std.proofs.Common.{[], Bool, false, inr, refl, subst}
 use Rattle.line_reader.specs.Reader.{lines_given}
 use Rattle.request_lines.specs.Lines.{line_of}
-use Rattle.calspan_run.specs.Underway.{standing_of}
+use Rattle.calspan_run.specs.Progress.{standing_of}
 use Rattle.calspan_run.specs.RowsSaid.{rows_said}
 use Rattle.calspan_run.specs.Rules.{span_rules}
 use Rattle.calspan_run.specs.Run.{outside}
