@@ -2,6 +2,7 @@
 
 ghost use Rattle.cal_days.specs.Day.{IsValidDay};
 
+use calspan_run::{name_dates, show_days};
 use icu_calendar::{
     AnyCalendar, AnyCalendarKind, BagSide, Date, DateDifferenceOptions, DateDuration,
     DateDurationUnit, DateFromFieldsError, DateFromFieldsOptions, Overflow, Span, SpanError,
@@ -12,7 +13,6 @@ use known_dates::{
     is_named, number_of, parts_of,
 };
 use request_parts::{DayParts, SpanParts};
-use calspan_run::{name_dates, show_days};
 use std::process::Abort;
 
 /// A year, a month and a day.
