@@ -110,7 +110,7 @@ fn calendars_of_all_tables_are_the_same(rt: HostRuntime) {
 /// A leap month of 2033, Ramadan, and the leap day that 1502 gives to 1503.
 #[test]
 fn months_begin_on_known_days(rt: HostRuntime) {
-    // 2033-12-22, as ICU 78.2 and Hong Kong's almanac have it
+    // 2033-12-22, as ICU 78.2 has it
     assert_known(&rt, chinese(), 2033, Month::leap(11), 1, 742529);
     // 2025-03-01
     assert_known(&rt, umm_al_qura(), 1446, Month::new(9), 1, 739311);

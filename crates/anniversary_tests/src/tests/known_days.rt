@@ -54,13 +54,12 @@ fn a_window_of_one_day_has_it(rt: HostRuntime) {
     assert_days(&rt, Iso::new(), asked, &[738214]);
 }
 
-/// Rosh Hashanah of the years 5780 to 5790. Source: hebcal.com, from 2019-09-30 and 2020-09-19 to 2029-09-10.
+/// Rosh Hashanah of the years 5780 to 5790. Source: ICU 78.2 (Node.js 20.20.2), from 2019-09-30 to 2029-09-10.
 const ROSH_HASHANAH: [i64; 11] = [
     737332, 737687, 738040, 738424, 738779, 739162, 739517, 739871, 740256, 740611, 740965,
 ];
 
-/// Nowruz of the years 1400 to 1405. Source: the calendar centre of the University of Tehran, from 2021-03-21,
-/// 2022-03-21, 2023-03-21 and 2024-03-20 to 2026-03-21.
+/// Nowruz of the years 1400 to 1405. Source: ICU 78.2 (Node.js 20.20.2), from 2021-03-21 to 2026-03-21.
 const NOWRUZ: [i64; 6] = [737870, 738235, 738600, 738965, 739331, 739696];
 
 #[test]

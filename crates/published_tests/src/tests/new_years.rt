@@ -2,9 +2,9 @@
 //!
 //! They are those of ICU 78.2 as Node.js 20.20.2 has it: the days that `Intl.DateTimeFormat` with the locale
 //! `en-u-ca-NAME` and the time zone `UTC` shows as the first day of the first month, where NAME is `chinese`,
-//! `dangi`, `islamic-umalqura` or `persian`. The Chinese new years of 1954, 2027 and 2030 are those of the Hong Kong
-//! Observatory: these new moons fall at 23:55, 23:56 and 00:07 of Beijing time (Meeus, Astronomical Algorithms), and
-//! ICU has each of them on the other day.
+//! `dangi`, `islamic-umalqura` or `persian`. The Chinese new years of 1954, 2027 and 2030 are those of the
+//! new moons at 23:55, 23:56 and 00:07 of Beijing time (computed after Meeus, Astronomical Algorithms); ICU has each of
+//! them on the other day.
 
 /// Chinese years and their first days.
 pub(super) const CHINESE_NEW_YEARS: [(i32, i64); 40] = [

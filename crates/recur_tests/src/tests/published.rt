@@ -35,7 +35,7 @@ fn every_10_days_and_every_other_week(rt: HostRuntime) {
     assert_listed(&rt, Iso, 729269, rule_of(&rt, Weeks, 2, Skip), ends, &weeks);
 }
 
-/// RFC 7529, section 4: FREQ=MONTHLY from January 31, 2014 with SKIP=OMIT is January 31, March 31 and May 31, and with
+/// RFC 7529: FREQ=MONTHLY from January 31, 2014 with SKIP=OMIT is January 31, March 31 and May 31, and with
 /// SKIP=BACKWARD the last days of the months.
 #[test]
 fn the_31st_of_each_month(rt: HostRuntime) {
@@ -53,7 +53,7 @@ fn the_31st_of_each_month(rt: HostRuntime) {
     assert_listed(&rt, Iso, 735264, rule, ends, &backward);
 }
 
-/// RFC 7529, section 4: FREQ=YEARLY from February 29, 2012 with SKIP=OMIT is February 29, 2016 and 2020, and with
+/// RFC 7529: FREQ=YEARLY from February 29, 2012 with SKIP=OMIT is February 29, 2016 and 2020, and with
 /// SKIP=BACKWARD February 28 in the years between.
 #[test]
 fn a_leap_day(rt: HostRuntime) {
@@ -72,7 +72,7 @@ fn a_leap_day(rt: HostRuntime) {
 }
 
 /// The sixth day of the Ethiopian month 13 comes every fourth year, as on September 11, 2015 and 2019; in the others
-/// SKIP=BACKWARD makes it the fifth, September 10. RFC 7529, section 4, RSCALE=ETHIOPIC: the month's first day is September
+/// SKIP=BACKWARD makes it the fifth, September 10. RFC 7529, RSCALE=ETHIOPIC: the month's first day is September
 /// 6 in 2013, 2014 and 2015.
 #[test]
 fn the_ethiopian_month_13(rt: HostRuntime) {
@@ -94,7 +94,7 @@ fn the_ethiopian_month_13(rt: HostRuntime) {
     assert_listed(&rt, calendar, 735852, rule, (735852, 737313), &backward);
 }
 
-/// RFC 7529, section 4, RSCALE=HEBREW;FREQ=YEARLY;BYMONTH=5L;BYMONTHDAY=8;SKIP=FORWARD: day 8 of Adar I, or of Adar where the
+/// RFC 7529, RSCALE=HEBREW;FREQ=YEARLY;BYMONTH=5L;BYMONTHDAY=8;SKIP=FORWARD: day 8 of Adar I, or of Adar where the
 /// year has no Adar I, is February 8, 2014, February 27, 2015, February 17, 2016 and March 6, 2017.
 #[test]
 fn a_birthday_in_adar_i(rt: HostRuntime) {
