@@ -212,40 +212,15 @@ fn assert_looked_up<C: Calendar>(
     assert_at(rt, (days.0, unit), found, expected);
 }
 
-/// From 1900 to 2024 and back. The year that the years lead to is looked up once. In months each year from there on to
-/// the last one is looked up, and the year before where the last day falls short of the first.
-#[test]
-fn years_of_a_longer_table_are_looked_up_no_more_often(rt: HostRuntime) {
+/// That a difference of Chinese dates from 1900 to 2024, and back, looks up so many years by some rules. The year that the
+/// years lead to is looked up once. In months each year from there on to the last one is looked up, and the year before
+/// where the last day falls short of the first.
+fn assert_chinese<R: Rules>(rt: &impl Abort, rules: R) {
     use DateDurationUnit::{Days, Months, Weeks, Years};
     let years = Cell::new(0);
-    let counted = &years;
-    let first_row = mean_year(28_800_000, 1912).row();
-    let one = [first_row];
-    let mut hundred = [first_row; 100];
-    for place in 0u8..100 {
-        hundred[usize::from(place)] = mean_year(28_800_000, 1912 + i32::from(place)).row();
-    }
-    let short = EastAsianTable::try_new(Side::China, &one);
-    let long = EastAsianTable::try_new(Side::China, &hundred);
-    let mean = MeanRules::new(28_800_000);
-    let none = China::new(EastAsianTable::none(Side::China));
-    let short = China::new(short.expect(&rt, "the table is accepted"));
-    let long = China::new(long.expect(&rt, "the table is accepted"));
-    let mean = EastAsianTraditional(Counted {
-        rules: mean,
-        years: counted,
-    });
-    let none = EastAsianTraditional(Counted {
-        rules: none,
-        years: counted,
-    });
-    let short = EastAsianTraditional(Counted {
-        rules: short,
-        years: counted,
-    });
-    let long = EastAsianTraditional(Counted {
-        rules: long,
-        years: counted,
+    let calendar = EastAsianTraditional(Counted {
+        rules,
+        years: &years,
     });
     for (from, to, in_months, in_years) in [
         (693862, 738926, 125, 2),
@@ -258,41 +233,49 @@ fn years_of_a_longer_table_are_looked_up_no_more_often(rt: HostRuntime) {
             (Months, in_months),
             (Years, in_years),
         ] {
-            assert_looked_up(&rt, &mean, counted, (from, to), unit, expected);
-            assert_looked_up(&rt, &none, counted, (from, to), unit, expected);
-            assert_looked_up(&rt, &short, counted, (from, to), unit, expected);
-            assert_looked_up(&rt, &long, counted, (from, to), unit, expected);
+            assert_looked_up(rt, &calendar, &years, (from, to), unit, expected);
         }
     }
 }
 
-/// A Hijri calendar counts the months of years by their numbers.
 #[test]
-fn a_hijri_difference_looks_up_one_year(rt: HostRuntime) {
+fn years_of_a_longer_table_are_looked_up_no_more_often(rt: HostRuntime) {
+    let first_row = mean_year(28_800_000, 1912).row();
+    let one = [first_row];
+    let mut hundred = [first_row; 100];
+    for place in 0u8..100 {
+        hundred[usize::from(place)] = mean_year(28_800_000, 1912 + i32::from(place)).row();
+    }
+    let short = EastAsianTable::try_new(Side::China, &one);
+    let long = EastAsianTable::try_new(Side::China, &hundred);
+    assert_chinese(&rt, MeanRules::new(28_800_000));
+    assert_chinese(&rt, China::new(EastAsianTable::none(Side::China)));
+    assert_chinese(&rt, China::new(short.expect(&rt, "the table is accepted")));
+    assert_chinese(&rt, China::new(long.expect(&rt, "the table is accepted")));
+}
+
+/// That a difference of Hijri dates looks up one year by some rules: the calendar counts the months of years by their
+/// numbers.
+fn assert_hijri<R: cal_hijri::Rules>(rt: &impl Abort, rules: R) {
     use DateDurationUnit::{Days, Months, Weeks, Years};
     let years = Cell::new(0);
-    let late = Hijri(Counted {
-        rules: Late,
-        years: &years,
-    });
-    let rules = UmmAlQura::new(HijriTable::none());
-    let without = Hijri(Counted {
-        rules,
-        years: &years,
-    });
-    let row = tabular_row(1445).expect(&rt, "the year has a row");
-    let rows = [row];
-    let table = HijriTable::try_new(&rows).expect(&rt, "the table is accepted");
-    let rules = UmmAlQura::new(table);
-    let with = Hijri(Counted {
+    let calendar = Hijri(Counted {
         rules,
         years: &years,
     });
     for (from, to) in [(693862, 738926), (738926, 693862)] {
         for unit in [Days, Weeks, Months, Years] {
-            assert_looked_up(&rt, &late, &years, (from, to), unit, 1);
-            assert_looked_up(&rt, &without, &years, (from, to), unit, 1);
-            assert_looked_up(&rt, &with, &years, (from, to), unit, 1);
+            assert_looked_up(rt, &calendar, &years, (from, to), unit, 1);
         }
     }
+}
+
+#[test]
+fn a_hijri_difference_looks_up_one_year(rt: HostRuntime) {
+    let row = tabular_row(1445).expect(&rt, "the year has a row");
+    let rows = [row];
+    let table = HijriTable::try_new(&rows).expect(&rt, "the table is accepted");
+    assert_hijri(&rt, Late);
+    assert_hijri(&rt, UmmAlQura::new(HijriTable::none()));
+    assert_hijri(&rt, UmmAlQura::new(table));
 }
