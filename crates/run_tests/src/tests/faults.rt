@@ -50,6 +50,27 @@ fn answers_within(alloc: Global, lines: &[Line], taken: usize) -> Result<Vec<u8>
     Ok(text)
 }
 
+/// That some lines are answered by a text, and the run ends with a status, where these calls fail.
+fn assert_lines(
+    rt: &impl Abort,
+    alloc: Global,
+    lines: &[Line],
+    reads: Calls<'_>,
+    writes: Calls<'_>,
+    status: Status,
+    text: &[u8],
+) -> Result<(), Fail> {
+    let input = input_of(alloc, lines)?;
+    let case = Case {
+        words: &["span"],
+        input: &input,
+        reads,
+        writes,
+    };
+    let _left = assert_run(rt, alloc, case, status, text)?;
+    Ok(())
+}
+
 /// That a read which fails, the one of this number, keeps the answers to the whole lines that came before it.
 fn assert_read(
     rt: &impl Abort,
@@ -58,27 +79,21 @@ fn assert_read(
     most: usize,
     call: u64,
 ) -> Result<(), Fail> {
-    let input = input_of(alloc, lines)?;
+    let size = input_of(alloc, lines)?.len();
     let taken = most.saturating_mul(call.saturating_sub(1) as usize);
+    let text = answers_within(alloc, lines, taken)?;
     // The source gives its bytes in reads of at most so many, and a last one gives none.
-    let is_reached = taken < input.len().saturating_add(most);
-    let status = if is_reached {
+    let status = if taken < size.saturating_add(most) {
         Status::ReadFault
     } else {
         Status::Done
     };
-    let text = answers_within(alloc, lines, taken)?;
-    let case = Case {
-        words: &["span"],
-        input: &input,
-        reads: Calls {
-            most,
-            failing: &[call],
-        },
-        writes: calls_of(4096),
+    let failing = [call];
+    let reads = Calls {
+        most,
+        failing: &failing,
     };
-    let _left = assert_run(rt, alloc, case, status, &text)?;
-    Ok(())
+    assert_lines(rt, alloc, lines, reads, calls_of(4096), status, &text)
 }
 
 /// That a write which fails, the one of this number, keeps what was written before it.
@@ -89,27 +104,20 @@ fn assert_write(
     most: usize,
     call: u64,
 ) -> Result<(), Fail> {
-    let input = input_of(alloc, lines)?;
-    let all = answers_within(alloc, lines, input.len())?;
+    let all = answers_within(alloc, lines, usize::MAX)?;
     let taken = most.saturating_mul(call.saturating_sub(1) as usize);
-    let is_reached = taken < all.len();
-    let status = if is_reached {
+    let status = if taken < all.len() {
         Status::WriteFault
     } else {
         Status::Done
     };
     let written = &all[..taken.min(all.len())];
-    let case = Case {
-        words: &["span"],
-        input: &input,
-        reads: calls_of(4096),
-        writes: Calls {
-            most,
-            failing: &[call],
-        },
+    let failing = [call];
+    let writes = Calls {
+        most,
+        failing: &failing,
     };
-    let _left = assert_run(rt, alloc, case, status, written)?;
-    Ok(())
+    assert_lines(rt, alloc, lines, calls_of(4096), writes, status, written)
 }
 
 /// Both, of each call up to one that isn't reached.
