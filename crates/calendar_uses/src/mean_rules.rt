@@ -2,6 +2,7 @@
 
 ghost use Rattle.std.specs.Prelude.{◌≡◌, Err};
 ghost use Rattle.icu_calendar.specs.MeanYears.{IsOffset};
+ghost use Rattle.icu_calendar.specs.declared.EcmaReferenceYearError.TheVariants.{Unimplemented};
 
 use icu_calendar::east_asian::{EastAsianTraditionalYear, Rules};
 use icu_calendar::{CalendarAlgorithm, EcmaReferenceYearError, Month, UnstableSealed, mean_year};
@@ -40,7 +41,7 @@ impl Rules for MeanRules {
 
     ghost year_of = { λ s y. mean_traditional_year s.utc_offset s.offset y };
 
-    ghost reference = { λ _ _ _. Err EcmaReferenceYearError.Unimplemented };
+    ghost reference = { λ _ _ _. Err Unimplemented };
 
     ghost compatible = { λ s t. int_eq s.utc_offset t.utc_offset };
 

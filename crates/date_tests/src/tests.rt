@@ -3,7 +3,6 @@
 mod comparing;
 mod conversions;
 mod getters;
-mod published_calendars;
 mod recurrences;
 mod texts;
 mod weeks;
