@@ -1,5 +1,6 @@
 mod AnswerLemmas
 mod BehindRowsLemmas
+mod DayLineLemmas
 mod EndLemmas
 mod GatheringLemmas
 mod GeneratorLemmas
@@ -8,6 +9,8 @@ mod KindLimits
 mod KnownLemmas
 mod ListLemmas
 mod ListRunLemmas
+mod ListTextLemmas
+mod ListYieldLemmas
 mod RowFirstLemmas
 mod RowLineLemmas
 mod RowTakingLemmas
@@ -18,3 +21,4 @@ mod TableLemmas
 mod TableOrderLemmas
 mod UnderwayLemmas
 mod WriterLemmas
+mod WritingLemmas

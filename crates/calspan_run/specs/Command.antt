@@ -3,8 +3,15 @@ use Rattle.std.specs.Prelude.{ℕ, ◌≤◌, List, [], ◌∷◌, Option, Some,
 use Rattle.std.specs.Option.{option_map, option_and_then}
 use Rattle.word_values.specs.Numbers.{number_of}
 use Rattle.request_lines.specs.Words.{is_text}
-use Rattle.calspan_run.specs.declared.command.Command.{Command}
-use Rattle.calspan_run.specs.declared.command.Command.TheVariants.{Span, Generate}
+use Rattle.request_lines.specs.Reading.{next_word, and_then}
+use Rattle.calspan_run.specs.Asked.{AnniversaryAsked, RecurAsked, anniversary_read, recur_of}
+
+-- answers to the lines of an input, counts and sums over the answers to so many requests, or a list
+pub data Asked : Type 0 where
+  Span : Asked
+  Generate : ℕ → Asked
+  Anniversary : AnniversaryAsked → Asked
+  Recur : RecurAsked → Asked
 
 -- a number of requests
 abbrev pub few_requests : ℕ → Option ℕ
@@ -14,14 +21,33 @@ few_requests n = if nat_le n 100000 then Some n else None
 abbrev pub count_of : List ℕ → Option ℕ
 count_of word = option_and_then few_requests (number_of 6 word)
 
--- the word `span` alone, or the word `gen` and a number of requests
-abbrev pub command_of : List (List ℕ) → Option Command
+-- what was read, where no word is left
+abbrev pub at_end : Asked → List (List ℕ) → Option Asked
+at_end asked [] = Some asked
+at_end asked (word ∷ words) = None
+
+-- the words behind a command's name
+abbrev pub generate_of : List (List ℕ) → Option Asked
+generate_of words = and_then (next_word count_of words) (λ count words. at_end (Generate count) words)
+
+abbrev pub anniversary_of : List (List ℕ) → Option Asked
+anniversary_of words = and_then (anniversary_read words) (λ asked words. at_end (Anniversary asked) words)
+
+abbrev pub named_of : List ℕ → List (List ℕ) → Option Asked
+named_of name words =
+    if is_text name (codes "span") then at_end Span words
+    else (if is_text name (codes "gen") then generate_of words
+    else (if is_text name (codes "anniversary") then anniversary_of words
+    else (if is_text name (codes "recur") then option_map Recur (recur_of words) else None)))
+
+-- the word `span` alone; the word `gen` and a number of requests; or the name of a list and its words
+abbrev pub command_of : List (List ℕ) → Option Asked
 command_of [] = None
-command_of (word ∷ []) = if is_text word (codes "span") then Some Span else None
-command_of (word ∷ count ∷ []) = if is_text word (codes "gen") then option_map Generate (count_of count) else None
-command_of (a ∷ b ∷ c ∷ more) = None
+command_of (name ∷ words) = named_of name words
 
 -- a command asks for at most 100000 requests
-abbrev pub is_command : Command → Type 0
+abbrev pub is_command : Asked → Type 0
 is_command Span = ⊤
 is_command (Generate n) = n ≤ 100000
+is_command (Anniversary asked) = ⊤
+is_command (Recur asked) = ⊤

@@ -39,13 +39,9 @@ pub record IsList (Lists : TableContents → List ℕ → Bool → Type 0) : Typ
   pub exists : (tables : TableContents) → (text : List ℕ) × (refused : Bool) × Lists tables text refused
   pub unique : (tables : TableContents) (x y : List ℕ) (p q : Bool) → Lists tables x p → Lists tables y q → (x ≡ y) × (p ≡ q)
 
--- then every input has one text and one status
-abbrev pub ListsHaveOneText : Type 1
-ListsHaveOneText = (Lists : TableContents → List ℕ → Bool → Type 0) → IsList Lists → EveryInputHas (list_rules Lists).Says × IsUnique (list_rules Lists).Says
-
 -- how a run of a list ends, by what was read and written
-abbrev pub ListsEnd : Type 1
-ListsEnd = (Lists : TableContents → List ℕ → Bool → Type 0) (status : Status) (before now : Outside) → Serves (list_rules Lists) status before now → ListEnds Lists status before now
+abbrev pub EndsAsList : (TableContents → List ℕ → Bool → Type 0) → Type 0
+EndsAsList Lists = (status : Status) (before now : Outside) → Serves (list_rules Lists) status before now → ListEnds Lists status before now
 
 -- to every number of requests there is a line, and only one
 abbrev pub EveryNumberHasOneLine : Type 0

@@ -1,26 +1,39 @@
 //! What the words of the command line ask for.
-ghost use Rattle.std.specs.Prelude.{◌≡◌, IfSome, string_bytes, map};
-ghost use Rattle.calspan_run.specs.Command.{command_of, is_command, count_of};
+ghost use Rattle.std.specs.Prelude.{◌≡◌, ◌≤◌, IfSome, string_bytes, map};
+ghost use Rattle.std.specs.Option.{option_map};
+ghost use Rattle.request_lines.specs.Reading.{IsReading, next_word};
+ghost use Rattle.calspan_run.specs.Command.{anniversary_of, at_end, command_of, count_of, generate_of, is_command};
+ghost use Rattle.calspan_run.specs.CommandWordsLeft.{words_left};
 
+use crate::anniversary::words::{AnniversaryWords, read_anniversary};
+use crate::command_words::CommandWords;
+use crate::recur::words::{RecurWords, read_recur};
 use word_values::read_number;
 
 /// The most requests that a number may ask for.
 const MOST_REQUESTS: u32 = 100_000;
 
 /// What the words of the command line ask for.
-#[derive(Clone, Copy, Debug, PartialEq, Eq)]
-pub enum Command {
+#[derive(Clone, Copy, Debug)]
+pub enum Command<'a> {
     /// To answer the lines of the input: the word `span` alone.
     Span,
     /// To sum up the answers to so many requests, at most 100000: the word `gen` and a number of one to six digits.
     Generate(u32),
+    /// To list anniversaries: `anniversary CAL SHOWN exact|constrain CODE DAY FIRST LAST`.
+    Anniversary(AnniversaryWords),
+    /// To list the occurrences of a rule: `recur CAL SHOWN UNIT EVERY skip|constrain FIRST LAST FIELDS`.
+    Recur(RecurWords<'a>),
 }
 
-// The number of requests that a word of one to six digits spells, up to 100000.
-fn read_count(word: &[u8]) -> Option<u32>
-    ensures { result ≡ count_of word.now }
+ghost use Rattle.calspan_run.specs.CommandSaid.{command_said};
+
+// The number of requests that the next word spells by one to six digits, up to 100000.
+fn next_count(words: &mut CommandWords) -> Option<u32>
+    ensures read { IsReading (next_word count_of (words_left words.old)) result (words_left words.new) }
+    ensures few { IfSome result (λ n. n ≤ 100000) }
 {
-    let count = read_number(word, 6)?;
+    let count = read_number(words.next()?, 6)?;
     if count <= MOST_REQUESTS {
         Some(count)
     } else {
@@ -28,16 +41,56 @@ fn read_count(word: &[u8]) -> Option<u32>
     }
 }
 
-/// What the words ask for, if anything.
-pub fn read_command(words: &[String]) -> Option<Command>
-    ensures value { result ≡ command_of (map string_bytes words.now) }
-    ensures few { IfSome result is_command }
+// The command, where no word is left.
+fn at_end<'a>(command: Command<'a>, words: &CommandWords) -> Option<Command<'a>>
+    requires { is_command (command_said command) }
+    ensures said { option_map command_said result ≡ at_end (command_said command.entry) (words_left words.now) }
+    ensures few { IfSome result (λ c. is_command (command_said c)) }
 {
-    match words {
-        [word] if word.as_bytes() == b"span".as_slice() => Some(Command::Span),
-        [word, count] if word.as_bytes() == b"gen".as_slice() => {
-            Some(Command::Generate(read_count(count.as_bytes())?))
-        }
-        _ => None,
+    if words.is_done() {
+        Some(command)
+    } else {
+        None
+    }
+}
+
+// The command that the words behind `gen` make.
+fn read_generate(mut words: CommandWords<'_>) -> Option<Command<'_>>
+    ensures said { option_map command_said result ≡ generate_of (words_left words.entry) }
+    ensures few { IfSome result (λ c. is_command (command_said c)) }
+{
+    let count = next_count(&mut words)?;
+    at_end(Command::Generate(count), &words)
+}
+
+// The command that the words behind `anniversary` make.
+fn read_days(mut words: CommandWords<'_>) -> Option<Command<'_>>
+    ensures said { option_map command_said result ≡ anniversary_of (words_left words.entry) }
+    ensures few { IfSome result (λ c. is_command (command_said c)) }
+{
+    let asked = read_anniversary(&mut words)?;
+    at_end(Command::Anniversary(asked), &words)
+}
+
+/// What the words ask for, if anything.
+pub fn read_command(words: &[String]) -> Option<Command<'_>>
+    ensures said { option_map command_said result ≡ command_of (map string_bytes words.now) }
+    ensures few { IfSome result (λ c. is_command (command_said c)) }
+{
+    let mut words = CommandWords::new(words);
+    let name = words.next()?;
+    if name == b"span".as_slice() {
+        return at_end(Command::Span, &words);
+    }
+    if name == b"gen".as_slice() {
+        return read_generate(words);
+    }
+    if name == b"anniversary".as_slice() {
+        return read_days(words);
+    }
+    if name == b"recur".as_slice() {
+        Some(Command::Recur(read_recur(words)?))
+    } else {
+        None
     }
 }

@@ -1,13 +1,17 @@
 //! The program's run.
 ghost use Rattle.std.specs.Prelude.{◌≡◌, ◌≢◌, ◌≤◌, true, List, Option, ℕ, Some, None, IfSome, ◌↔◌, length, map, string_bytes};
 ghost use Rattle.line_reader.specs.Lines.{lines_in};
-ghost use Rattle.calspan_run.specs.Command.{command_of};
+ghost use Rattle.calspan_run.specs.Asked.{AnniversaryAsked, RecurAsked};
+ghost use Rattle.calspan_run.specs.Command.{Anniversary, Generate, Recur, Span, command_of};
+ghost use Rattle.calspan_run.specs.ListRuns.{RunsList};
+ghost use Rattle.calspan_run.specs.ListTexts.{ListsAnniversaries, ListsOccurrences};
 ghost use Rattle.calspan_run.specs.Rules.{generator_rules, span_rules};
 ghost use Rattle.calspan_run.specs.Run.{outside, NoFault, RowComesFirst, limit};
 ghost use Rattle.calspan_run.specs.Serving.{IsAnswered, Serves};
 
 use crate::command::{Command, read_command};
 use crate::generated::generating::serve_totals;
+use crate::lists::serve_list;
 use crate::span::serving::serve_span;
 use crate::status::Status;
 use byte_io::{Sink, Source};
@@ -19,11 +23,20 @@ use std::alloc::Global;
 /// six digits up to 100000, writes one line of counts and sums over the answers to so many requests, and reads
 /// nothing.
 ///
-/// The status says how the run ended, and what was written then:
+/// With `anniversary CAL SHOWN exact|constrain CODE DAY FIRST LAST` or `recur CAL SHOWN UNIT EVERY skip|constrain FIRST
+/// LAST FIELDS` it reads row lines to the end of the source, and writes a line for each day of a list: its date in the
+/// calendar CAL, and beside it in SHOWN, from the day number FIRST to LAST. The list is the anniversaries of the month of
+/// a code and a day, or the occurrences of every so many `years`, `months`, `weeks` or `days` from the date that the
+/// fields name, each behind its index. Such a list is refused by one line: `err InvalidWindow` where FIRST and LAST aren't
+/// valid days in order; then `err MonthNotInCalendar` and `err InvalidDay`, or `err Every` where EVERY is 0 and `err` with
+/// the first fault of the fields. A line of the source that is no row line is refused (`err line N syntax` or `long`), and
+/// ends the run at once.
+///
+/// The status says how the run ended, and what was written then, in the case of `span`:
 ///
 /// - `Done` and `Refused`: all answers to the input; `Refused` where one of them is `err`. With `gen`, `Done` where the
 ///   line was written.
-/// - `Words`: nothing, and nothing was read. This comes exactly where the words aren't of these two forms.
+/// - `Words`: nothing, and nothing was read. This comes exactly where the words aren't of these forms.
 /// - `ReadFault`: the source counted a fault. The answers to all lines whose LF was read.
 /// - `WriteFault`: the sink counted a fault. A prefix of the answers to what was read; nothing is promised of how
 ///   long it is.
@@ -33,6 +46,10 @@ use std::alloc::Global;
 ///   (`table NAME ROW PART`). The answers before, and that line.
 /// - `NoMemory`: there was no memory for a row, which can be where the first line that gives anything is a row
 ///   line, and nowhere else. Nothing.
+///
+/// In the case of a list, `Done` and `Refused` mean that the list or the line that refuses it was written, `TableRefused`
+/// that the line is one that refuses a row line or a table; after `ReadFault` and `TooLong` nothing was written, and after
+/// `WriteFault` a prefix of the text.
 pub fn run<S: Source, K: Sink>(
     alloc: Global,
     words: &[String],
@@ -43,19 +60,19 @@ pub fn run<S: Source, K: Sink>(
     ensures untouched { result ≡ Status.Words → (source.new ≡ source.old) × (sink.new ≡ sink.old) }
 
     // How a run over the lines ends, and what it took and wrote.
-    ensures span { command_of (map string_bytes words.now) ≡ Some Command.Span → Serves span_rules result
+    ensures span { command_of (map string_bytes words.now) ≡ Some Span → Serves span_rules result
         (outside (S.left source.old) (K.taken sink.old) (S.faults source.old) (K.faults sink.old))
         (outside (S.left source.new) (K.taken sink.new) (S.faults source.new) (K.faults sink.new)) }
 
     // With a number of requests nothing is read, and their line is written.
-    ensures generated { (count : ℕ) → command_of (map string_bytes words.now) ≡ Some (Command.Generate count)
+    ensures generated { (count : ℕ) → command_of (map string_bytes words.now) ≡ Some (Generate count)
         → (source.new ≡ source.old)
         × Serves (generator_rules count) result
         (outside (S.left source.old) (K.taken sink.old) (S.faults source.old) (K.faults sink.old))
         (outside (S.left source.new) (K.taken sink.new) (S.faults source.new) (K.faults sink.new)) }
 
     // Over every input within the limit, with no fault and with memory for its rows, all answers are written.
-    ensures headline { command_of (map string_bytes words.now) ≡ Some Command.Span
+    ensures headline { command_of (map string_bytes words.now) ≡ Some Span
         → IfSome (S.left source.old) (λ input. length input ≤ limit → NoFault
         (outside (S.left source.old) (K.taken sink.old) (S.faults source.old) (K.faults sink.old))
         (outside (S.left source.new) (K.taken sink.new) (S.faults source.new) (K.faults sink.new))
@@ -63,10 +80,22 @@ pub fn run<S: Source, K: Sink>(
         → IsAnswered span_rules
         (outside (S.left source.old) (K.taken sink.old) (S.faults source.old) (K.faults sink.old))
         (outside (S.left source.new) (K.taken sink.new) (S.faults source.new) (K.faults sink.new)) result input) }
+
+    // The lists, in the same way.
+    ensures anniversary { (asked : AnniversaryAsked) → command_of (map string_bytes words.now) ≡ Some (Anniversary asked)
+        → RunsList (ListsAnniversaries asked) result
+        (outside (S.left source.old) (K.taken sink.old) (S.faults source.old) (K.faults sink.old))
+        (outside (S.left source.new) (K.taken sink.new) (S.faults source.new) (K.faults sink.new)) }
+    ensures recur { (asked : RecurAsked) → command_of (map string_bytes words.now) ≡ Some (Recur asked)
+        → RunsList (ListsOccurrences asked) result
+        (outside (S.left source.old) (K.taken sink.old) (S.faults source.old) (K.faults sink.old))
+        (outside (S.left source.new) (K.taken sink.new) (S.faults source.new) (K.faults sink.new)) }
 {
     match read_command(words) {
         Some(Command::Span) => serve_span(alloc, source, sink),
         Some(Command::Generate(count)) => serve_totals(count, sink),
+        Some(Command::Anniversary(asked)) => serve_list(alloc, &asked, source, sink),
+        Some(Command::Recur(asked)) => serve_list(alloc, &asked, source, sink),
         None => Status::Words,
     }
 }

@@ -1,6 +1,9 @@
 //! Laws of what the commands write, each proved as the contract of a function that does nothing.
 ghost use Rattle.calspan_run.specs.Answers.{IsAnswers};
-ghost use Rattle.calspan_run.specs.Laws.{EveryInputHas, IsUnique, PrefixesHavePrefixes, EveryNumberHasOneLine};
+ghost use Rattle.calspan_run.specs.Asked.{AnniversaryAsked, RecurAsked};
+ghost use Rattle.calspan_run.specs.Laws.{EveryInputHas, IsUnique, PrefixesHavePrefixes, EveryNumberHasOneLine, EndsAsList};
+ghost use Rattle.calspan_run.specs.ListTexts.{ListsAnniversaries, ListsOccurrences};
+ghost use Rattle.calspan_run.specs.Rules.{list_rules};
 
 /// To every input, and to what has come of one, there are answers and a status.
 pub fn every_input_has_answers()
@@ -20,4 +23,22 @@ pub fn answers_to_a_prefix_are_a_prefix()
 /// To every number of requests there is a line, and only one.
 pub fn every_number_has_one_line()
     ensures { EveryNumberHasOneLine }
+{}
+
+/// To all words of `anniversary` and every input there is a text and a status, and only one of each.
+pub fn anniversaries_have_one_text()
+    ensures exists { (asked : AnniversaryAsked) → EveryInputHas (list_rules (ListsAnniversaries asked)).Says }
+    ensures unique { (asked : AnniversaryAsked) → IsUnique (list_rules (ListsAnniversaries asked)).Says }
+{}
+
+/// To all words of `recur` and every input there is a text and a status, and only one of each.
+pub fn recurrences_have_one_text()
+    ensures exists { (asked : RecurAsked) → EveryInputHas (list_rules (ListsOccurrences asked)).Says }
+    ensures unique { (asked : RecurAsked) → IsUnique (list_rules (ListsOccurrences asked)).Says }
+{}
+
+/// How a run of `anniversary` or `recur` ends with each status, by what was read and written.
+pub fn runs_of_lists_end()
+    ensures anniversary { (asked : AnniversaryAsked) → EndsAsList (ListsAnniversaries asked) }
+    ensures recur { (asked : RecurAsked) → EndsAsList (ListsOccurrences asked) }
 {}

@@ -9,12 +9,17 @@
 //! requests has counts and sums over their answers.
 #![tactic(auto)]
 
+mod anniversary;
 mod command;
 mod command_run;
+mod command_words;
+mod day_lines;
 mod endings;
 mod generated;
+mod kinds;
 pub mod laws;
 pub mod lists;
+mod recur;
 mod rows;
 mod span;
 mod standard;
@@ -27,7 +32,7 @@ pub use generated::totals::{Totals, push_totals, totals_over};
 pub use rows::table::{RowFault, Table, TableRefusal, push_row_refusal, push_table_refusal};
 pub use rows::table_rows::{TableRows, Taken};
 pub use span::answers::{Answered, Progress, answer};
-pub use span::kinds::{name_dates, show_days};
+pub use kinds::{name_dates, show_days};
 pub use span::replies::reply;
 pub use standard::run_on_standard;
 pub use status::{Status, code};

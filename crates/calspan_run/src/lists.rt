@@ -1,6 +1,7 @@
 //! A run of a command that lists something over tables.
 ghost use Rattle.std.specs.Prelude.{◌≡◌, ◌+◌, ◌≤◌, ℕ, List, Bool, Option, if◌then◌else◌, codes};
 ghost use Rattle.byte_io.specs.Faults.{HasCause};
+ghost use Rattle.cal_model.specs.CalendarSystem.{CalendarSystem};
 ghost use Rattle.cal_tables.specs.Kinds.{TableContents, table_contents};
 ghost use Rattle.calspan_run.specs.Refusals.{refusal};
 ghost use Rattle.calspan_run.specs.BehindRows.{OverTables};
@@ -17,6 +18,7 @@ use crate::rows::gather::{Gathered, gather};
 use crate::rows::table_rows::TableRows;
 use crate::status::Status;
 use byte_io::{Failed, Sink, Source};
+use cal_base::Calendar;
 use cal_tables::Tables;
 use line_reader::{LineBuffer, Reader};
 use reply_texts::{Pending, push_about};
@@ -31,6 +33,23 @@ pub trait TableList {
     fn write<K: Sink>(&self, tables: &Tables<'_>, sink: &mut K) -> Result<bool, Failed>
         ensures listed { Listed result (K.taken sink.old) (K.taken sink.new)
             (lists self.now (table_contents tables.now)) }
+        ensures cause { HasCause (K.faults sink.old) (K.faults sink.new) result };
+}
+
+/// What a command lists in one calendar, shown in others over tables.
+pub trait CalendarListing {
+    /// The text in a calendar and over some tables: the lines of the list, or the one line that refuses it.
+    ghost lists_in: { Self → CalendarSystem → TableContents → List ℕ → Bool → Type 0 };
+
+    /// Writes the list in a calendar, or the line that refuses it, and answers whether it is refused.
+    fn write_in<C: Calendar + Copy, K: Sink>(
+        &self,
+        calendar: C,
+        tables: &Tables<'_>,
+        sink: &mut K,
+    ) -> Result<bool, Failed>
+        ensures listed { Listed result (K.taken sink.old) (K.taken sink.new)
+            (lists_in self.now (C.system calendar) (table_contents tables.now)) }
         ensures cause { HasCause (K.faults sink.old) (K.faults sink.new) result };
 }
 

@@ -1,6 +1,5 @@
 //! The command `span`: requests, and the answers to lines.
 
 pub(crate) mod answers;
-pub(crate) mod kinds;
 pub(crate) mod replies;
 pub(crate) mod serving;

@@ -1,5 +1,5 @@
 //! A text that is written in pieces, however long it is, with about one write for each buffer.
-ghost use Rattle.std.specs.Prelude.{◌≡◌, ◌+◌, ◌≤◌, ◌++◌, [], ℕ, List, Option, length, OnOk};
+ghost use Rattle.std.specs.Prelude.{◌≡◌, ◌+◌, ◌≤◌, ◌++◌, [], ℕ, List, Option, Some, length, OnOk};
 ghost use Rattle.std.specs.Iterator.{AlwaysYields, IsFinite};
 ghost use Rattle.arrayvec.specs.ArrayVec.{array_vec_len};
 ghost use Rattle.byte_io.specs.Faults.{HasCause};
@@ -14,12 +14,16 @@ pub trait ItemLines {
     /// An item of the list.
     type Item;
 
+    /// Which items can be written.
+    ghost is_shown: { Self → Self.Item → Type 0 };
+
     /// The line of an item.
     ghost line_of: { Self → Self.Item → List ℕ };
 
     /// Appends the line of an item, which takes at most 512 bytes.
     fn push_line(&self, text: &mut Pending, item: Self::Item)
-        requires { array_vec_len text.old + 512 ≤ 8192 }
+        requires room { array_vec_len text.old + 512 ≤ 8192 }
+        requires shown { is_shown self.now item }
         ensures { text.new.items ≡ text.old.items ++ line_of self.now item };
 }
 
@@ -102,6 +106,7 @@ where
     L::Item: Drop,
     requires can { I.can_next items }
     requires ends { IsFinite (I.remaining items) }
+    requires shown { (s t : I) (x : L.Item) → I.next_gives s (Some x) t → L.is_shown lines.now x }
     ensures text { (all : List L.Item) (before : Option (List ℕ)) (text : List ℕ)
         → AlwaysYields I.next_gives (λ x. x) items all → TextSoFar before (K.taken sink.old) pending.old.items text
         → Pushed result before (K.taken sink.new) pending.new.items (text ++ lines_text (L.line_of lines.now) all) }
@@ -124,6 +129,7 @@ where
     L::Item: Drop,
     requires can { I.can_next items }
     requires ends { IsFinite (I.remaining items) }
+    requires shown { (s t : I) (x : L.Item) → I.next_gives s (Some x) t → L.is_shown lines.now x }
     ensures wrote { (all : List L.Item) → AlwaysYields I.next_gives (λ x. x) items all
         → Wrote result (K.taken sink.old) (K.taken sink.new) (lines_text (L.line_of lines.now) all) }
     ensures cause { HasCause (K.faults sink.old) (K.faults sink.new) result }

@@ -8,6 +8,9 @@ pub mod RecordDates
 pub mod DateTextReading
 pub mod Weeks
 pub mod EasterDates
+pub mod HijriMonthStarts
+pub mod EastAsianMonthStarts
+pub mod Recurring
 pub use Rattle.cal_days.specs.Day
 pub use Rattle.cal_days.specs.Sums
 pub use Rattle.cal_days.specs.Gregorian

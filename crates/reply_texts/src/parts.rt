@@ -89,8 +89,8 @@ pub fn push_duration(text: &mut Pending, duration: &DateDuration)
     push_parts(text, duration);
 }
 
-// Why a bag names no date.
-fn push_cause(text: &mut Pending, cause: DateFromFieldsError)
+/// Appends why a bag names no date, which takes at most 50 bytes.
+pub fn push_cause(text: &mut Pending, cause: DateFromFieldsError)
     requires { array_vec_len text.old + 50 ≤ 8192 }
     ensures items { text.new.items ≡ text.old.items ++ cause_text cause }
     ensures len { array_vec_len text.new ≤ array_vec_len text.old + 50 }

@@ -1,5 +1,6 @@
 pub mod SplitLemmas
 pub mod TakingLemmas
+pub mod WholeWordLemmas
 pub mod NumberLemmas
 pub mod KeyLemmas
 pub mod FieldLemmas

@@ -1,5 +1,6 @@
 -- Bags of fields, read word by word.
-use Rattle.std.specs.Prelude.{ℕ, ℤ, Bool, List, [], ◌∷◌, Option, Some, None, codes, drop, take, length, is_none, if◌then◌else◌}
+use Rattle.std.specs.Prelude.{ℕ, ℤ, Bool, not, ◌==◌, ◌&&◌, List, [], ◌∷◌, Option, Some, None, codes, drop, take, length, is_none, if◌then◌else◌}
+use Rattle.std.specs.List.{list_all}
 use Rattle.std.specs.Option.{option_map, option_and_then}
 use Rattle.cal_types.specs.Month.{MonthParts, month_read}
 use Rattle.cal_types.specs.Bag.{Bag}
@@ -75,3 +76,11 @@ abbrev pub bag_of_all : Option Bag → List (List ℕ) → Option Bag
 bag_of_all None words = None
 bag_of_all (Some bag) [] = Some bag
 bag_of_all (Some bag) (word ∷ words) = bag_of_all (with_word bag word) words
+
+-- whether a byte is neither a space nor a line feed, which no word of a line holds
+abbrev pub is_word_byte : ℕ → Bool
+is_word_byte b = not (b == 32) && not (b == 10)
+
+-- the bag with the field of a word that stands by itself
+abbrev pub with_whole_word : Bag → List ℕ → Option Bag
+with_whole_word bag word = if list_all is_word_byte word then with_word bag word else None

@@ -1,10 +1,11 @@
 //! The words of a bag of fields.
 ghost use Rattle.std.specs.Prelude.{◌≡◌, Some, None, MatchOption};
+ghost use Rattle.std.specs.List.{list_all};
 ghost use Rattle.std.specs.Option.{option_map};
 ghost use Rattle.cal_types.specs.Bag.{bag_of};
 ghost use Rattle.cal_types.specs.Month.{month_read};
 ghost use Rattle.cal_types.specs.MonthParts.{month_parts};
-ghost use Rattle.request_lines.specs.Bags.{with_field, with_word, with_rarer_word, bag_before_to, bag_of_all};
+ghost use Rattle.request_lines.specs.Bags.{with_field, with_word, with_whole_word, with_rarer_word, bag_before_to, bag_of_all, is_word_byte};
 ghost use Rattle.request_lines.specs.Reading.{IsReading, next_word};
 ghost use Rattle.request_lines.specs.WordsLeft.{words_left};
 
@@ -119,4 +120,23 @@ pub fn read_bag<'a>(fields: &mut DateFields<'a>, words: &mut Words<'a>) -> Optio
         set_next_field(fields, words)?;
     }
     Some(())
+}
+
+// Whether a word holds no space and no line feed.
+fn is_whole_word(word: &[u8]) -> bool
+    ensures { result ≡ list_all is_word_byte word.now }
+{
+    word.iter().all(|b| *b != b' ' && *b != b'\n')
+}
+
+/// Sets the field that a word names which stands by itself, as a word of a command line does. None where it isn't
+/// `KEY=VALUE` of a known key and a value of it, as in a request line, or the field is set.
+pub fn read_field<'a>(fields: &mut DateFields<'a>, word: &'a [u8]) -> Option<()>
+    ensures { option_map (λ _. bag_of fields.new) result ≡ with_whole_word (bag_of fields.old) word.now }
+{
+    if !is_whole_word(word) {
+        return None;
+    }
+    let mut words = Words::new(word);
+    set_next_field(fields, &mut words)
 }

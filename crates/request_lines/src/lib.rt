@@ -13,6 +13,7 @@ mod request;
 mod row;
 mod words;
 
+pub use bag::read_field;
 pub use era_row::{EraRow, RowDate};
 pub use line::{Line, LineKind, RequestLine, is_silent, line_kind, read_line};
 pub use request::{Header, Request, read_request};

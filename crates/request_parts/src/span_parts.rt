@@ -73,8 +73,8 @@ pub fn name_in<C: Calendar>(
     Ok(())
 }
 
-// Fills in the parts of a day in a calendar.
-fn show_in<C: Calendar>(parts: &mut DayParts, calendar: &C)
+/// Fills in the parts of the date of a day in a calendar. The day number is in the valid range, -365242499 to 365242134.
+pub fn show_in<C: Calendar>(parts: &mut DayParts, calendar: &C)
     requires { IsValidDay parts.old.rata_die }
     ensures { IsShown (C.system calendar.now) parts.old.rata_die parts.new }
 {

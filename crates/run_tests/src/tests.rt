@@ -2,6 +2,7 @@
 
 mod faults;
 mod lines;
+mod lists;
 mod requests;
 mod rows;
 mod runs;

@@ -8,7 +8,7 @@ ghost use Rattle.request_lines.specs.RequestSaid.{request_said};
 ghost use Rattle.calspan_run.specs.TotalBounds.{AreBounded, counted};
 
 use crate::generated::generator::generated_request;
-use crate::span::kinds::name_dates;
+use crate::kinds::name_dates;
 use cal_tables::Tables;
 use reply_texts::{Pending, push_all, push_number, push_signed};
 use request_lines::Request;

@@ -11,7 +11,7 @@ ghost use Rattle.request_lines.specs.RequestSaid.{header_said};
 ghost use Rattle.request_parts.specs.Parts.{AreNamed, IsDay};
 ghost use Rattle.calspan_run.specs.Replies.{SaysSpan, IsReply};
 
-use crate::span::kinds::{name_dates, show_days};
+use crate::kinds::{name_dates, show_days};
 use cal_kinds::AnyCalendarKind;
 use cal_tables::Tables;
 use cal_types::DateFields;

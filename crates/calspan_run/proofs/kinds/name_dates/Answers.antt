@@ -9,7 +9,7 @@ use Rattle.cal_kinds.specs.declared.any_calendar_kind.AnyCalendarKind.{AnyCalend
 use Rattle.cal_spans.specs.declared.span_error.SpanError.{SpanError}
 use Rattle.request_parts.specs.Parts.{AreNamed, AreRefused}
 use Rattle.request_parts.specs.declared.span_parts.SpanParts.{SpanParts}
-use Rattle.calspan_run.proofs.span.kinds.name_dates.Goals as goal
+use Rattle.calspan_run.proofs.kinds.name_dates.Goals as goal
 
 -- what is refused in the calendar that is made for a kind is refused in the calendar of that kind
 refused_in : {T : Type 0} (r : Result T SpanError) (first second : Bag) (options : DateFromFieldsOptions) (t : TableContents) (made : CalendarSystem) (kind named : AnyCalendarKind)

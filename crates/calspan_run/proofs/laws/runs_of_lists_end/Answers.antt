@@ -1,0 +1,9 @@
+use Rattle.calspan_run.specs.ListTexts.{ListsAnniversaries, ListsOccurrences}
+use Rattle.calspan_run.proofs.ListLemmas.{list_ends}
+use Rattle.calspan_run.proofs.laws.runs_of_lists_end.Goals as goal
+
+pub returns-clause-anniversary : goal.returns-clause-anniversary
+returns-clause-anniversary c asked = list_ends (ListsAnniversaries asked)
+
+pub returns-clause-recur : goal.returns-clause-recur
+returns-clause-recur c asked = list_ends (ListsOccurrences asked)

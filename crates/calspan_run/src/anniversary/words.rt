@@ -1,0 +1,70 @@
+//! The words of `anniversary`.
+ghost use Rattle.std.specs.Prelude.{◌≡◌};
+ghost use Rattle.std.specs.Option.{option_map};
+ghost use Rattle.request_lines.specs.Reading.{IsReading, next_word};
+ghost use Rattle.calspan_run.specs.Asked.{leaping_named, anniversary_read};
+ghost use Rattle.calspan_run.specs.CommandWordsLeft.{words_left};
+
+use crate::command_words::{CommandWords, next_byte, next_int, next_kind, next_month};
+use cal_kinds::AnyCalendarKind;
+use cal_types::{Leaping, Month};
+
+/// What the words of `anniversary` ask for: `CAL SHOWN exact|constrain CODE DAY FIRST LAST`.
+#[derive(Clone, Copy, Debug)]
+pub struct AnniversaryWords {
+    /// The calendar of the month and the day.
+    pub calendar: AnyCalendarKind,
+    /// The calendar that each day is shown in beside it.
+    pub shown: AnyCalendarKind,
+    /// What becomes of a year that lacks the month or the day.
+    pub leaping: Leaping,
+    /// The month.
+    pub month: Month,
+    /// The day of the month.
+    pub day: u8,
+    /// The day number of the first day that may be listed.
+    pub first: i32,
+    /// And that of the last one.
+    pub last: i32,
+}
+
+ghost use Rattle.calspan_run.specs.CommandSaid.{anniversary_said};
+
+/// What becomes of a year that lacks the month or the day, as the next word says it.
+fn next_leaping(words: &mut CommandWords) -> Option<Leaping>
+    ensures { IsReading (next_word leaping_named (words_left words.old)) result (words_left words.new) }
+{
+    let word = words.next()?;
+    if word == b"exact".as_slice() {
+        return Some(Leaping::Exact);
+    }
+    if word == b"constrain".as_slice() {
+        Some(Leaping::Constrain)
+    } else {
+        None
+    }
+}
+
+/// What the next words ask for. None where they aren't of the form.
+#[tactic(auto, unfolding(crate::specs::Asked::anniversary_read))]
+pub(crate) fn read_anniversary(words: &mut CommandWords) -> Option<AnniversaryWords>
+    ensures { let reading = anniversary_read (words_left words.old) in
+        IsReading reading (option_map anniversary_said result) (words_left words.new) }
+{
+    let calendar = next_kind(words)?;
+    let shown = next_kind(words)?;
+    let leaping = next_leaping(words)?;
+    let month = next_month(words)?;
+    let day = next_byte(words)?;
+    let first = next_int(words)?;
+    let last = next_int(words)?;
+    Some(AnniversaryWords {
+        calendar,
+        shown,
+        leaping,
+        month,
+        day,
+        first,
+        last,
+    })
+}
