@@ -1,19 +1,24 @@
 #!/usr/bin/env python3
-"""Compares the built program with the cases beside this file, and runs it on small broken inputs.
+"""Compares the built program with the cases beside this file, and runs it on small broken inputs and broken command lines.
 
 The cases' answers were made by an independent implementation, written in another language from the same definitions. Which
-answer a broken line gets, `long`, `syntax`, that of a request or the line that refuses a row, is told here by a grammar of its
-own.
+answer a broken line gets, `long`, `syntax`, that of a request or the line that refuses a row, and which words are no command, is
+told by a grammar of its own.
 """
 
+import argparse
 import random
 import re
 import subprocess
 import sys
 from pathlib import Path
 
+from grammar import FIELDS, REQUEST, WORDS, has_each_key_once
+from lists import cases_of, compare_lists, compare_words
+
 HERE = Path(__file__).resolve().parent
 TABLES = HERE / "tables"
+LISTS = HERE / "lists.jsonl"
 PROGRAM = [str(HERE.parent / "calspan"), "span"]
 STATUSES = {name: int(status) for name, status in (line.split() for line in (TABLES / "statuses").read_text().splitlines())}
 TABLE_REFUSED = 6
@@ -27,56 +32,8 @@ LINE_FAULT = re.compile(rb"err line \d+ (long|syntax)")
 TABLE_LINE = re.compile(rb"table (line \d+ (syntax|range|late)|(china|korea|hijri|persian) \d+ (year|join|end|leap|rule))")
 BROKEN_INPUTS = 3000
 BROKEN_ROWS = 1500
+BROKEN_WORDS = 1500
 LONGEST_LINE = 512
-
-CALENDARS = [
-    *[b"buddhist", b"chinese", b"coptic", b"dangi", b"ethiopic", b"ethioaa", b"gregorian", b"hebrew", b"indian", b"islamic-civil"],
-    *[b"islamic-simulated", b"islamic-tbla", b"islamic-umalqura", b"iso", b"japanese", b"julian", b"persian", b"roc"],
-]
-UNITS = [b"years", b"months", b"weeks", b"days", b"none"]
-OVERFLOWS = [b"constrain", b"reject", b"none"]
-STRATEGIES = [b"reject", b"ecma", b"none"]
-
-# The grammar of a request. INT has an optional sign and 1 to 9 digits; BYTE has 1 to 3 digits and is at most 255.
-INT = rb"-?[0-9]{1,9}"
-BYTE = rb"(?:[01]?[0-9]{1,2}|2[0-4][0-9]|25[0-5])"
-BYTES = rb"[^ \n]*"
-FIELD = rb"|".join([
-    *[rb"era=" + BYTES, rb"era-year=" + INT, rb"year=" + INT, rb"month=M[0-9]{2}L?", rb"month-code=" + BYTES],
-    *[rb"ordinal=" + BYTE, rb"day=" + BYTE],
-])
-BAG = rb"((?: (?:" + FIELD + rb"))*)"
-
-
-def one_of(words: list[bytes]) -> bytes:
-    return rb"(" + rb"|".join(words) + rb")"
-
-
-CALENDAR = one_of(CALENDARS)
-OPTIONS = rb" ".join([one_of(UNITS), one_of(OVERFLOWS), one_of(STRATEGIES)])
-REQUEST = re.compile(rb"span " + CALENDAR + rb" " + CALENDAR + rb" " + OPTIONS + rb" from" + BAG + rb" to" + BAG)
-
-# What may stand as a word of a request, by its place: each word of the form, and near misses of some.
-WORDS = {
-    0: [b"span", b"spans", b"row"],
-    1: [*CALENDARS, b"julia", b"Iso"],
-    2: [*CALENDARS, b"gregory", b"islamic", b""],
-    3: [*UNITS, b"year", b"hours", b"Days"],
-    4: [*OVERFLOWS, b"constrained", b"ecma"],
-    5: [*STRATEGIES, b"ecm", b"constrain"],
-}
-# What may stand in a bag: fields of all keys, at the ends of what they take and past them.
-FIELDS = [
-    *[b"era=", b"era=ce", b"era=ad", b"era=bce", b"era=bc", b"era=default", b"era=ce=", b"era=\xc3\xa9", b"eras=ce", b"era"],
-    *[b"era-year=1", b"era-year=-999999999", b"era-year=1000000000", b"era-year=1040001", b"era-year=+1", b"era_year=1"],
-    *[b"year=0", b"year=-000000001", b"year=0000000001", b"year=999999", b"year=-", b"year=", b"year=--1", b"Year=1"],
-    *[b"month=M00", b"month=M01", b"month=M02", b"month=M12", b"month=M13", b"month=M02L"],
-    *[b"month=M1", b"month=M001", b"month=m01", b"month=M02l", b"month=2", b"month="],
-    *[b"month-code=", b"month-code=M02", b"month-code=M02L", b"month-code=M13", b"month-code=M1", b"month-codes=M02"],
-    *[b"ordinal=0", b"ordinal=2", b"ordinal=012", b"ordinal=13", b"ordinal=255", b"ordinal=256", b"ordinal=-1"],
-    *[b"day=0", b"day=1", b"day=031", b"day=32", b"day=199", b"day=256", b"day=0001", b"day=", b"day=1d", b"days=1"],
-    *[b"from", b"to", b""],
-]
 
 
 def answers(data: bytes) -> tuple[int, list[bytes]]:
@@ -171,11 +128,8 @@ def fault_of_line(line: bytes) -> str | None:
     match = REQUEST.fullmatch(line)
     if not match:
         return "syntax"
-    for bag in match.groups()[-2:]:
-        keys = [field.split(b"=")[0] for field in bag.split(b" ")[1:]]
-        if len(set(keys)) < len(keys):
-            return "syntax"
-    return None
+    once = all(has_each_key_once(bag.split(b" ")[1:]) for bag in match.groups()[-2:])
+    return None if once else "syntax"
 
 
 def is_row(line: bytes) -> bool:
@@ -225,8 +179,9 @@ def check_broken_rows(chance: random.Random, inputs: list[bytes]) -> None:
         raise SystemExit(f"status {status} and {tables!r} for {bytes(data)!r}")
 
 
-def main() -> int:
+def compare_all() -> None:
     count = sum(compare(name) for name in NAMES) + sum(compare_table(name) for name in STATUSES)
+    lists = compare_lists(LISTS)
     chance = random.Random(20260101)
     requests = [line for name in NAMES for line in (HERE / f"{name}.in").read_bytes().split(b"\n")[:-1]]
     for _ in range(BROKEN_INPUTS):
@@ -234,7 +189,20 @@ def main() -> int:
     inputs = [(TABLES / f"{name}.in").read_bytes() for name in STATUSES]
     for _ in range(BROKEN_ROWS):
         check_broken_rows(chance, inputs)
-    print(f"cases: {count} answers agree, and {BROKEN_INPUTS + BROKEN_ROWS} broken inputs are answered")
+    compare_words(chance, cases_of(LISTS), BROKEN_WORDS)
+    print(f"cases: {count} answers and {lists}; {BROKEN_INPUTS + BROKEN_ROWS} broken inputs and {BROKEN_WORDS} broken command lines are answered")
+
+
+def main() -> int:
+    arguments = argparse.ArgumentParser(description=__doc__, formatter_class=argparse.RawDescriptionHelpFormatter)
+    arguments.add_argument("--lists", type=Path, metavar="FILE", help="compare the lists of this file, of the form of lists.jsonl, and nothing else")
+    path = arguments.parse_args().lists
+    if path:
+        # The script builds the program where a source is newer; lists are asked of what it built.
+        subprocess.run(PROGRAM, stdin=subprocess.DEVNULL, check=False)
+        print(f"cases: {compare_lists(path)}")
+    else:
+        compare_all()
     return 0
 
 

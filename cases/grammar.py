@@ -1,0 +1,102 @@
+"""The words of requests and of commands: what each may be, by a grammar of its own, and words that are nearly one of these."""
+
+import re
+
+CALENDARS = [
+    *[b"buddhist", b"chinese", b"coptic", b"dangi", b"ethiopic", b"ethioaa", b"gregorian", b"hebrew", b"indian", b"islamic-civil"],
+    *[b"islamic-simulated", b"islamic-tbla", b"islamic-umalqura", b"iso", b"japanese", b"julian", b"persian", b"roc"],
+]
+UNITS = [b"years", b"months", b"weeks", b"days", b"none"]
+OVERFLOWS = [b"constrain", b"reject", b"none"]
+STRATEGIES = [b"reject", b"ecma", b"none"]
+LEAPINGS = [b"exact", b"constrain"]
+MISSINGS = [b"skip", b"constrain"]
+
+# INT has an optional sign and 1 to 9 digits; BYTE has 1 to 3 digits and is at most 255.
+INT = rb"-?[0-9]{1,9}"
+BYTE = rb"(?:[01]?[0-9]{1,2}|2[0-4][0-9]|25[0-5])"
+BYTES = rb"[^ \n]*"
+CODE = rb"M[0-9]{2}L?"
+FIELD = rb"|".join([
+    *[rb"era=" + BYTES, rb"era-year=" + INT, rb"year=" + INT, rb"month=" + CODE, rb"month-code=" + BYTES],
+    *[rb"ordinal=" + BYTE, rb"day=" + BYTE],
+])
+BAG = rb"((?: (?:" + FIELD + rb"))*)"
+
+
+def one_of(words: list[bytes]) -> bytes:
+    return rb"(" + rb"|".join(words) + rb")"
+
+
+CALENDAR = one_of(CALENDARS)
+OPTIONS = rb" ".join([one_of(UNITS), one_of(OVERFLOWS), one_of(STRATEGIES)])
+REQUEST = re.compile(rb"span " + CALENDAR + rb" " + CALENDAR + rb" " + OPTIONS + rb" from" + BAG + rb" to" + BAG)
+
+# The words behind the name of a command. Those of `recur` are followed by fields.
+FORMS = {
+    b"span": [],
+    b"gen": [rb"0?[0-9]{1,5}|100000"],
+    b"anniversary": [CALENDAR, CALENDAR, one_of(LEAPINGS), CODE, BYTE, INT, INT],
+    b"recur": [CALENDAR, CALENDAR, one_of(UNITS[:4]), rb"[0-9]{1,9}", one_of(MISSINGS), INT, INT],
+}
+
+# What may stand as a word of a request, by its place: each word of the form, and near misses of some.
+WORDS = {
+    0: [b"span", b"spans", b"row"],
+    1: [*CALENDARS, b"julia", b"Iso"],
+    2: [*CALENDARS, b"gregory", b"islamic", b""],
+    3: [*UNITS, b"year", b"hours", b"Days"],
+    4: [*OVERFLOWS, b"constrained", b"ecma"],
+    5: [*STRATEGIES, b"ecm", b"constrain"],
+}
+# What may stand in a bag: fields of all keys, at the ends of what they take and past them.
+FIELDS = [
+    *[b"era=", b"era=ce", b"era=ad", b"era=bce", b"era=bc", b"era=default", b"era=ce=", b"era=\xc3\xa9", b"eras=ce", b"era"],
+    *[b"era-year=1", b"era-year=-999999999", b"era-year=1000000000", b"era-year=1040001", b"era-year=+1", b"era_year=1"],
+    *[b"year=0", b"year=-000000001", b"year=0000000001", b"year=999999", b"year=-", b"year=", b"year=--1", b"Year=1"],
+    *[b"month=M00", b"month=M01", b"month=M02", b"month=M12", b"month=M13", b"month=M02L"],
+    *[b"month=M1", b"month=M001", b"month=m01", b"month=M02l", b"month=2", b"month="],
+    *[b"month-code=", b"month-code=M02", b"month-code=M02L", b"month-code=M13", b"month-code=M1", b"month-codes=M02"],
+    *[b"ordinal=0", b"ordinal=2", b"ordinal=012", b"ordinal=13", b"ordinal=255", b"ordinal=256", b"ordinal=-1"],
+    *[b"day=0", b"day=1", b"day=031", b"day=32", b"day=199", b"day=256", b"day=0001", b"day=", b"day=1d", b"days=1"],
+    *[b"from", b"to", b""],
+]
+
+# What may stand as a word behind the name of a command, by its place, and what may stand anywhere.
+SHOWN = [*CALENDARS, b"julia", b"Iso", b"iso ", b""]
+DAYS = [b"-365242500", b"-365242499", b"365242134", b"365242135", b"-000000001", b"0000000001", b"999999999", b"-", b"+1", b"1\n"]
+CODES = [b"M00", b"M01", b"M02", b"M05L", b"M12", b"M13", b"M99L", b"M1", b"m01", b"M02l", b"M001", b"2"]
+NEAR = {
+    b"gen": [[b"0", b"007", b"100", b"0100000", b"100001", b"-1", b""]],
+    b"anniversary": [SHOWN, SHOWN, [*LEAPINGS, b"skip"], CODES, [b"0", b"029", b"30", b"255", b"256", b"-1", b"0001"], DAYS, DAYS],
+    b"recur": [SHOWN, SHOWN, [*UNITS, b"day"], [b"0", b"1", b"000000012", b"999999999", b"1000000000", b"-1", b""], MISSINGS, DAYS, DAYS],
+}
+ANYWHERE = [
+    *[b"span", b"gen", b"anniversary", b"recur", b"iso", b"exact", b"constrain", b"M02", b"1", b"-1", b"", b" ", b"day=1 month=M02"],
+    *[b"era=\n", b"era=\t", b"era=\xff", b"\xff", *FIELDS],
+]
+
+
+def has_each_key_once(fields: list[bytes]) -> bool:
+    keys = [field.split(b"=")[0] for field in fields]
+    return len(set(keys)) == len(keys)
+
+
+def are_fields(words: list[bytes]) -> bool:
+    return all(re.fullmatch(FIELD, word) for word in words) and has_each_key_once(words)
+
+
+def is_text(word: bytes) -> bool:
+    """Whether the word is UTF-8, as each word of a command must be."""
+    return word == word.decode(errors="ignore").encode()
+
+
+def is_command(words: list[bytes]) -> bool:
+    """Whether these are the words of a command line that the program takes."""
+    if not words or words[0] not in FORMS or not all(map(is_text, words)):
+        return False
+    form, given = FORMS[words[0]], words[1:]
+    fixed, fields = given[: len(form)], given[len(form) :]
+    if len(fixed) < len(form) or fields and words[0] != b"recur":
+        return False
+    return all(map(re.fullmatch, form, fixed)) and are_fields(fields)
