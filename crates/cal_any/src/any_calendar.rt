@@ -28,6 +28,11 @@ use std::cmp::Ordering;
 use std::sync::ledger::Ledger;
 
 /// Any of the calendars.
+///
+/// A function that names the lifetime, as in `fn f<'t>(a: &Date<AnyCalendar<'t>>, b: &Date<AnyCalendar<'t>>)`, can't be
+/// proved today where it writes `a == b`, `a < b` or `*a`. Write `a.same_date(b)` and `a.date_cmp(b)`, which say the
+/// same as the operators, or call a function over any `A: AsCalendar`, which may compare. The calendar itself is
+/// copied, so a second date of the same day is `Date::from_rata_die(a.to_rata_die(), calendar)`.
 #[derive(Clone, Copy, Debug)]
 pub enum AnyCalendar<'t> {
     /// The Buddhist calendar.

@@ -8,7 +8,7 @@ use Rattle.cal_spans.proofs.SpanLemmas.{span-exists, span-unique}
 use Rattle.request_lines.specs.Lines.{Line, Nothing, GivesRow, Requests, RequestLine, Long, Asks, Malformed, line_of}
 use Rattle.request_lines.proofs.LineLemmas.{line_says, line_is}
 use Rattle.reply_texts.specs.DateTexts.{reply_text, is_refusal}
-use Rattle.calspan_run.specs.Answers.{Standing, Answering, Ended, IsRequestAnswer, AnswersRequest, IsAnswerTo, AnswersLine, AreAnswers, AnswersAll, status_at, span_behind, IsAnswers}
+use Rattle.calspan_run.specs.Answers.{Standing, Answering, Ended, IsRequestAnswer, IsAnswerTo, AnswersLine, AreAnswers, AnswersAll, status_at, span_behind, IsAnswers}
 use Rattle.calspan_run.specs.BehindRows.{OverTables, RefusesTables}
 use Rattle.calspan_run.specs.Laws.{EveryInputHas, IsUnique, PrefixesHavePrefixes, AreLasting}
 use Rattle.calspan_run.specs.Refusals.{refusal, status_of}

@@ -1,9 +1,6 @@
 -- The lines of days, and windows.
-use Rattle.std.proofs.Common.{◌≡◌, ℕ, ℤ, Bool, true, false, ◌&&◌, int_le, List, [], ◌∷◌, ◌++◌, Option, Some, None, IfSome, IsSome, MatchOption, refl, sym, ap, subst, ◌∙◌, arith, ◌≤ℤ◌}
+use Rattle.std.proofs.Common.{◌≡◌, ℕ, ℤ, List, [], ◌∷◌, ◌++◌, ap, ◌∙◌}
 use Rattle.std.proofs.lemmas.List.{append_assoc}
-use Rattle.cal_days.specs.Day.{IsValidDay, is_valid_day}
-use Rattle.cal_days.proofs.RangeLemmas.{is_between-true, true-is_between}
-use Rattle.cal_days.proofs.Signed.{signed}
 use Rattle.cal_model.specs.CalendarList.{Date, IsLawful, IsOn}
 use Rattle.cal_model.specs.CalendarSystem.{CalendarSystem}
 use Rattle.cal_model.specs.DayDates.{date_on}

@@ -1,5 +1,5 @@
 -- The lines of an input: those whose LF came, and what follows the last one.
-use Rattle.std.proofs.Common.{◌≡◌, ℕ, ◌≤◌, Bool, true, false, cond, nat_lt, List, [], ◌∷◌, ◌++◌, length, ◌==◌, Option, ◌⊎◌, inl, inr, refl, arith, ◌∙◌, sym, ap, subst}
+use Rattle.std.proofs.Common.{◌≡◌, ℕ, ◌≤◌, Bool, true, false, cond, nat_lt, List, [], ◌∷◌, ◌++◌, length, ◌==◌, Option, ◌⊎◌, inl, inr, refl, arith, ◌∙◌, ap, subst}
 use Rattle.std.proofs.lemmas.List.{append-nil, append_assoc}
 use Rattle.std.specs.Io.KnownBytes.{Consumes}
 use borrow.Author.Tests.{ltb-false}

@@ -1,8 +1,6 @@
 -- A run that gathered rows, and then wrote one text.
-use Rattle.std.proofs.Common.{◌≡◌, ℕ, ◌≤◌, Bool, true, false, cond, nat_lt, codes, List, [], length, take, drop, Option, ◌⊎◌, inl, inr, refl, ◌∙◌, sym, ap, subst}
-use Rattle.std.proofs.lemmas.List.{take_all, take-append-drop}
-use Rattle.std.specs.Io.KnownBytes.{Appends, IsAtEnd}
-use Rattle.byte_io.specs.Faults.{Rose}
+use Rattle.std.proofs.Common.{◌≡◌, ℕ, Bool, true, false, cond, nat_lt, codes, List, [], length, Option, inl, inr, refl, ◌∙◌, sym, ap, subst}
+use Rattle.std.proofs.lemmas.List.{take_all}
 use Rattle.cal_tables.specs.Kinds.{TableContents}
 use Rattle.line_reader.specs.Buffer.{Holds}
 use Rattle.line_reader.specs.declared.buffer.LineBuffer.{LineBuffer}
@@ -12,15 +10,13 @@ use Rattle.calspan_run.specs.Refusals.{refusal, status_of}
 use Rattle.calspan_run.specs.BehindRows.{OverTables, SaysBehindRows}
 use Rattle.calspan_run.specs.Endings.{EndsWith, MayEnd}
 use Rattle.calspan_run.specs.ListAnswers.{line_refusal, list_behind, list_end}
-use Rattle.calspan_run.specs.Laws.{AreLasting}
 use Rattle.calspan_run.specs.RowLines.{WithLines, AtFaultyRow, AtRequest}
 use Rattle.calspan_run.specs.Gathering.{MetEnd, MetFaulty, MetOther, Stops}
 use Rattle.calspan_run.specs.Rules.{list_rules}
 use Rattle.calspan_run.specs.Run.{outside, limit}
-use Rattle.calspan_run.specs.Serving.{Rules, Answered, StoppedWriting, Serves}
+use Rattle.calspan_run.specs.Serving.{Serves}
 use Rattle.calspan_run.specs.TableRows.{TableRows}
 use Rattle.calspan_run.specs.TableTexts.{row_refusal}
-use Rattle.calspan_run.specs.Written.{WrotePrefix}
 use Rattle.calspan_run.specs.declared.status.Status.{Status}
 use Rattle.calspan_run.specs.declared.status.Status.TheVariants.{Done, Refused, Words, ReadFault, WriteFault, NoMemory, TableRefused, TooLong}
 use Rattle.calspan_run.specs.declared.rows.table.RowFault.{RowFault}

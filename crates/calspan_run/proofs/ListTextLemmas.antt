@@ -1,5 +1,5 @@
 -- The texts of lists: there is one over any tables, and one only; and what a run of a list holds to.
-use Rattle.std.proofs.Common.{◌≡◌, ℕ, zero, suc, ◌*◌, ◌<◌, ◌==◌, ℤ, Bool, true, false, cond, List, Option, Some, None, MatchBool, Result, Ok, Err, codes, refl, sym, ap, subst, ◌∙◌, arith}
+use Rattle.std.proofs.Common.{◌≡◌, ℕ, zero, suc, ◌*◌, ◌==◌, ℤ, Bool, true, false, cond, List, Option, Some, None, MatchBool, Result, Ok, Err, codes, refl, sym, ap, ◌∙◌, arith}
 use Rattle.std.proofs.lemmas.Bool.{false≢true}
 use Rattle.std.specs.Option.{option_and_then}
 use Rattle.cal_days.specs.Day.{is_between}

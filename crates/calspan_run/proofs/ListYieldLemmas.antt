@@ -1,10 +1,10 @@
 -- The items of lists: each lies in the window, so that its line can be written.
-use Rattle.std.proofs.Common.{◌≡◌, ℕ, zero, suc, ◌+◌, ◌*◌, ◌<◌, ℤ, pos, ◌+ℤ◌, ◌-ℤ◌, ◌≤ℤ◌, ◌<ℤ◌, Bool, true, false, cond, List, [], ◌∷◌, ◌++◌, filter, Option, Some, None, refl, sym, ap, subst, ◌∙◌, arith}
+use Rattle.std.proofs.Common.{◌≡◌, ℕ, zero, suc, ℤ, pos, ◌+ℤ◌, ◌-ℤ◌, ◌≤ℤ◌, ◌<ℤ◌, Bool, true, false, cond, List, [], ◌∷◌, ◌++◌, filter, Option, Some, None, refl, sym, subst, arith}
 use Rattle.cal_days.specs.Day.{IsBetween, IsValidDay}
 use Rattle.cal_days.specs.Sums.{years_up}
 use Rattle.cal_days.proofs.Signed.{signed}
 use Rattle.cal_types.specs.MonthParts.{month_parts}
-use Rattle.cal_types.specs.Windows.{days_from, days_between}
+use Rattle.cal_types.specs.Windows.{days_from}
 use Rattle.cal_types.specs.declared.window.Window.{Window}
 use Rattle.cal_model.specs.Anniversary.{is_anniversary}
 use Rattle.cal_model.specs.CalendarList.{CalendarList, Date}

@@ -1,7 +1,6 @@
 -- The texts of lists as they are written.
 use Rattle.std.proofs.Common.{◌≡◌, ◌≢◌, ℕ, ◌<◌, ◌==◌, Bool, true, false, cond, List, ◌∷◌, Option, Some, None, Result, Ok, Err, MatchBool, ⊎_elim, codes, refl, sym, ap, subst, ◌∙◌, arith}
 use Rattle.std.proofs.lemmas.Bool.Decides.{eqb_tells}
-use Rattle.std.specs.Option.{option_map}
 use Rattle.byte_io.specs.declared.Failed.{Failed}
 use Rattle.cal_errors.specs.declared.errors.DateFromFieldsError.{DateFromFieldsError}
 use Rattle.cal_types.specs.Bag.{Bag}

@@ -1,5 +1,5 @@
 -- What `anniversary` writes.
-use Rattle.std.specs.Prelude.{ℕ, ℤ, List, Option, Some, None, Result, Ok, Err, codes, if◌then◌else◌}
+use Rattle.std.specs.Prelude.{ℕ, List, Option, Some, None, Result, Ok, Err, codes, if◌then◌else◌}
 use Rattle.cal_anniversary.specs.Asking.{anniversary_fault}
 use Rattle.cal_anniversary.specs.declared.errors.AnniversaryError.{AnniversaryError}
 use Rattle.cal_anniversary.specs.declared.errors.AnniversaryError.TheVariants.{MonthNotInCalendar, InvalidDay}

@@ -1,5 +1,4 @@
 -- What the program's values of commands say.
-use Rattle.std.specs.Prelude.{ℕ}
 use Rattle.cal_types.specs.Bag.{bag_of}
 use Rattle.cal_types.specs.MonthParts.{month_parts}
 use Rattle.calspan_run.specs.Asked as asked

@@ -1,5 +1,5 @@
 -- What `recur` writes.
-use Rattle.std.specs.Prelude.{◌≡◌, ℕ, ◌==◌, List, MatchBool, Option, None, Result, Ok, Err, codes}
+use Rattle.std.specs.Prelude.{◌≡◌, ℕ, ◌==◌, List, MatchBool, None, Result, Ok, Err, codes}
 use Rattle.cal_errors.specs.declared.errors.DateFromFieldsError.{DateFromFieldsError}
 use Rattle.cal_types.specs.declared.options.DateFromFieldsOptions.{DateFromFieldsOptions}
 use Rattle.cal_model.specs.CalendarList.{Date}

@@ -47,11 +47,7 @@ fn at_end<'a>(command: Command<'a>, words: &CommandWords) -> Option<Command<'a>>
     ensures said { option_map command_said result ≡ at_end (command_said command.entry) (words_left words.now) }
     ensures few { IfSome result (λ c. is_command (command_said c)) }
 {
-    if words.is_done() {
-        Some(command)
-    } else {
-        None
-    }
+    if words.is_done() { Some(command) } else { None }
 }
 
 // The command that the words behind `gen` make.

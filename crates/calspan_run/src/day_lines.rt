@@ -53,7 +53,10 @@ pub(crate) fn window_of(first: i32, last: i32) -> Option<Window>
     ensures none { MatchOption result (is_window first last ≡ false)
         (λ w. (is_window first last ≡ true) × (w.first ≡ first) × (w.last ≡ last)) }
 {
-    Window::try_new(RataDie::new(i64::from(first)), RataDie::new(i64::from(last)))
+    Window::try_new(
+        RataDie::new(i64::from(first)),
+        RataDie::new(i64::from(last)),
+    )
 }
 
 /// Refuses a list, for a reason of at most 100 bytes.

@@ -70,7 +70,13 @@ impl CalendarListing for InWindow {
         sink: &mut K,
     ) -> Result<bool, Failed> {
         let words = self.words;
-        let days = match anniversaries(calendar, words.month, words.day, words.leaping, self.window) {
+        let days = match anniversaries(
+            calendar,
+            words.month,
+            words.day,
+            words.leaping,
+            self.window,
+        ) {
             Ok(days) => days,
             Err(error) => return refuse_list(error_name(error), sink),
         };

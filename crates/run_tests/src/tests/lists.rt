@@ -40,13 +40,31 @@ const HEBREW_DAYS: &[u8] = b"5782/am.5782/M05L/10@738197 2022/default.2022/M02/1
 fn a_leap_month_comes_in_leap_years_or_has_a_stand_in(rt: HostRuntime) -> Result<(), Fail> {
     let lists = [
         List {
-            words: &["anniversary", "hebrew", "iso", "exact", "M05L", "10", "738000", "740029"],
+            words: &[
+                "anniversary",
+                "hebrew",
+                "iso",
+                "exact",
+                "M05L",
+                "10",
+                "738000",
+                "740029",
+            ],
             source: b"",
             text: HEBREW_DAYS,
             status: Status::Done,
         },
         List {
-            words: &["anniversary", "hebrew", "iso", "constrain", "M05L", "10", "738197", "738935"],
+            words: &[
+                "anniversary",
+                "hebrew",
+                "iso",
+                "constrain",
+                "M05L",
+                "10",
+                "738197",
+                "738935",
+            ],
             source: b"",
             text: b"5782/am.5782/M05L/10@738197 2022/default.2022/M02/11@738197
 5783/am.5783/M06/10@738582 2023/default.2023/M03/03@738582
@@ -55,7 +73,16 @@ fn a_leap_month_comes_in_leap_years_or_has_a_stand_in(rt: HostRuntime) -> Result
             status: Status::Done,
         },
         List {
-            words: &["anniversary", "iso", "iso", "exact", "M02", "29", "737850", "738000"],
+            words: &[
+                "anniversary",
+                "iso",
+                "iso",
+                "exact",
+                "M02",
+                "29",
+                "737850",
+                "738000",
+            ],
             source: b"",
             text: b"",
             status: Status::Done,
@@ -69,7 +96,16 @@ fn the_31st_counts_from_the_start(rt: HostRuntime) -> Result<(), Fail> {
     let lists = [
         List {
             words: &[
-                "recur", "iso", "gregorian", "months", "1", "constrain", "737821", "737910", "year=2021", "month=M01",
+                "recur",
+                "iso",
+                "gregorian",
+                "months",
+                "1",
+                "constrain",
+                "737821",
+                "737910",
+                "year=2021",
+                "month=M01",
                 "day=31",
             ],
             source: b"",
@@ -82,7 +118,16 @@ fn the_31st_counts_from_the_start(rt: HostRuntime) -> Result<(), Fail> {
         },
         List {
             words: &[
-                "recur", "iso", "gregorian", "months", "1", "skip", "737821", "737910", "day=31", "month=M01",
+                "recur",
+                "iso",
+                "gregorian",
+                "months",
+                "1",
+                "skip",
+                "737821",
+                "737910",
+                "day=31",
+                "month=M01",
                 "year=2021",
             ],
             source: b"",
@@ -93,7 +138,17 @@ fn the_31st_counts_from_the_start(rt: HostRuntime) -> Result<(), Fail> {
         },
         List {
             words: &[
-                "recur", "hebrew", "iso", "years", "1", "skip", "738000", "740029", "year=5782", "month=M05L", "day=10",
+                "recur",
+                "hebrew",
+                "iso",
+                "years",
+                "1",
+                "skip",
+                "738000",
+                "740029",
+                "year=5782",
+                "month=M05L",
+                "day=10",
             ],
             source: b"",
             text: b"0 5782/am.5782/M05L/10@738197 2022/default.2022/M02/11@738197
@@ -119,19 +174,84 @@ fn refused(words: &'static [&'static str], text: &'static [u8]) -> List {
 #[test]
 fn the_window_is_refused_first(rt: HostRuntime) -> Result<(), Fail> {
     let lists = [
-        refused(&["anniversary", "iso", "iso", "exact", "M13", "1", "1", "2"], b"err MonthNotInCalendar\n"),
-        refused(&["anniversary", "iso", "iso", "exact", "M13", "32", "1", "2"], b"err MonthNotInCalendar\n"),
-        refused(&["anniversary", "iso", "iso", "exact", "M02", "32", "1", "2"], b"err InvalidDay\n"),
-        refused(&["anniversary", "iso", "iso", "exact", "M02", "0", "1", "2"], b"err InvalidDay\n"),
-        refused(&["anniversary", "iso", "iso", "exact", "M13", "1", "2", "1"], b"err InvalidWindow\n"),
-        refused(&["anniversary", "iso", "iso", "exact", "M02", "1", "-365242500", "1"], b"err InvalidWindow\n"),
-        refused(&["anniversary", "iso", "iso", "exact", "M02", "1", "1", "365242135"], b"err InvalidWindow\n"),
-        refused(&["recur", "iso", "iso", "days", "0", "skip", "1", "2"], b"err Every\n"),
-        refused(&["recur", "iso", "iso", "days", "0", "skip", "2", "1"], b"err InvalidWindow\n"),
-        refused(&["recur", "iso", "iso", "days", "1", "skip", "1", "2"], b"err NotEnoughFields\n"),
-        refused(&["recur", "iso", "iso", "days", "1", "skip", "1", "2", "era=x", "year=1"], b"err NotEnoughFields\n"),
         refused(
-            &["recur", "iso", "iso", "days", "1", "constrain", "1", "2", "year=2021", "month=M02", "day=29"],
+            &["anniversary", "iso", "iso", "exact", "M13", "1", "1", "2"],
+            b"err MonthNotInCalendar\n",
+        ),
+        refused(
+            &["anniversary", "iso", "iso", "exact", "M13", "32", "1", "2"],
+            b"err MonthNotInCalendar\n",
+        ),
+        refused(
+            &["anniversary", "iso", "iso", "exact", "M02", "32", "1", "2"],
+            b"err InvalidDay\n",
+        ),
+        refused(
+            &["anniversary", "iso", "iso", "exact", "M02", "0", "1", "2"],
+            b"err InvalidDay\n",
+        ),
+        refused(
+            &["anniversary", "iso", "iso", "exact", "M13", "1", "2", "1"],
+            b"err InvalidWindow\n",
+        ),
+        refused(
+            &[
+                "anniversary",
+                "iso",
+                "iso",
+                "exact",
+                "M02",
+                "1",
+                "-365242500",
+                "1",
+            ],
+            b"err InvalidWindow\n",
+        ),
+        refused(
+            &[
+                "anniversary",
+                "iso",
+                "iso",
+                "exact",
+                "M02",
+                "1",
+                "1",
+                "365242135",
+            ],
+            b"err InvalidWindow\n",
+        ),
+        refused(
+            &["recur", "iso", "iso", "days", "0", "skip", "1", "2"],
+            b"err Every\n",
+        ),
+        refused(
+            &["recur", "iso", "iso", "days", "0", "skip", "2", "1"],
+            b"err InvalidWindow\n",
+        ),
+        refused(
+            &["recur", "iso", "iso", "days", "1", "skip", "1", "2"],
+            b"err NotEnoughFields\n",
+        ),
+        refused(
+            &[
+                "recur", "iso", "iso", "days", "1", "skip", "1", "2", "era=x", "year=1",
+            ],
+            b"err NotEnoughFields\n",
+        ),
+        refused(
+            &[
+                "recur",
+                "iso",
+                "iso",
+                "days",
+                "1",
+                "constrain",
+                "1",
+                "2",
+                "year=2021",
+                "month=M02",
+                "day=29",
+            ],
             b"err InvalidDay 28\n",
         ),
     ];
@@ -143,7 +263,17 @@ fn words_off_the_form_read_nothing(rt: HostRuntime) -> Result<(), Fail> {
     let words: [&[&'static str]; 14] = [
         &["anniversary"],
         &["anniversary", "iso", "iso", "exact", "M02", "1", "1"],
-        &["anniversary", "iso", "iso", "exact", "M02", "1", "1", "2", "3"],
+        &[
+            "anniversary",
+            "iso",
+            "iso",
+            "exact",
+            "M02",
+            "1",
+            "1",
+            "2",
+            "3",
+        ],
         &["anniversary", "iso", "spam", "exact", "M02", "1", "1", "2"],
         &["anniversary", "iso", "iso", "skip", "M02", "1", "1", "2"],
         &["anniversary", "iso", "iso", "exact", "M2", "1", "1", "2"],
@@ -151,10 +281,33 @@ fn words_off_the_form_read_nothing(rt: HostRuntime) -> Result<(), Fail> {
         &["anniversary", "iso", "iso", "exact", "M02", "1", "+1", "2"],
         &["recur", "iso", "iso", "days", "1", "exact", "1", "2"],
         &["recur", "iso", "iso", "none", "1", "skip", "1", "2"],
-        &["recur", "iso", "iso", "days", "1234567890", "skip", "1", "2"],
-        &["recur", "iso", "iso", "days", "1", "skip", "1", "2", "year=1", "year=1"],
-        &["recur", "iso", "iso", "days", "1", "skip", "1", "2", "era=a b"],
-        &["recur", "iso", "iso", "days", "1", "skip", "1", "2", "month-code=a\nb"],
+        &[
+            "recur",
+            "iso",
+            "iso",
+            "days",
+            "1234567890",
+            "skip",
+            "1",
+            "2",
+        ],
+        &[
+            "recur", "iso", "iso", "days", "1", "skip", "1", "2", "year=1", "year=1",
+        ],
+        &[
+            "recur", "iso", "iso", "days", "1", "skip", "1", "2", "era=a b",
+        ],
+        &[
+            "recur",
+            "iso",
+            "iso",
+            "days",
+            "1",
+            "skip",
+            "1",
+            "2",
+            "month-code=a\nb",
+        ],
     ];
     let source: &[u8] = b"row persian 1502\n";
     for list in words {
@@ -170,7 +323,16 @@ fn words_off_the_form_read_nothing(rt: HostRuntime) -> Result<(), Fail> {
     Ok(())
 }
 
-const SAFAR: &[&str] = &["anniversary", "islamic-umalqura", "iso", "exact", "M02", "1", "738720", "739100"];
+const SAFAR: &[&str] = &[
+    "anniversary",
+    "islamic-umalqura",
+    "iso",
+    "exact",
+    "M02",
+    "1",
+    "738720",
+    "739100",
+];
 
 /// The list of the first days of Safar over a source.
 fn safar(source: &'static [u8], text: &'static [u8], status: Status) -> List {
@@ -200,9 +362,21 @@ fn rows_of_the_source_serve_a_list(rt: HostRuntime) -> Result<(), Fail> {
             b"1445/ah.1445/M02/01@738749 2023/default.2023/M08/17@738749\n",
             Status::Done,
         ),
-        safar(b"row hijri 1445 738720 sllslslslsls\n", b"table hijri 1 end\n", Status::TableRefused),
-        safar(b"\nrow hijri x\nspam\n", b"table line 2 syntax\n", Status::TableRefused),
-        safar(b"row hijri 1445 738720 sllslslslsls\n\nspam\n", b"err line 3 syntax\n", Status::Refused),
+        safar(
+            b"row hijri 1445 738720 sllslslslsls\n",
+            b"table hijri 1 end\n",
+            Status::TableRefused,
+        ),
+        safar(
+            b"\nrow hijri x\nspam\n",
+            b"table line 2 syntax\n",
+            Status::TableRefused,
+        ),
+        safar(
+            b"row hijri 1445 738720 sllslslslsls\n\nspam\n",
+            b"err line 3 syntax\n",
+            Status::Refused,
+        ),
         safar(
             b"span iso iso days none none from year=1 month=M01 day=1 to year=1 month=M01 day=1\n",
             b"err line 1 syntax\n",
@@ -242,7 +416,16 @@ fn a_long_line_of_the_source_is_refused(rt: HostRuntime) -> Result<(), Fail> {
 
 #[test]
 fn a_failed_read_writes_nothing_and_a_failed_write_a_prefix(rt: HostRuntime) -> Result<(), Fail> {
-    let words: &[&'static str] = &["anniversary", "hebrew", "iso", "exact", "M05L", "10", "738000", "740029"];
+    let words: &[&'static str] = &[
+        "anniversary",
+        "hebrew",
+        "iso",
+        "exact",
+        "M05L",
+        "10",
+        "738000",
+        "740029",
+    ];
     let source: &[u8] = b"# nothing\n";
     for (call, status, text) in [
         (1u64, Status::ReadFault, b"".as_slice()),
@@ -261,7 +444,10 @@ fn a_failed_read_writes_nothing_and_a_failed_write_a_prefix(rt: HostRuntime) -> 
         };
         let _left = assert_run(&rt, rt.alloc(), case, status, text)?;
     }
-    for (call, status, written) in [(1u64, Status::WriteFault, 0usize), (3, Status::WriteFault, 14)] {
+    for (call, status, written) in [
+        (1u64, Status::WriteFault, 0usize),
+        (3, Status::WriteFault, 14),
+    ] {
         let failing = [call];
         let case = Case {
             words,

@@ -1,4 +1,4 @@
-use Rattle.std.proofs.Common.{List, ℕ, ◌++◌, [], None, inl, refl, ap, ◌∙◌}
+use Rattle.std.proofs.Common.{List, ℕ, ◌++◌, None, inl, refl, ap, ◌∙◌}
 use Rattle.calspan_run.specs.Generator.{totals_text}
 use Rattle.calspan_run.specs.Rules.{generator_rules}
 use Rattle.calspan_run.specs.declared.status.Status.TheVariants.{Done}

@@ -1,4 +1,4 @@
-use Rattle.std.proofs.Common.{◌≡◌, List, ℤ, false, ap, ◌∙◌}
+use Rattle.std.proofs.Common.{ℤ, false, ap, ◌∙◌}
 use Rattle.cal_anniversary.specs.Listing.{GoesOn, days_left}
 use Rattle.cal_model.specs.Anniversary.{anniversaries_between}
 use Rattle.cal_recur.proofs.IteratorLemmas.{YieldsList-from_more}
@@ -24,7 +24,7 @@ returns-in_err-write_lines-clause-listed g c =
     let a = anniversary_said self.words in
     let all = anniversaries_between s.list a.leaping a.month a.day a.first a.last in
     let list = c.in-Ok.ensures.list
-        ∙ (ap (λ (n : ℤ). anniversaries_between s.list a.leaping a.month a.day n self.window.last) self.first ∙ ap (λ (n : ℤ). anniversaries_between s.list a.leaping a.month a.day a.first n) self.last) in
+    ∙ (ap (λ (n : ℤ). anniversaries_between s.list a.leaping a.month a.day n self.window.last) self.first ∙ ap (λ (n : ℤ). anniversaries_between s.list a.leaping a.month a.day a.first n) self.last) in
     let yields = (YieldsList-from_more (λ i. days_left (g.C.Calendar.system i.calendar).list i.asked i.rest) (λ i r t. GoesOn i.calendar t.calendar i.asked t.asked i.rest r t.rest) all list).runs in
     listed_err c.from_residual.result _ _ (IsListText (anniversaries_in s shown a)) (lines_text (day_line s shown) all) false c.from_residual.ensures.0
     (lines_listed _ (lines_text (day_line s shown) all) c.in-Ok.ensures.fault) (c.in_err-write_lines.ensures.wrote all yields)
@@ -37,6 +37,6 @@ returns-clause-listed g c =
     let a = anniversary_said self.words in
     let all = anniversaries_between s.list a.leaping a.month a.day a.first a.last in
     let list = c.in-Ok.ensures.list
-        ∙ (ap (λ (n : ℤ). anniversaries_between s.list a.leaping a.month a.day n self.window.last) self.first ∙ ap (λ (n : ℤ). anniversaries_between s.list a.leaping a.month a.day a.first n) self.last) in
+    ∙ (ap (λ (n : ℤ). anniversaries_between s.list a.leaping a.month a.day n self.window.last) self.first ∙ ap (λ (n : ℤ). anniversaries_between s.list a.leaping a.month a.day a.first n) self.last) in
     let yields = (YieldsList-from_more (λ i. days_left (g.C.Calendar.system i.calendar).list i.asked i.rest) (λ i r t. GoesOn i.calendar t.calendar i.asked t.asked i.rest r t.rest) all list).runs in
     (lines_text (day_line s shown) all, lines_listed _ (lines_text (day_line s shown) all) c.in-Ok.ensures.fault, c.in_ok-write_lines.ensures.wrote all yields)

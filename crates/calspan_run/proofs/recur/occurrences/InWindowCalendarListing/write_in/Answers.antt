@@ -1,4 +1,4 @@
-use Rattle.std.proofs.Common.{◌≡◌, List, ℤ, false, ap, ◌∙◌}
+use Rattle.std.proofs.Common.{ℤ, false, ap, ◌∙◌}
 use Rattle.cal_model.specs.CalendarSystem.{resolve_fields}
 use Rattle.cal_recur.specs.Listing.{GoesOn, occurrences, occurrences_left}
 use Rattle.cal_recur.proofs.IteratorLemmas.{YieldsList-from_more}
@@ -26,9 +26,9 @@ returns-in_err-write_lines-clause-listed g c =
     let start = g.C.Calendar.date_of c.args.calendar c.in-Ok.start in
     let all = occurrences s start self.rule a.header.first a.header.last in
     let list = c.recur-items.ensures.items
-        ∙ (ap (λ (n : ℤ). occurrences s start self.rule n self.window.last) self.first ∙ ap (λ (n : ℤ). occurrences s start self.rule a.header.first n) self.last) in
+    ∙ (ap (λ (n : ℤ). occurrences s start self.rule n self.window.last) self.first ∙ ap (λ (n : ℤ). occurrences s start self.rule a.header.first n) self.last) in
     let yields = (YieldsList-from_more (λ i. occurrences_left (g.C.Calendar.system i.calendar) (g.C.Calendar.date_of i.calendar i.start) i.rule i.rest)
-        (λ i r t. GoesOn i.calendar t.calendar i.start t.start i.rule t.rule i.rest r t.rest) all list).runs in
+    (λ i r t. GoesOn i.calendar t.calendar i.start t.start i.rule t.rule i.rest r t.rest) all list).runs in
     listed_err c.from_residual.result _ _ (IsListText (occurrence_lines s shown a self.rule (resolve_fields s a.start no_options))) (lines_text (occurrence_line s shown) all) false c.from_residual.ensures.0
     (occurrences_listed s shown a self.rule (resolve_fields s a.start no_options) start c.in-Ok.ensures.resolved) (c.in_err-write_lines.ensures.wrote all yields)
 
@@ -41,7 +41,7 @@ returns-clause-listed g c =
     let start = g.C.Calendar.date_of c.args.calendar c.in-Ok.start in
     let all = occurrences s start self.rule a.header.first a.header.last in
     let list = c.recur-items.ensures.items
-        ∙ (ap (λ (n : ℤ). occurrences s start self.rule n self.window.last) self.first ∙ ap (λ (n : ℤ). occurrences s start self.rule a.header.first n) self.last) in
+    ∙ (ap (λ (n : ℤ). occurrences s start self.rule n self.window.last) self.first ∙ ap (λ (n : ℤ). occurrences s start self.rule a.header.first n) self.last) in
     let yields = (YieldsList-from_more (λ i. occurrences_left (g.C.Calendar.system i.calendar) (g.C.Calendar.date_of i.calendar i.start) i.rule i.rest)
-        (λ i r t. GoesOn i.calendar t.calendar i.start t.start i.rule t.rule i.rest r t.rest) all list).runs in
+    (λ i r t. GoesOn i.calendar t.calendar i.start t.start i.rule t.rule i.rest r t.rest) all list).runs in
     (lines_text (occurrence_line s shown) all, occurrences_listed s shown a self.rule (resolve_fields s a.start no_options) start c.in-Ok.ensures.resolved, c.in_ok-write_lines.ensures.wrote all yields)

@@ -1,4 +1,4 @@
-use Rattle.std.proofs.Common.{◌≡◌, ℤ, Bool, false, FitsSigned, w32, to_z, of_z, sym, ap₂, ◌∙◌, rules, arith}
+use Rattle.std.proofs.Common.{◌≡◌, FitsSigned, w32, to_z, of_z, sym, ap₂, ◌∙◌, rules, arith}
 use Rattle.cal_days.proofs.Signed.{signed}
 use Rattle.cal_tables.specs.Kinds.{table_contents}
 use Rattle.calspan_run.specs.CommandSaid.{recur_said}
