@@ -288,8 +288,10 @@ fn a_year_has_the_lengths_between_its_starts(rt: HostRuntime) {
     assert_same(&rt, year.month_len(1), 29);
     assert_same(&rt, year.month_len(2), 30);
     assert_same(&rt, year.leap_month(), Some(3));
-    let with_an_early_leap_month = EastAsianTraditionalYear::try_new(2024, starts, Some(1));
-    assert_same(&rt, with_an_early_leap_month.is_some(), false);
+    for place in [1u8, 14] {
+        let with_no_such_place = EastAsianTraditionalYear::try_new(2024, starts, Some(place));
+        assert_same(&rt, with_no_such_place.is_some(), false);
+    }
     let without_a_leap_month = EastAsianTraditionalYear::try_new(2023, starts, None);
     assert_same(&rt, without_a_leap_month.is_some(), false);
 }

@@ -16,7 +16,10 @@ use cal_hijri::{
     AstronomicalSimulation, Hijri, HijriDateInner, HijriRow, HijriTable, HijriYear,
     TabularAlgorithm, TabularAlgorithmEpoch, TabularAlgorithmLeapYears, UmmAlQura,
 };
-use cal_types::{Month, TableFault, TablePart, YearInput};
+use cal_types::{
+    DateFields, DateFromFieldsError, DateFromFieldsOptions, MissingFieldsStrategy, Month,
+    TableFault, TablePart, YearInput,
+};
 
 #[test]
 fn late_years_are_found_before_year_1(rt: HostRuntime) {
@@ -35,6 +38,21 @@ fn late_years_are_found_before_year_1(rt: HostRuntime) {
         assert_at(&rt, day, hijri.day_of_month(&date).0, day_of_month);
         assert_at(&rt, day, hijri.to_rata_die(&date).to_i64_date(), day);
     }
+}
+
+#[test]
+fn rules_without_reference_years_ask_for_a_year(rt: HostRuntime) {
+    let fields = DateFields {
+        month: Some(Month::new(1)),
+        day: Some(1),
+        ..DateFields::default()
+    };
+    let options = DateFromFieldsOptions {
+        overflow: None,
+        missing_fields_strategy: Some(MissingFieldsStrategy::Ecma),
+    };
+    let fault = Hijri(Late).from_fields(fields, options).err();
+    assert_same(&rt, fault, Some(DateFromFieldsError::NotEnoughFields));
 }
 
 /// 1 Muharram 1445 is 2023-07-19.
