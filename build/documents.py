@@ -127,7 +127,7 @@ def main() -> int:
     for it in blocks:
         if it.kind == "sh":
             print(f"{it.place}: not run: {'; '.join(it.lines)}")
-    print(f"documents: {len(commands)} commands and {len(samples)} sample, {same.count(False)} print something else")
+    print(f"documents: {len(commands)} commands and {len(samples)} samples, {same.count(False)} print something else")
     return int(not all(same))
 
 
