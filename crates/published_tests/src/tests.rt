@@ -2,6 +2,7 @@
 
 ghost use Rattle.cal_days.specs.Day.{IsValidDay};
 
+mod anniversaries;
 mod new_years;
 
 use cal_base::Calendar;
@@ -21,6 +22,12 @@ fn assert_day(rt: &impl Abort, number: i64)
 /// That what was found in a year is as expected.
 fn assert_same(rt: &impl Abort, year: i32, found: i64, expected: i64) {
     assert_eq!(rt; found, expected, "in {year}");
+}
+
+/// That a day was found as expected, or none.
+fn assert_found(rt: &impl Abort, found: Option<RataDie>, expected: Option<i64>) {
+    let number = found.map(|day| day.to_i64_date());
+    assert_eq!(rt; number, expected);
 }
 
 /// That a date of a calendar is made on this day, and that the day is shown as this date.
