@@ -1,10 +1,9 @@
 //! The first day of each year, listed as an anniversary of the first month's first day.
 
-use super::{assert_day, assert_found};
+use super::{assert_found, window_of};
 use cal_anniversary::anniversaries;
 use cal_base::Calendar;
-use cal_days::RataDie;
-use cal_types::{Leaping, Month, Window};
+use cal_types::{Leaping, Month};
 use published_years::{chinese, persian, umm_al_qura};
 use std::process::Abort;
 
@@ -55,14 +54,6 @@ const NOWRUZ: [i64; 11] = [
     776950, // 2128-03-20
     777316, // 2129-03-21
 ];
-
-/// The days from one to another.
-fn window_of(rt: &impl Abort, first: i64, last: i64) -> Window {
-    assert_day(rt, first);
-    assert_day(rt, last);
-    let found = Window::try_new(RataDie::new(first), RataDie::new(last));
-    found.expect(rt, "the days are in order")
-}
 
 /// That years of a calendar begin on these days of a window, and on no other ones.
 fn assert_first_days<C: Calendar>(
