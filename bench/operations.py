@@ -2,7 +2,11 @@
 """Measures the calendars' operations one by one: nanoseconds for each operation and calendar.
 
 A sum is measured on the date of a day number, and turned back into one, so what `day` takes is taken off; a difference is
-measured between the dates of two day numbers, so what `pair` takes is taken off.
+measured between the dates of two day numbers, so what `pair` takes is taken off. One item of a list of anniversaries is
+measured: each turn takes the next one, and a turn that finds the list's end begins it again, one of some 820, or of some 185
+in published years. A published year is compared with a computed one by `published-day` and `published-anniversary`, whose
+days lie in published years alone, in a calendar with its table and in the same one without: of the days of `day` and
+`anniversary` less than a quarter lie in published Chinese and Korean years, and a good third in Umm al-Qura ones.
 
 The program is run with two counts, and the difference of the times is divided by the difference of the counts, so that what
 it takes to start doesn't count. It takes an operation, a calendar and a count, and prints a checksum.
@@ -27,10 +31,16 @@ OPERATIONS = {
     "months": ("difference in months over a year, less `pair`", "pair"),
     "far-months": ("difference in months over nearly two million years, less `pair`", "pair"),
     "text": ("a plain ISO date text read, and its day number", None),
+    "published-day": ("day number to fields and back, from 1912 to 2097", None),
+    "anniversary": ("the next first day of a year, of a list of some eight centuries", None),
+    "published-anniversary": ("the next first day of a year, of a list from 1912 to 2097", None),
+    "occurrence": ("an occurrence of every month by its index, less `day`", "day"),
+    "first-index": ("first index of every month, nearly two million years after the start, less `day`", "day"),
 }
 CALENDARS = [
     *["iso", "gregorian", "buddhist", "roc", "japanese", "julian", "coptic", "ethiopic", "indian", "persian", "hebrew"],
     *["islamic-civil", "islamic-umalqura", "chinese", "dangi"],
+    *["islamic-umalqura-published", "chinese-published", "dangi-published"],
 ]
 FEW = 1_000_000
 MANY = 11_000_000
@@ -60,12 +70,34 @@ def nanoseconds(program: Path, operation: str, calendar: str, few: int, many: in
     return more / (many - few) * 1e9
 
 
+def with_those_taken_off(operations: list[str]) -> list[str]:
+    """The operations, in the table's order, with those whose times are taken off theirs."""
+    less = {OPERATIONS[it][1] for it in operations}
+    return [it for it in OPERATIONS if it in operations or it in less]
+
+
+def print_table(given: argparse.Namespace) -> None:
+    print("| Operation | " + " | ".join(given.calendars) + " | What is done |")
+    print("|---|" + "---:|" * len(given.calendars) + "---|")
+    taken: dict[str, list[float]] = {}
+    for operation in with_those_taken_off(given.operations):
+        meaning, less = OPERATIONS[operation]
+        taken[operation] = [
+            nanoseconds(given.program, operation, calendar, given.few, given.many, given.rounds) for calendar in given.calendars
+        ]
+        off = taken[less] if less else [0.0] * len(given.calendars)
+        figures = [f"{all_in - part:.1f}" for all_in, part in zip(taken[operation], off)]
+        print(f"| `{operation}` | " + " | ".join(figures) + f" | {meaning} |", flush=True)
+
+
 def main() -> int:
     arguments = argparse.ArgumentParser(description=__doc__, formatter_class=argparse.RawDescriptionHelpFormatter)
     arguments.add_argument("program", nargs="?", type=Path, default=PROGRAM, help="the built program (default: %(default)s)")
     arguments.add_argument("--few", type=int, default=FEW, help="the smaller count (default: %(default)s)")
     arguments.add_argument("--many", type=int, default=MANY, help="the larger count (default: %(default)s)")
     arguments.add_argument("--rounds", type=int, default=ROUNDS, help="of how many runs the best counts (default: %(default)s)")
+    arguments.add_argument("--operations", nargs="+", choices=OPERATIONS, default=list(OPERATIONS), metavar="NAME", help="these alone")
+    arguments.add_argument("--calendars", nargs="+", choices=CALENDARS, default=CALENDARS, metavar="NAME", help="these alone")
     given = arguments.parse_args()
     if given.few >= given.many:
         arguments.error("the larger count must be larger")
@@ -73,16 +105,7 @@ def main() -> int:
         raise SystemExit(f"{given.program} is not built")
     print(f"Nanoseconds for each operation, the best of {given.rounds}, counts {given.few} and {given.many}")
     print()
-    print("| Operation | " + " | ".join(CALENDARS) + " | What is done |")
-    print("|---|" + "---:|" * len(CALENDARS) + "---|")
-    taken: dict[str, list[float]] = {}
-    for operation, (meaning, less) in OPERATIONS.items():
-        taken[operation] = [
-            nanoseconds(given.program, operation, calendar, given.few, given.many, given.rounds) for calendar in CALENDARS
-        ]
-        off = taken[less] if less else [0.0] * len(CALENDARS)
-        figures = [f"{all_in - part:.1f}" for all_in, part in zip(taken[operation], off)]
-        print(f"| `{operation}` | " + " | ".join(figures) + f" | {meaning} |", flush=True)
+    print_table(given)
     return 0
 
 

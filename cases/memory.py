@@ -17,6 +17,7 @@ ROW = "row hijri 1445 738720 sllslslslsll\n"
 REQUEST = "span islamic-umalqura iso days reject none from year=1445 month=M02 day=1 to year=1446 month=M01 day=1\n"
 RUNS = [
     (["span"], ROW + REQUEST),
+    (["anniversary", "islamic-umalqura", "iso", "exact", "M02", "1", "738720", "739100"], ROW),
 ]
 WHOLE_IN_A_ROW = 3
 ENDED = re.compile(r"^run=ended status=(\d+)", re.MULTILINE)

@@ -3,6 +3,8 @@
 //! The words are an operation, a calendar and a count. The answer is a checksum of all results.
 #![tactic(auto)]
 
+mod days;
+mod lists;
 mod measure;
 mod words;
 
@@ -12,12 +14,33 @@ use cal_coptic::{Coptic, Ethiopian};
 use cal_east_asian::{ChineseTraditional, EastAsianTable, KoreanTraditional, Side};
 use cal_gregory::{Buddhist, Gregorian, Japanese, Roc};
 use cal_hebrew::Hebrew;
-use cal_hijri::{Hijri, HijriTable, TabularAlgorithmEpoch, TabularAlgorithmLeapYears};
+use cal_hijri::{
+    Hijri, HijriTable, TabularAlgorithm, TabularAlgorithmEpoch, TabularAlgorithmLeapYears,
+};
 use cal_julian::{Indian, Julian, Persian, PersianCorrections};
 use measure::measure;
+use published_years::{chinese, korean, umm_al_qura};
 use std::env;
 use std::process::ExitCode;
 use words::{CalendarName, Work, read_words};
+
+/// The tabular Hijri calendar.
+fn tabular() -> Hijri<TabularAlgorithm> {
+    Hijri::new_tabular(
+        TabularAlgorithmLeapYears::TypeII,
+        TabularAlgorithmEpoch::Friday,
+    )
+}
+
+/// The Chinese calendar without rows of a table.
+fn computed_chinese() -> ChineseTraditional<'static> {
+    ChineseTraditional::new(EastAsianTable::none(Side::China))
+}
+
+/// The Korean calendar without rows of a table.
+fn computed_korean() -> KoreanTraditional<'static> {
+    KoreanTraditional::new(EastAsianTable::none(Side::Korea))
+}
 
 /// The checksum of the work.
 fn checksum(work: Work) -> i64 {
@@ -37,29 +60,19 @@ fn checksum(work: Work) -> i64 {
         CalendarName::Ethiopian => measure(operation, count, Ethiopian::new()),
         CalendarName::Indian => measure(operation, count, Indian),
         CalendarName::Persian => {
-            let calendar = Persian::new(PersianCorrections::none());
-            measure(operation, count, calendar)
+            measure(operation, count, Persian::new(PersianCorrections::none()))
         }
         CalendarName::Hebrew => measure(operation, count, Hebrew),
-        CalendarName::HijriTabular => {
-            let (leap_years, epoch) = (
-                TabularAlgorithmLeapYears::TypeII,
-                TabularAlgorithmEpoch::Friday,
-            );
-            measure(operation, count, Hijri::new_tabular(leap_years, epoch))
-        }
+        CalendarName::HijriTabular => measure(operation, count, tabular()),
         CalendarName::HijriUmmAlQura => {
             let calendar = Hijri::new_umm_al_qura(HijriTable::none());
             measure(operation, count, calendar)
         }
-        CalendarName::Chinese => {
-            let calendar = ChineseTraditional::new(EastAsianTable::none(Side::China));
-            measure(operation, count, calendar)
-        }
-        CalendarName::Dangi => {
-            let calendar = KoreanTraditional::new(EastAsianTable::none(Side::Korea));
-            measure(operation, count, calendar)
-        }
+        CalendarName::Chinese => measure(operation, count, computed_chinese()),
+        CalendarName::Dangi => measure(operation, count, computed_korean()),
+        CalendarName::HijriUmmAlQuraPublished => measure(operation, count, umm_al_qura()),
+        CalendarName::ChinesePublished => measure(operation, count, chinese()),
+        CalendarName::DangiPublished => measure(operation, count, korean()),
     }
 }
 

@@ -1,9 +1,13 @@
 //! The operations, repeated over days of some centuries.
 
-ghost use Rattle.std.specs.Prelude.{◌≡◌, ◌+◌, ◌*◌, ◌%◌, ◌<◌};
+ghost use Rattle.std.specs.Prelude.{◌≡◌};
 ghost use Rattle.cal_days.specs.Day.{IsValidDay};
 ghost use Rattle.cal_model.specs.CalendarList.{IsOn};
 
+use crate::days::{day_of_turn, far_after, far_before, other_day, published_day_of_turn};
+use crate::lists::{
+    sum_of_anniversaries, sum_of_first_indices, sum_of_occurrences, sum_of_published_anniversaries,
+};
 use crate::words::Operation;
 use cal_base::{AsCalendar, Calendar};
 use cal_days::RataDie;
@@ -19,14 +23,6 @@ const TEXTS: [&[u8]; 4] = [b"1643-01-05", b"1992-09-02", b"2024-02-29", b"2465-1
 
 /// The months of nearly two million years.
 const FAR_MONTHS: i32 = 23400000;
-
-/// The day number of a turn, from 1643 to 2465. Turn follows turn by 7919 days.
-fn day_of_turn(turn: u32) -> u64
-    ensures value { result ≡ 600000 + turn * 7919 % 300000 }
-    ensures small { result < 900000 }
-{
-    600000 + u64::from(turn) * 7919 % 300000
-}
 
 /// The date of a valid day.
 fn date_on<A: AsCalendar + Copy>(day: i64, calendar: A) -> Date<A>
@@ -108,30 +104,6 @@ where
     }
 }
 
-/// The day of the other date of a pair, 547 to 821 years before.
-fn other_day(day: u64) -> i64
-    requires { day < 900000 }
-    ensures { IsValidDay result }
-{
-    (day * 2 / 3) as i64
-}
-
-/// A day nearly a million years earlier.
-fn far_before(day: u64) -> i64
-    requires { day < 900000 }
-    ensures { IsValidDay result }
-{
-    day as i64 - 356800000
-}
-
-/// A day nearly a million years later.
-fn far_after(day: u64) -> i64
-    requires { day < 900000 }
-    ensures { IsValidDay result }
-{
-    day as i64 + 356800000
-}
-
 /// The sum of the results of an operation on the days of the first turns, in a loop of its own.
 macro_rules! sum_of {
     ($turns:ident, $turn_day:ident => $result:expr) => {{
@@ -152,10 +124,23 @@ where
     sum_of!(turns, day => day_of_sum(day as i64, duration, calendar))
 }
 
+/// The sum of the day numbers of the first turns in published years, each from the date that it was turned into.
+fn sum_of_published_days<A: AsCalendar + Copy>(turns: u32, calendar: A) -> i64
+where
+    A::Calendar: Calendar,
+{
+    let mut sum = 0i64;
+    for turn in 0..turns {
+        let day = published_day_of_turn(turn);
+        sum = sum.wrapping_add(day_and_back(day as i64, calendar));
+    }
+    sum
+}
+
 /// The sum of the results of an operation on the days of the first turns.
 pub fn measure<A: AsCalendar + Copy>(operation: Operation, turns: u32, calendar: A) -> i64
 where
-    A::Calendar: Calendar,
+    A::Calendar: Calendar + Copy,
 {
     match operation {
         Operation::Day => sum_of!(turns, day => day_and_back(day as i64, calendar)),
@@ -177,5 +162,12 @@ where
         Operation::FarMonths => sum_of!(turns, day =>
             parts_between(far_before(day), far_after(day), DateDurationUnit::Months, calendar)),
         Operation::Text => sum_of!(turns, day => day_of_text(day, calendar)),
+        Operation::PublishedDay => sum_of_published_days(turns, calendar),
+        Operation::Anniversary => sum_of_anniversaries(turns, *calendar.as_calendar()),
+        Operation::PublishedAnniversary => {
+            sum_of_published_anniversaries(turns, *calendar.as_calendar())
+        }
+        Operation::Occurrence => sum_of_occurrences(turns, *calendar.as_calendar()),
+        Operation::FirstIndex => sum_of_first_indices(turns, *calendar.as_calendar()),
     }
 }

@@ -25,6 +25,16 @@ pub enum Operation {
     FarMonths,
     /// A plain ISO date text read into the calendar, and its day number.
     Text,
+    /// As `Day`, in published years alone.
+    PublishedDay,
+    /// The next first day of a year, of a list of some eight centuries.
+    Anniversary,
+    /// The next first day of a year, of a list of published years.
+    PublishedAnniversary,
+    /// An occurrence of every month from a date on, by its index.
+    Occurrence,
+    /// The first index of every month that isn't before a day, some two million years after the start.
+    FirstIndex,
 }
 
 /// A calendar's name.
@@ -60,6 +70,12 @@ pub enum CalendarName {
     Chinese,
     /// The Korean calendar, without rows of a table.
     Dangi,
+    /// The Umm al-Qura calendar with its published years.
+    HijriUmmAlQuraPublished,
+    /// The Chinese calendar with its published years.
+    ChinesePublished,
+    /// The Korean calendar with its published years.
+    DangiPublished,
 }
 
 /// An operation, the calendar of its dates, and how often it is done.
@@ -86,6 +102,11 @@ fn read_operation(word: &str) -> Option<Operation> {
         "months" => Some(Operation::MonthsOverAYear),
         "far-months" => Some(Operation::FarMonths),
         "text" => Some(Operation::Text),
+        "published-day" => Some(Operation::PublishedDay),
+        "anniversary" => Some(Operation::Anniversary),
+        "published-anniversary" => Some(Operation::PublishedAnniversary),
+        "occurrence" => Some(Operation::Occurrence),
+        "first-index" => Some(Operation::FirstIndex),
         _ => None,
     }
 }
@@ -107,6 +128,9 @@ fn read_calendar(word: &str) -> Option<CalendarName> {
         "islamic-umalqura" => Some(CalendarName::HijriUmmAlQura),
         "chinese" => Some(CalendarName::Chinese),
         "dangi" => Some(CalendarName::Dangi),
+        "islamic-umalqura-published" => Some(CalendarName::HijriUmmAlQuraPublished),
+        "chinese-published" => Some(CalendarName::ChinesePublished),
+        "dangi-published" => Some(CalendarName::DangiPublished),
         _ => None,
     }
 }

@@ -1,12 +1,14 @@
-//! Known dates of the published years, each in both directions.
+//! Known dates of the published years, each in both directions, and the yearly days that are listed over them.
 
 ghost use Rattle.cal_days.specs.Day.{IsValidDay};
 
+mod anniversaries;
 mod new_years;
+mod recurrences;
 
 use cal_base::Calendar;
 use cal_days::RataDie;
-use cal_types::{Month, YearInput};
+use cal_types::{Month, Window, YearInput};
 use new_years::{CHINESE_NEW_YEARS, KOREAN_NEW_YEARS, PERSIAN_NEW_YEARS, UMM_AL_QURA_NEW_YEARS};
 use published_years::{chinese, korean, persian, tables, umm_al_qura};
 use std::process::Abort;
@@ -18,9 +20,23 @@ fn assert_day(rt: &impl Abort, number: i64)
     assert!(rt; -365242499 <= number && number <= 365242134);
 }
 
+/// The days from one to another.
+fn window_of(rt: &impl Abort, first: i64, last: i64) -> Window {
+    assert_day(rt, first);
+    assert_day(rt, last);
+    let found = Window::try_new(RataDie::new(first), RataDie::new(last));
+    found.expect(rt, "the days are in order")
+}
+
 /// That what was found in a year is as expected.
 fn assert_same(rt: &impl Abort, year: i32, found: i64, expected: i64) {
     assert_eq!(rt; found, expected, "in {year}");
+}
+
+/// That a day was found as expected, or none.
+fn assert_found(rt: &impl Abort, found: Option<RataDie>, expected: Option<i64>) {
+    let number = found.map(|day| day.to_i64_date());
+    assert_eq!(rt; number, expected);
 }
 
 /// That a date of a calendar is made on this day, and that the day is shown as this date.

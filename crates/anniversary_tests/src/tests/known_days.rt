@@ -54,13 +54,16 @@ fn a_window_of_one_day_has_it(rt: HostRuntime) {
     assert_days(&rt, Iso::new(), asked, &[738214]);
 }
 
-/// Rosh Hashanah of the years 5780 to 5790. Source: ICU 78.2 (Node.js 20.20.2), from 2019-09-30 to 2029-09-10.
+/// Rosh Hashanah of the years 5780 to 5790, from 2019-09-30 to 2029-09-10. Sources: hebcal 4.31 (Debian) and ICU 78.2
+/// (Node.js 20.20.2), which have the same days.
 const ROSH_HASHANAH: [i64; 11] = [
     737332, 737687, 738040, 738424, 738779, 739162, 739517, 739871, 740256, 740611, 740965,
 ];
 
-/// Nowruz of the years 1400 to 1405. Source: ICU 78.2 (Node.js 20.20.2), from 2021-03-21 to 2026-03-21.
-const NOWRUZ: [i64; 6] = [737870, 738235, 738600, 738965, 739331, 739696];
+/// Nowruz of the years 1400 to 1410, from 2021-03-21 to 2031-03-21. Source: ICU 78.2 (Node.js 20.20.2).
+const NOWRUZ: [i64; 11] = [
+    737870, 738235, 738600, 738965, 739331, 739696, 740061, 740426, 740791, 741157, 741522,
+];
 
 #[test]
 fn the_hebrew_year_begins_on_its_published_days(rt: HostRuntime) {
@@ -81,7 +84,7 @@ fn the_persian_year_begins_on_its_published_days(rt: HostRuntime) {
         day: 1,
         leaping: Leaping::Exact,
         first: 737791,
-        last: 739981,
+        last: 741807,
     };
     assert_days(
         &rt,

@@ -72,14 +72,14 @@ fn a_leap_day(rt: HostRuntime) {
 }
 
 /// The sixth day of the Ethiopian month 13 comes every fourth year, as on September 11, 2015 and 2019; in the others
-/// SKIP=BACKWARD makes it the fifth, September 10. RFC 7529, RSCALE=ETHIOPIC: the month's first day is September
-/// 6 in 2013, 2014 and 2015.
+/// SKIP=BACKWARD makes it the fifth, September 10. RFC 7529, RSCALE=ETHIOPIC;FREQ=MONTHLY;BYMONTH=13: the month's first
+/// day is September 6 in 2013, 2014, 2015 and 2016, which is what one year from it gives.
 #[test]
 fn the_ethiopian_month_13(rt: HostRuntime) {
     let calendar = Ethiopian::new();
-    let firsts = [(0, 735117), (1, 735482), (2, 735847)];
+    let firsts = [(0, 735117), (1, 735482), (2, 735847), (3, 736213)];
     let skip = rule_of(&rt, Years, 1, Skip);
-    assert_listed(&rt, calendar, 735117, skip, (735117, 736212), &firsts);
+    assert_listed(&rt, calendar, 735117, skip, (735117, 736213), &firsts);
     let omit = [(0, 735852), (4, 737313)];
     let skip = rule_of(&rt, Years, 1, Skip);
     assert_listed(&rt, calendar, 735852, skip, (735852, 737313), &omit);
