@@ -1,1 +1,2 @@
 pub mod FeastLemmas
+pub mod ComingLemmas

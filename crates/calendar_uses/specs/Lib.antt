@@ -1,3 +1,4 @@
 pub mod Forms
 pub mod Recurrence
 pub mod Feasts
+pub mod ComingDays

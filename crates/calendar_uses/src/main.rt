@@ -1,16 +1,18 @@
 //! Uses of `icu_calendar`, as its callers write them, and a program that prints them.
 #![tactic(auto)]
 
+mod coming_days;
 mod every_calendar;
 mod feasts;
 mod mean_rules;
 mod uses;
 
+use coming_days::{next_birthdays, paydays, reunions};
 use every_calendar::print_every_calendar;
 use feasts::{hebrew_text_in_gregorian, next_easter};
 use icu_calendar::{
-    AnyCalendar, AsCalendar, Calendar, Date, DateDuration, EastAsianTraditional, Gregorian, Iso,
-    Julian, RataDie,
+    AnyCalendar, AsCalendar, Calendar, Date, DateDuration, EastAsianTraditional, Gregorian, Hebrew,
+    Iso, Julian, RataDie, Window,
 };
 use mean_rules::MeanRules;
 use std::io;
@@ -125,6 +127,46 @@ fn print_own_rules(rt: &HostRuntime) -> io::Result<()> {
     println!(rt; "under rules of its own: {date:?}")
 }
 
+/// A day as a date of ISO.
+fn print_day(rt: &HostRuntime, what: &str, day: RataDie) -> io::Result<()> {
+    println!(rt; "{what}: {:?}", Date::from_rata_die(day, Iso))
+}
+
+/// The birthdays after 2023-01-01 of someone born on 10 Adar I, of which ICU 78.2 and hebcal 4.31 have the days.
+fn print_birthdays(rt: &HostRuntime) -> io::Result<()> {
+    let Some(window) = Window::try_new(RataDie::new(738521), RataDie::new(741442)) else {
+        return Ok(());
+    };
+    for day in next_birthdays(rt.alloc(), 10, window)? {
+        print_day(rt, "birthday", day)?;
+    }
+    Ok(())
+}
+
+/// The paydays of the first half of 2024, from 2024-01-31 on.
+fn print_paydays(rt: &HostRuntime) -> io::Result<()> {
+    let Some(window) = Window::try_new(RataDie::new(738886), RataDie::new(739067)) else {
+        return Ok(());
+    };
+    let first = Date::from_rata_die(RataDie::new(738916), Iso);
+    for payday in paydays(rt.alloc(), &first, window)? {
+        print_day(rt, "payday", payday.day)?;
+    }
+    Ok(())
+}
+
+/// The reunions up to 2030-12-31, from 10 Adar I 5782 on, which is 2022-02-11: in 5784 and 5790 the year has the month.
+fn print_reunions(rt: &HostRuntime) -> io::Result<()> {
+    let Some(window) = Window::try_new(RataDie::new(738156), RataDie::new(741442)) else {
+        return Ok(());
+    };
+    let first = Date::from_rata_die(RataDie::new(738197), Hebrew);
+    for reunion in reunions(rt.alloc(), &first, window)? {
+        print_day(rt, "reunion", reunion.day)?;
+    }
+    Ok(())
+}
+
 fn main(rt: HostRuntime) -> io::Result<()> {
     print_forms(&rt)?;
     print_chosen_calendar(&rt)?;
@@ -134,5 +176,8 @@ fn main(rt: HostRuntime) -> io::Result<()> {
     print_every_calendar(&rt)?;
     print_texts(&rt)?;
     print_feasts(&rt)?;
-    print_own_rules(&rt)
+    print_own_rules(&rt)?;
+    print_birthdays(&rt)?;
+    print_paydays(&rt)?;
+    print_reunions(&rt)
 }
