@@ -9,13 +9,14 @@ days lie in published years alone, in a calendar with its table and in the same 
 `anniversary` less than a quarter lie in published Chinese and Korean years, and a good third in Umm al-Qura ones.
 
 The program is run with two counts, and the difference of the times is divided by the difference of the counts, so that what
-it takes to start doesn't count. It takes an operation, a calendar and a count, and prints a checksum.
+it takes to start doesn't count. The times are those that a processor worked for the program, without those in which it waited
+for one. The program takes an operation, a calendar and a count, and prints a checksum.
 """
 
 import argparse
+import resource
 import subprocess
 import sys
-import time
 from pathlib import Path
 
 PROGRAM = Path(__file__).resolve().parent.parent / "crates/dates_bench/out/dates_bench"
@@ -48,10 +49,11 @@ ROUNDS = 5
 
 
 def seconds(program: Path, operation: str, calendar: str, count: int) -> tuple[float, bytes]:
-    """How long one run takes, and its checksum."""
-    start = time.perf_counter()
+    """How long a processor works for one run, and its checksum."""
+    before = resource.getrusage(resource.RUSAGE_CHILDREN)
     run = subprocess.run([str(program), operation, calendar, str(count)], capture_output=True, check=False)
-    taken = time.perf_counter() - start
+    after = resource.getrusage(resource.RUSAGE_CHILDREN)
+    taken = after.ru_utime + after.ru_stime - before.ru_utime - before.ru_stime
     if run.returncode != 0 or not run.stdout.strip():
         raise SystemExit(f"{operation} {calendar} {count}: status {run.returncode}, {run.stdout[:80]!r} {run.stderr[:200]!r}")
     return taken, run.stdout
