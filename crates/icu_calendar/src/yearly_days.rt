@@ -22,6 +22,16 @@ pub type Anniversaries<'t> = cal_anniversary::Anniversaries<AnyCalendar<'t>>;
 /// `rest` answers after some items is the list of those that are left. An item takes one look-up for each year that is
 /// passed.
 ///
+/// The birthdays from 2023 to 2025 of someone born on day 10 of the Hebrew leap month Adar I:
+///
+/// ```
+/// let window = Window::try_new(RataDie::new(738521), RataDie::new(739616))?;
+/// let hebrew = AnyCalendar::Hebrew(Hebrew);
+/// for day in anniversaries(hebrew, Month::leap(5), 10, Leaping::Constrain, window)? {
+///     // the days 738582, 738935 and 739320: 2023-03-03, 2024-02-19 and 2025-03-10
+/// }
+/// ```
+///
 /// # Errors
 ///
 /// In this order: [`AnniversaryError::MonthNotInCalendar`] where no year of the calendar has the month, and
