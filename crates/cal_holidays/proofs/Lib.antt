@@ -1,0 +1,8 @@
+mod EasterLemmas
+mod FieldLemmas
+mod FirstLemmas
+mod KeptLemmas
+mod KindMonthLemmas
+mod ListLemmas
+mod NthLemmas
+mod RecordLemmas
