@@ -6,3 +6,4 @@ mod KindMonthLemmas
 mod ListLemmas
 mod NthLemmas
 mod RecordLemmas
+mod WindowLemmas

@@ -1,3 +1,4 @@
+pub mod BookNames
 pub mod Books
 pub mod EasterYears
 pub mod Fields

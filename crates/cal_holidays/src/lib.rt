@@ -1,7 +1,10 @@
 //! Holidays from a book: a text of rules, one a record of CSV.
 #![tactic(auto)]
 
+mod anniversary;
 mod book;
+mod book_holidays;
+mod book_rules;
 mod easter;
 mod entry;
 mod fields;
@@ -15,6 +18,8 @@ mod rules;
 mod until;
 
 pub use book::{Book, BookError};
+pub use book_holidays::{Holidays, holidays};
+pub use book_rules::BookRules;
 pub use easter::first_easter;
 pub use holiday_rule::HolidayRule;
 pub use kind_months::is_month_of;
