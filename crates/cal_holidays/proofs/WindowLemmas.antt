@@ -29,7 +29,9 @@ later test n count [] fails h = λ k low lt. from k low
     from k low f = by_lt_z {P = test k ≡ false} n k (λ lt. f (omega (arith, signed))) (λ ge.
         let same : n ≡ k = omega (arith, signed) in subst (λ z. test z ≡ false) same fails)
 later test n count (x ∷ xs) fails (low, lt, holds, none) = (
-  omega (arith, signed), omega (arith, signed), holds,
+  omega (arith, signed),
+  omega (arith, signed),
+  holds,
   λ k from before. by_lt_z {P = test k ≡ false} n k (λ less. none k (omega (arith, signed)) before) (λ ge.
       let same : n ≡ k = omega (arith, signed) in subst (λ z. test z ≡ false) same fails),
 )

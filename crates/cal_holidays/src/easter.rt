@@ -13,7 +13,12 @@ use cal_days::{RataDie, gregorian, julian};
 const YEARS_BESIDE: i32 = 2;
 
 /// The first day from `first` to `last` that lies so many days after Easter, or before it where the number is negative.
-pub fn first_easter(julian: bool, offset: i32, first: RataDie, last: RataDie) -> Option<RataDie>
+pub(crate) fn first_easter(
+    julian: bool,
+    offset: i32,
+    first: RataDie,
+    last: RataDie,
+) -> Option<RataDie>
     requires near { IsBetween (neg_ℤ (pos 400)) (pos 400) offset }
     requires from { IsValidDay first }
     requires to { IsValidDay last }

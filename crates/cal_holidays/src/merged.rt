@@ -7,12 +7,12 @@ use crate::rest::Rest;
 use crate::rules::NumberedRules;
 use cal_days::RataDie;
 
-/// A day, and the number of a rule that names it.
+/// A holiday: a day, and the number of the rule that names it.
 #[derive(Clone, Copy, Debug, PartialEq, Eq)]
 pub struct Holiday {
     /// The day.
     pub day: RataDie,
-    /// The rule.
+    /// The number of the rule, from 0: that of [`Book::rule`](crate::Book::rule) and [`Book::name`](crate::Book::name).
     pub rule: usize,
 }
 
@@ -77,8 +77,11 @@ impl<R: NumberedRules> Merged<R> {
         }
     }
 
-    /// What is still to be listed. `None` where the last item was of the window's last day and of the last rule, and
-    /// once `next` has answered `None`.
+    /// What is left of the list: the window and the first rule that were handed in, as long as no item was given.
+    ///
+    /// Behind a holiday it is the window from the holiday's day on and the rule after the holiday's, where there is one,
+    /// and else the window from the next day on and rule 0. `None` exactly where the holiday that was given last is of
+    /// the window's last day and of the last rule, and once `next` has answered `None`.
     pub fn rest(&self) -> Option<Rest>
         ensures { result ≡ self.now.rest }
     {

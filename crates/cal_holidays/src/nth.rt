@@ -17,13 +17,13 @@ use cal_types::{Month, Weekday};
 
 /// A weekday of a month of a calendar, each year.
 #[derive(Clone, Copy, Debug)]
-pub struct NthWeekday {
+pub(crate) struct NthWeekday {
     /// The month.
-    pub month: Month,
+    pub(crate) month: Month,
     /// Which one of the month: 1 to 5, or -1 for the last.
-    pub nth: i8,
+    pub(crate) nth: i8,
     /// The weekday.
-    pub weekday: Weekday,
+    pub(crate) weekday: Weekday,
 }
 
 /// The days of a month: the day before its first one, how many there are, and the month.
@@ -35,7 +35,7 @@ struct MonthDays {
 }
 
 /// The first day from `first` to `last` that is the weekday of the month. The months are looked at one after another.
-pub fn first_nth<C: Calendar>(
+pub(crate) fn first_nth<C: Calendar>(
     calendar: &C,
     asked: NthWeekday,
     first: RataDie,

@@ -1,4 +1,4 @@
-//! What is still to be listed.
+//! What is left of a list of holidays.
 
 ghost use Rattle.std.specs.Prelude.{◌≡◌, ◌≤ℤ◌, option_map};
 ghost use Rattle.cal_days.specs.Day.{IsBetween};
@@ -7,12 +7,14 @@ ghost use Rattle.cal_holidays.specs.Merging.{BeginsAt, behind};
 use cal_days::RataDie;
 use cal_types::Window;
 
-/// What is still to be listed: a window, and the first rule that is listed on its first day.
+/// What is left of a list of holidays: a window, and the first rule that is listed on its first day.
+///
+/// [`holidays()`](crate::holidays()) over both goes on with the list.
 #[derive(Clone, Copy, Debug, PartialEq, Eq)]
 pub struct Rest {
-    /// The days.
+    /// The days that are left.
     pub window: Window,
-    /// The first rule on the first day.
+    /// The number of the first rule that is listed on the first of them.
     pub first_rule: usize,
 }
 
