@@ -1,0 +1,12 @@
+pub mod BookNames
+pub mod Books
+pub mod EasterYears
+pub mod Fields
+pub mod Found
+pub mod Kept
+pub mod KindMonths
+pub mod Listing
+pub mod Merging
+pub mod MonthDays
+pub mod Naming
+pub mod Rules

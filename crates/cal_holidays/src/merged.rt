@@ -1,0 +1,121 @@
+//! The days that rules name, in order.
+
+ghost use Rattle.std.specs.Prelude.{◌≡◌, Some, ⊤, option_map};
+
+use crate::first::{First, PLACES, earliest, first_of_place};
+use crate::rest::Rest;
+use crate::rules::NumberedRules;
+use cal_days::RataDie;
+
+/// A holiday: a day, and the number of the rule that names it.
+#[derive(Clone, Copy, Debug, PartialEq, Eq)]
+pub struct Holiday {
+    /// The day.
+    pub day: RataDie,
+    /// The number of the rule, from 0: that of [`Book::rule`](crate::Book::rule) and [`Book::name`](crate::Book::name).
+    pub rule: usize,
+}
+
+ghost use Rattle.cal_holidays.specs.Kept.{AreFirsts, AreKept};
+
+/// The days that rules name, in order, and on one day by the number of the rule.
+///
+/// The first day that rules of each place name is kept, where the rules 64 apart have one place. So an item costs a
+/// look at 64 days, and for each rule of its own place the first day of that rule.
+#[derive(Drop)]
+pub struct Merged<R: NumberedRules> {
+    rules: R,
+    rest: Option<Rest>,
+    firsts: [Option<First>; 64],
+    ghost kept: { AreKept (R.names rules) (R.count_of rules) rest firsts },
+}
+
+/// The first day of each place.
+fn firsts_of<R: NumberedRules>(rules: &R, rest: Rest) -> [Option<First>; 64]
+    ensures { AreFirsts (R.names rules.now) (R.count_of rules.now) rest result 64 }
+{
+    let mut firsts = [None; PLACES];
+    for place in 0..PLACES {
+        firsts[place] = first_of_place(rules, place, rest);
+    }
+    firsts
+}
+
+impl<R: NumberedRules> Merged<R> {
+    ghost use Rattle.cal_holidays.specs.Found.{pair_of, stretch_of};
+    ghost use Rattle.cal_holidays.specs.Merging.{IsAny, IsFirst, behind};
+
+    /// The days of a window that rules name, without the rules before a first one on the window's first day.
+    pub fn new(rules: R, rest: Rest) -> Merged<R>
+        ensures rules { result.rules ≡ rules }
+        ensures rest { result.rest ≡ Some rest }
+    {
+        let firsts = firsts_of(&rules, rest);
+        Merged {
+            rules,
+            rest: Some(rest),
+            firsts,
+        }
+    }
+
+    /// Goes on behind the first day that a rule names.
+    fn go_behind(&mut self, rest: Rest, first: First)
+        requires left { self.old.rest ≡ Some rest }
+        requires first { let names = R.names self.old.rules in let count = R.count_of self.old.rules in
+            IsFirst names count IsAny (stretch_of rest) (Some (pair_of first)) }
+        ensures rest { let count = R.count_of self.new.rules in
+            option_map stretch_of self.new.rest ≡ behind count (stretch_of rest) first.day first.rule }
+        ensures rules { self.new.rules ≡ self.old.rules }
+    {
+        self.rest = rest.behind(first.day, first.rule, self.rules.count());
+        if let Some(left) = self.rest {
+            self.firsts[first.rule % PLACES] = first_of_place(
+                &self.rules,
+                first.rule % PLACES,
+                left,
+            );
+        }
+    }
+
+    /// What is left of the list: the window and the first rule that were handed in, as long as no item was given.
+    ///
+    /// Behind a holiday it is the window from the holiday's day on and the rule after the holiday's, where there is one,
+    /// and else the window from the next day on and rule 0. `None` exactly where the holiday that was given last is of
+    /// the window's last day and of the last rule, and once `next` has answered `None`.
+    pub fn rest(&self) -> Option<Rest>
+        ensures { result ≡ self.now.rest }
+    {
+        self.rest
+    }
+}
+
+impl<R: NumberedRules> Iterator for Merged<R> {
+    ghost use Rattle.std.specs.Iterator.{YieldsFirstBy, item_count, MakesProgress};
+    ghost use Rattle.cal_holidays.specs.Listing.{IsRest, left_of, pair_given};
+
+    type Item = Holiday;
+
+    ghost next_gives = { YieldsFirstBy pair_given (λ a. left_of (R.names a.rules) (R.count_of a.rules) a.rest) };
+
+    ghost remaining = { item_count (λ a. left_of (R.names a.rules) (R.count_of a.rules) a.rest) };
+
+    fn next(&mut self) -> Option<Holiday>
+        ensures steps { YieldsFirstBy pair_given (λ a. left_of (R.names a.rules) (R.count_of a.rules) a.rest)
+            self.old result self.new }
+        ensures goes { MakesProgress (λ _. ⊤)
+            (item_count (λ a. left_of (R.names a.rules) (R.count_of a.rules) a.rest)) self.old result self.new }
+        ensures rest { IsRest (R.count_of self.old.rules) self.old.rest result self.new.rest }
+        ensures rules { self.new.rules ≡ self.old.rules }
+    {
+        let rest = self.rest?;
+        let Some(first) = earliest(&self.firsts) else {
+            self.rest = None;
+            return None;
+        };
+        self.go_behind(rest, first);
+        Some(Holiday {
+            day: RataDie::new(first.day),
+            rule: first.rule,
+        })
+    }
+}

@@ -1,0 +1,28 @@
+//! Rules that name days.
+
+ghost use Rattle.std.specs.Prelude.{◌≡◌, ◌<◌, ◌^◌, ℕ, ℤ, Bool};
+ghost use Rattle.cal_days.specs.Day.{IsValidDay};
+ghost use Rattle.cal_holidays.specs.Merging.{IsFirstDay};
+
+use cal_days::RataDie;
+
+/// Rules that each name days, by their numbers from 0.
+pub trait NumberedRules: Copy {
+    /// Which rule names which day.
+    ghost names: { Self → ℕ → ℤ → Bool };
+
+    /// How many rules there are.
+    ghost count_of: { Self → ℕ };
+
+    /// How many rules there are.
+    fn count(&self) -> usize
+        ensures value { result ≡ count_of self.now }
+        ensures bound { result < 2 ^ 63 };
+
+    /// The first day from `first` to `last` that a rule names.
+    fn first_day(&self, rule: usize, first: RataDie, last: RataDie) -> Option<RataDie>
+        requires rule { rule < count_of self.now }
+        requires from { IsValidDay first }
+        requires to { IsValidDay last }
+        ensures { IsFirstDay (names self.now rule) first last result };
+}

@@ -1,0 +1,59 @@
+//! What books hold.
+
+use super::FOUR;
+use cal_holidays::{Book, HolidayRule};
+use cal_kinds::AnyCalendarKind;
+use cal_types::{Leaping, Month, Weekday};
+
+#[test]
+fn a_book_has_a_name_and_a_rule_for_each_record(rt: HostRuntime) {
+    let book = Book::try_read(rt.alloc(), FOUR).expect(&rt, "no book");
+    assert_eq!(rt; book.len(), 4);
+    assert!(rt; book.name(0) == b"Easter".as_slice());
+    let easter = HolidayRule::Easter {
+        julian: false,
+        offset: 0,
+    };
+    assert!(rt; book.rule(0) == easter);
+    assert!(rt; book.name(1) == b"Pascha".as_slice());
+    let pascha = HolidayRule::Easter {
+        julian: true,
+        offset: 0,
+    };
+    assert!(rt; book.rule(1) == pascha);
+    assert!(rt; book.name(2) == b"Thanksgiving".as_slice());
+    let thanksgiving = HolidayRule::Nth {
+        calendar: AnyCalendarKind::Gregorian,
+        month: Month::new(11),
+        nth: 4,
+        weekday: Weekday::Thursday,
+    };
+    assert!(rt; book.rule(2) == thanksgiving);
+    assert!(rt; book.name(3) == b"Purim".as_slice());
+    let purim = HolidayRule::Fixed {
+        calendar: AnyCalendarKind::Hebrew,
+        month: Month::new(6),
+        day: 14,
+        leaping: Leaping::Constrain,
+    };
+    assert!(rt; book.rule(3) == purim);
+}
+
+#[test]
+fn an_empty_text_is_a_book_without_holidays(rt: HostRuntime) {
+    let book = Book::try_read(rt.alloc(), b"").expect(&rt, "no book");
+    assert_eq!(rt; book.len(), 0);
+}
+
+#[test]
+fn quotes_enclose_a_field_and_are_no_part_of_it(rt: HostRuntime) {
+    let text = b"\"easter\",\"A, \"\"B\"\"\",julian,,\"-2\",\r\n".as_slice();
+    let book = Book::try_read(rt.alloc(), text).expect(&rt, "no book");
+    assert_eq!(rt; book.len(), 1);
+    assert!(rt; book.name(0) == b"A, \"B\"".as_slice());
+    let rule = HolidayRule::Easter {
+        julian: true,
+        offset: -2,
+    };
+    assert!(rt; book.rule(0) == rule);
+}

@@ -1,0 +1,105 @@
+//! The holidays of windows, in order, and what is left of them.
+
+use super::{FOUR, window_of};
+use cal_holidays::{Book, Rest, holidays};
+use cal_tables::Tables;
+use std::process::Abort;
+
+/// Three rules of the same day.
+const ONE_DAY: &[u8] =
+    b"easter,A,gregorian,,0,\nweekday,B,iso,M03,-1,sunday\nfixed,C,iso,M03,31,exact\n";
+
+/// The last Thursday and the fifth of February, and the last Sunday of the days behind the twelve Coptic months.
+const WEEKDAYS: &[u8] =
+    b"weekday,A,iso,M02,-1,thursday\nweekday,B,iso,M02,5,thursday\nweekday,C,coptic,M13,-1,sunday\n";
+
+/// New Year's Eve, and rules of calendars that end within a month.
+const LAST_DAYS: &[u8] =
+    b"weekday,A,hebrew,M01,1,monday\nweekday,B,chinese,M12,-1,monday\nfixed,C,iso,M12,31,exact\n";
+
+/// That the holidays of a window, but the rules before one on its first day, are these days and rules, and that what is
+/// left after each of them goes on with the next one.
+fn assert_listed(
+    rt: &impl Abort,
+    book: &Book,
+    window: (i64, i64),
+    first_rule: usize,
+    expected: &[(i64, usize)],
+) {
+    let window = window_of(rt, window.0, window.1);
+    let mut list = holidays(book, Tables::none(), window, first_rule);
+    assert!(rt; list.rest() == Some(Rest { window, first_rule }));
+    for (day, rule) in expected {
+        match list.rest() {
+            Some(rest) => {
+                let mut again = holidays(book, Tables::none(), rest.window, rest.first_rule);
+                match again.next() {
+                    Some(item) => {
+                        assert!(rt; item.day.to_i64_date() == *day && item.rule == *rule)
+                    }
+                    None => assert!(rt; false),
+                }
+            }
+            None => assert!(rt; false),
+        }
+        match list.next() {
+            Some(item) => assert!(rt; item.day.to_i64_date() == *day && item.rule == *rule),
+            None => assert!(rt; false),
+        }
+    }
+    assert!(rt; list.next().is_none());
+    assert!(rt; list.rest().is_none());
+}
+
+#[test]
+fn the_holidays_of_2024(rt: HostRuntime) {
+    let book = Book::try_read(rt.alloc(), FOUR).expect(&rt, "no book");
+    // 2024-03-24, 2024-03-31, 2024-05-05, 2024-11-28
+    let year = [(738969, 3), (738976, 0), (739011, 1), (739218, 2)];
+    assert_listed(&rt, &book, (738886, 739251), 0, &year);
+    assert_listed(&rt, &book, (738886, 739251), 4, &year);
+    assert_listed(&rt, &book, (738970, 738975), 0, &[]);
+}
+
+#[test]
+fn a_book_without_holidays_lists_none(rt: HostRuntime) {
+    let book = Book::try_read(rt.alloc(), b"").expect(&rt, "no book");
+    assert_listed(&rt, &book, (738886, 739251), 0, &[]);
+}
+
+#[test]
+fn rules_of_one_day_come_in_their_order(rt: HostRuntime) {
+    let book = Book::try_read(rt.alloc(), ONE_DAY).expect(&rt, "no book");
+    let all = [(738976, 0), (738976, 1), (738976, 2)];
+    assert_listed(&rt, &book, (738946, 738976), 0, &all);
+    assert_listed(&rt, &book, (738976, 738976), 1, &all[1..]);
+    assert_listed(&rt, &book, (738976, 738976), 3, &[]);
+}
+
+#[test]
+fn a_rest_names_the_rule_after_the_last_item(rt: HostRuntime) {
+    let book = Book::try_read(rt.alloc(), ONE_DAY).expect(&rt, "no book");
+    let day = window_of(&rt, 738976, 738976);
+    let mut list = holidays(&book, Tables::none(), day, 1);
+    assert_eq!(rt; list.next().expect(&rt, "no item").rule, 1);
+    let rest = Rest {
+        window: day,
+        first_rule: 2,
+    };
+    assert!(rt; list.rest() == Some(rest));
+    assert_eq!(rt; list.next().expect(&rt, "no item").rule, 2);
+    assert!(rt; list.rest().is_none());
+}
+
+#[test]
+fn the_last_weekday_of_a_month_may_be_the_fifth(rt: HostRuntime) {
+    let book = Book::try_read(rt.alloc(), WEEKDAYS).expect(&rt, "no book");
+    // February 29 of 2024, a Thursday
+    assert_listed(&rt, &book, (738917, 738945), 0, &[(738945, 0), (738945, 1)]);
+}
+
+#[test]
+fn the_last_valid_day_is_listed(rt: HostRuntime) {
+    let book = Book::try_read(rt.alloc(), LAST_DAYS).expect(&rt, "no book");
+    assert_listed(&rt, &book, (365242134, 365242134), 2, &[(365242134, 2)]);
+}
