@@ -11,6 +11,7 @@ pub mod EasterDates
 pub mod HijriMonthStarts
 pub mod EastAsianMonthStarts
 pub mod Recurring
+pub mod HolidayBooks
 pub use Rattle.cal_days.specs.Day
 pub use Rattle.cal_days.specs.Sums
 pub use Rattle.cal_days.specs.Gregorian

@@ -12,6 +12,7 @@ mod date_text;
 pub mod east_asian;
 mod easter;
 pub mod hijri;
+pub mod holidays;
 mod ixdtf_record;
 pub mod laws;
 mod placing;
