@@ -3,3 +3,4 @@ pub mod Bytes
 pub mod Memory
 pub mod Plain
 pub mod Standard
+pub mod Whole

@@ -11,6 +11,7 @@ mod plain;
 mod standard;
 #[cfg(test)]
 mod tests;
+mod whole;
 
 ghost use Rattle.std.specs.Prelude.{ℕ, List, Option};
 ghost use Rattle.std.specs.Io.{ReadsAtMost, WritesAtMost};
@@ -21,6 +22,7 @@ ghost use Rattle.byte_io.specs.Bytes.{WritesSome};
 pub use memory::{MemorySink, MemorySource};
 pub use plain::{PlainSink, PlainSource};
 pub use standard::{StdSink, StdSource};
+pub use whole::{ReadAllError, read_all};
 
 /// The answer of a source or a sink that has counted a fault in this call.
 #[derive(Clone, Copy, Debug, PartialEq, Eq)]
