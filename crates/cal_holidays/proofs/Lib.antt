@@ -7,3 +7,4 @@ mod ListLemmas
 mod NthLemmas
 mod RecordLemmas
 mod WindowLemmas
+pub mod YieldLemmas

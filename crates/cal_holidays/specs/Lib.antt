@@ -3,6 +3,7 @@ pub mod Books
 pub mod EasterYears
 pub mod Fields
 pub mod Found
+pub mod Items
 pub mod Kept
 pub mod KindMonths
 pub mod Listing

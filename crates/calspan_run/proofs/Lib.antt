@@ -4,6 +4,7 @@ mod DayLineLemmas
 mod EndLemmas
 mod GatheringLemmas
 mod GeneratorLemmas
+mod HolidayLemmas
 mod InputLemmas
 mod KindLimits
 mod KnownLemmas

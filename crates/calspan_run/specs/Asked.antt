@@ -45,6 +45,18 @@ anniversary_read words =
     and_then (next_word int_of words) (λ last words.
     Some (record { calendar = calendar; shown = shown; leaping = leaping; month = month; day = day; first = first; last = last }, words))))))))
 
+-- the holidays of a book, from a first day to a last one
+pub record HolidaysAsked : Type 0 where
+  pub first : ℤ
+  pub last : ℤ
+
+-- `FIRST LAST`
+unfoldable pub holidays_read : List (List ℕ) → Read HolidaysAsked
+holidays_read words =
+    and_then (next_word int_of words) (λ first words.
+    and_then (next_word int_of words) (λ last words.
+    Some (record { first = first; last = last }, words)))
+
 -- what a recurrence is asked for, before the fields of its start
 pub record RecurHeader : Type 0 where
   pub calendar : AnyCalendarKind

@@ -4,10 +4,11 @@ use Rattle.cal_types.specs.MonthParts.{month_parts}
 use Rattle.calspan_run.specs.Asked as asked
 use Rattle.calspan_run.specs.Command as command
 use Rattle.calspan_run.specs.declared.anniversary.words.AnniversaryWords.{AnniversaryWords}
+use Rattle.calspan_run.specs.declared.holidays.words.HolidayWords.{HolidayWords}
 use Rattle.calspan_run.specs.declared.recur.words.RecurHeader.{RecurHeader}
 use Rattle.calspan_run.specs.declared.recur.words.RecurWords.{RecurWords}
 use Rattle.calspan_run.specs.declared.command.Command.{Command}
-use Rattle.calspan_run.specs.declared.command.Command.TheVariants.{Span, Generate, Anniversary, Recur}
+use Rattle.calspan_run.specs.declared.command.Command.TheVariants.{Span, Generate, Anniversary, Recur, Holidays}
 
 abbrev pub anniversary_said : AnniversaryWords → asked.AnniversaryAsked
 anniversary_said w = record { calendar = w.calendar; shown = w.shown; leaping = w.leaping; month = month_parts w.month; day = w.day; first = w.first; last = w.last }
@@ -18,9 +19,13 @@ header_said h = record { calendar = h.calendar; shown = h.shown; unit = h.unit; 
 abbrev pub recur_said : RecurWords → asked.RecurAsked
 recur_said w = record { header = header_said w.header; start = bag_of w.fields }
 
+abbrev pub holidays_said : HolidayWords → asked.HolidaysAsked
+holidays_said w = record { first = w.first; last = w.last }
+
 -- what a command asks for
 abbrev pub command_said : Command → command.Asked
 command_said Span = command.Span
 command_said (Generate n) = command.Generate n
 command_said (Anniversary w) = command.Anniversary (anniversary_said w)
 command_said (Recur w) = command.Recur (recur_said w)
+command_said (Holidays w) = command.Holidays (holidays_said w)

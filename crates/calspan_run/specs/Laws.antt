@@ -3,8 +3,10 @@ use Rattle.std.specs.Prelude.{◌≡◌, ℕ, Bool, true, false, List, ◌++◌}
 use Rattle.byte_io.specs.Bytes.{IsPrefix}
 use Rattle.cal_tables.specs.Kinds.{TableContents}
 use Rattle.calspan_run.specs.Generator.{IsGenerated}
+use Rattle.calspan_run.specs.Asked.{HolidaysAsked}
+use Rattle.calspan_run.specs.HolidayRuns.{HolidayEnds}
 use Rattle.calspan_run.specs.ListEnds.{ListEnds}
-use Rattle.calspan_run.specs.Rules.{list_rules}
+use Rattle.calspan_run.specs.Rules.{holiday_rules, list_rules}
 use Rattle.calspan_run.specs.Run.{Outside}
 use Rattle.calspan_run.specs.Serving.{Rules, Serves}
 use Rattle.calspan_run.specs.declared.status.Status.{Status}
@@ -42,6 +44,10 @@ pub record IsList (Lists : TableContents → List ℕ → Bool → Type 0) : Typ
 -- how a run of a list ends, by what was read and written
 abbrev pub EndsAsList : (TableContents → List ℕ → Bool → Type 0) → Type 0
 EndsAsList Lists = (status : Status) (before now : Outside) → Serves (list_rules Lists) status before now → ListEnds Lists status before now
+
+-- how a run of `holidays` ends, by what was read and written
+abbrev pub EndsAsHolidays : HolidaysAsked → Type 0
+EndsAsHolidays asked = (status : Status) (before now : Outside) → Serves (holiday_rules asked) status before now → HolidayEnds asked status before now
 
 -- to every number of requests there is a line, and only one
 abbrev pub EveryNumberHasOneLine : Type 0

@@ -9,6 +9,9 @@ pub mod DayLines
 pub mod Endings
 pub mod Gathering
 pub mod Generator
+pub mod HolidayEndings
+pub mod HolidayLines
+pub mod HolidayRuns
 pub mod Laws
 pub mod ListAnswers
 pub mod ListEnds

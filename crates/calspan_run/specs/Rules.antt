@@ -1,13 +1,18 @@
 -- What the runs of the commands are held to.
-use Rattle.std.specs.Prelude.{◌≡◌, ℕ, Bool, List, ◌⊎◌}
+use Rattle.std.specs.Prelude.{◌≡◌, ℕ, ◌<◌, Bool, true, false, List, [], ◌⊎◌, length}
 use Rattle.cal_tables.specs.Kinds.{TableContents}
 use Rattle.line_reader.specs.Lines.{lines_in}
+use Rattle.calspan_run.specs.Asked.{HolidaysAsked}
 use Rattle.calspan_run.specs.BehindRows.{SaysBehindRows}
+use Rattle.calspan_run.specs.DayLines.{is_refused, list_text}
 use Rattle.calspan_run.specs.Generator.{IsGenerated}
+use Rattle.calspan_run.specs.HolidayLines.{holidays_answer}
 use Rattle.calspan_run.specs.ListAnswers.{list_behind}
+use Rattle.calspan_run.specs.Refusals.{status_of}
 use Rattle.calspan_run.specs.Run.{RowComesFirst}
 use Rattle.calspan_run.specs.Serving.{Rules}
 use Rattle.calspan_run.specs.Answers.{IsAnswers}
+use Rattle.calspan_run.specs.declared.status.Status.{Status}
 use Rattle.calspan_run.specs.declared.status.Status.TheVariants.{Done, Refused, TableRefused}
 
 -- `span`: a line ends the run where it refuses a row or a table
@@ -32,4 +37,18 @@ generator_rules count = record {
   Says = λ bytes whole text status. IsGenerated count text × (status ≡ Done);
   EndsAtLine = λ status. status ≡ Done;
   MayLack = λ bytes whole. ⊥;
+}
+
+-- the text of `holidays`: nothing before the whole input was read, and then the list or the line that refuses it
+abbrev pub SaysHolidays : HolidaysAsked → List ℕ → Bool → List ℕ → Status → Type 0
+SaysHolidays asked bytes false text status = (text ≡ []) × (status ≡ Done)
+SaysHolidays asked bytes true text status =
+    (text ≡ list_text (holidays_answer asked bytes)) × (status ≡ status_of (is_refused (holidays_answer asked bytes)))
+
+-- `holidays`: the input is a book as a whole, and no line ends the run
+abbrev pub holiday_rules : HolidaysAsked → Rules
+holiday_rules asked = record {
+  Says = SaysHolidays asked;
+  EndsAtLine = λ status. ⊥;
+  MayLack = λ bytes whole. 0 < length bytes;
 }

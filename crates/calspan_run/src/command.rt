@@ -2,11 +2,12 @@
 ghost use Rattle.std.specs.Prelude.{◌≡◌, ◌≤◌, IfSome, string_bytes, map};
 ghost use Rattle.std.specs.Option.{option_map};
 ghost use Rattle.request_lines.specs.Reading.{IsReading, next_word};
-ghost use Rattle.calspan_run.specs.Command.{anniversary_of, at_end, command_of, count_of, generate_of, is_command};
+ghost use Rattle.calspan_run.specs.Command.{anniversary_of, at_end, command_of, count_of, generate_of, holidays_of, is_command};
 ghost use Rattle.calspan_run.specs.CommandWordsLeft.{words_left};
 
 use crate::anniversary::words::{AnniversaryWords, read_anniversary};
 use crate::command_words::CommandWords;
+use crate::holidays::words::{HolidayWords, read_holidays};
 use crate::recur::words::{RecurWords, read_recur};
 use word_values::read_number;
 
@@ -24,6 +25,8 @@ pub enum Command<'a> {
     Anniversary(AnniversaryWords),
     /// To list the occurrences of a rule: `recur CAL SHOWN UNIT EVERY skip|constrain FIRST LAST FIELDS`.
     Recur(RecurWords<'a>),
+    /// To list the holidays of a book: `holidays FIRST LAST`.
+    Holidays(HolidayWords),
 }
 
 ghost use Rattle.calspan_run.specs.CommandSaid.{command_said};
@@ -68,6 +71,15 @@ fn read_days(mut words: CommandWords<'_>) -> Option<Command<'_>>
     at_end(Command::Anniversary(asked), &words)
 }
 
+// The command that the words behind `holidays` make.
+fn read_window(mut words: CommandWords<'_>) -> Option<Command<'_>>
+    ensures said { option_map command_said result ≡ holidays_of (words_left words.entry) }
+    ensures few { IfSome result (λ c. is_command (command_said c)) }
+{
+    let asked = read_holidays(&mut words)?;
+    at_end(Command::Holidays(asked), &words)
+}
+
 /// What the words ask for, if anything.
 pub fn read_command(words: &[String]) -> Option<Command<'_>>
     ensures said { option_map command_said result ≡ command_of (map string_bytes words.now) }
@@ -85,7 +97,10 @@ pub fn read_command(words: &[String]) -> Option<Command<'_>>
         return read_days(words);
     }
     if name == b"recur".as_slice() {
-        Some(Command::Recur(read_recur(words)?))
+        return Some(Command::Recur(read_recur(words)?));
+    }
+    if name == b"holidays".as_slice() {
+        read_window(words)
     } else {
         None
     }

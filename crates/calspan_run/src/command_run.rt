@@ -1,8 +1,9 @@
 //! The program's run.
 ghost use Rattle.std.specs.Prelude.{◌≡◌, ◌≢◌, ◌≤◌, true, List, Option, ℕ, Some, None, IfSome, ◌↔◌, length, map, string_bytes};
 ghost use Rattle.line_reader.specs.Lines.{lines_in};
-ghost use Rattle.calspan_run.specs.Asked.{AnniversaryAsked, RecurAsked};
-ghost use Rattle.calspan_run.specs.Command.{Anniversary, Generate, Recur, Span, command_of};
+ghost use Rattle.calspan_run.specs.Asked.{AnniversaryAsked, HolidaysAsked, RecurAsked};
+ghost use Rattle.calspan_run.specs.Command.{Anniversary, Generate, Holidays, Recur, Span, command_of};
+ghost use Rattle.calspan_run.specs.HolidayRuns.{RunsHolidays};
 ghost use Rattle.calspan_run.specs.ListRuns.{RunsList};
 ghost use Rattle.calspan_run.specs.ListTexts.{ListsAnniversaries, ListsOccurrences};
 ghost use Rattle.calspan_run.specs.Rules.{generator_rules, span_rules};
@@ -11,6 +12,7 @@ ghost use Rattle.calspan_run.specs.Serving.{IsAnswered, Serves};
 
 use crate::command::{Command, read_command};
 use crate::generated::generating::serve_totals;
+use crate::holidays::listing::serve_holidays;
 use crate::lists::serve_list;
 use crate::span::serving::serve_span;
 use crate::status::Status;
@@ -32,6 +34,11 @@ use std::alloc::Global;
 /// the first fault of the fields. A line of the source that is no row line is refused (`err line N syntax` or `long`), and
 /// ends the run at once.
 ///
+/// With `holidays FIRST LAST` it reads a book to the end of the source (the text that [`cal_holidays`] reads), and writes a
+/// line for each holiday from the day number FIRST to LAST, in order of their days and on one day of the book: its date in
+/// the ISO calendar, and its name. It is refused by `err InvalidWindow`, or by `err record R field F` for the first record
+/// that is none of a book and its first bad field, 0 where it hasn't six.
+///
 /// The status says how the run ended, and what was written then, in the case of `span`:
 ///
 /// - `Done` and `Refused`: all answers to the input; `Refused` where one of them is `err`. With `gen`, `Done` where the
@@ -49,7 +56,8 @@ use std::alloc::Global;
 ///
 /// In the case of a list, `Done` and `Refused` mean that the list or the line that refuses it was written, `TableRefused`
 /// that the line is one that refuses a row line or a table; after `ReadFault` and `TooLong` nothing was written, and after
-/// `WriteFault` a prefix of the text.
+/// `WriteFault` a prefix of the text. With `holidays` there is no `TableRefused`, and `NoMemory` may come where the source
+/// gave a byte.
 pub fn run<S: Source, K: Sink>(
     alloc: Global,
     words: &[String],
@@ -90,12 +98,17 @@ pub fn run<S: Source, K: Sink>(
         → RunsList (ListsOccurrences asked) result
         (outside (S.left source.old) (K.taken sink.old) (S.faults source.old) (K.faults sink.old))
         (outside (S.left source.new) (K.taken sink.new) (S.faults source.new) (K.faults sink.new)) }
+    ensures holidays { (asked : HolidaysAsked) → command_of (map string_bytes words.now) ≡ Some (Holidays asked)
+        → RunsHolidays asked result
+        (outside (S.left source.old) (K.taken sink.old) (S.faults source.old) (K.faults sink.old))
+        (outside (S.left source.new) (K.taken sink.new) (S.faults source.new) (K.faults sink.new)) }
 {
     match read_command(words) {
         Some(Command::Span) => serve_span(alloc, source, sink),
         Some(Command::Generate(count)) => serve_totals(count, sink),
         Some(Command::Anniversary(asked)) => serve_list(alloc, &asked, source, sink),
         Some(Command::Recur(asked)) => serve_list(alloc, &asked, source, sink),
+        Some(Command::Holidays(asked)) => serve_holidays(alloc, asked, source, sink),
         None => Status::Words,
     }
 }

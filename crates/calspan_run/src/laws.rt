@@ -1,9 +1,9 @@
 //! Laws of what the commands write, each proved as the contract of a function that does nothing.
 ghost use Rattle.calspan_run.specs.Answers.{IsAnswers};
-ghost use Rattle.calspan_run.specs.Asked.{AnniversaryAsked, RecurAsked};
-ghost use Rattle.calspan_run.specs.Laws.{EveryInputHas, IsUnique, PrefixesHavePrefixes, EveryNumberHasOneLine, EndsAsList};
+ghost use Rattle.calspan_run.specs.Asked.{AnniversaryAsked, HolidaysAsked, RecurAsked};
+ghost use Rattle.calspan_run.specs.Laws.{EveryInputHas, IsUnique, PrefixesHavePrefixes, EveryNumberHasOneLine, EndsAsHolidays, EndsAsList};
 ghost use Rattle.calspan_run.specs.ListTexts.{ListsAnniversaries, ListsOccurrences};
-ghost use Rattle.calspan_run.specs.Rules.{list_rules};
+ghost use Rattle.calspan_run.specs.Rules.{holiday_rules, list_rules};
 
 /// To every input, and to what has come of one, there are answers and a status.
 pub fn every_input_has_answers()
@@ -37,8 +37,15 @@ pub fn recurrences_have_one_text()
     ensures unique { (asked : RecurAsked) → IsUnique (list_rules (ListsOccurrences asked)).Says }
 {}
 
-/// How a run of `anniversary` or `recur` ends with each status, by what was read and written.
+/// To all words of `holidays` and every input there is a text and a status, and only one of each.
+pub fn holidays_have_one_text()
+    ensures exists { (asked : HolidaysAsked) → EveryInputHas (holiday_rules asked).Says }
+    ensures unique { (asked : HolidaysAsked) → IsUnique (holiday_rules asked).Says }
+{}
+
+/// How a run of `anniversary`, `recur` or `holidays` ends with each status, by what was read and written.
 pub fn runs_of_lists_end()
     ensures anniversary { (asked : AnniversaryAsked) → EndsAsList (ListsAnniversaries asked) }
     ensures recur { (asked : RecurAsked) → EndsAsList (ListsOccurrences asked) }
+    ensures holidays { (asked : HolidaysAsked) → EndsAsHolidays asked }
 {}

@@ -16,6 +16,7 @@ mod command_words;
 mod day_lines;
 mod endings;
 mod generated;
+mod holidays;
 mod kinds;
 pub mod laws;
 pub mod lists;

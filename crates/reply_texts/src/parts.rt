@@ -153,8 +153,9 @@ fn push_month(text: &mut Pending, month: Month)
     }
 }
 
-// A date: its extended year, the year that it is printed in, its month code, its day, and its day number.
-fn push_date(text: &mut Pending, parts: &DayParts)
+/// Appends a date, which takes at most 92 bytes: its extended year, the year that it is printed in, its month code, its day,
+/// and its day number.
+pub fn push_date(text: &mut Pending, parts: &DayParts)
     requires room { array_vec_len text.old + 92 ≤ 8192 }
     requires day { parts.now.day < 100 }
     ensures items { (s : CalendarSystem) (t : Date) → IsDayParts s t parts.now

@@ -1,0 +1,5 @@
+//! The command `holidays`: the days that the rules of a book name.
+
+pub(crate) mod book_lines;
+pub(crate) mod listing;
+pub(crate) mod words;
