@@ -5,7 +5,7 @@ use Rattle.line_reader.specs.Lines.{lines_in}
 use Rattle.calspan_run.specs.BehindRows.{SaysBehindRows}
 use Rattle.calspan_run.specs.Generator.{IsGenerated}
 use Rattle.calspan_run.specs.ListAnswers.{list_behind}
-use Rattle.calspan_run.specs.Run.{RowComesFirst}
+use Rattle.table_rows.specs.RowLines.{RowComesFirst}
 use Rattle.calspan_run.specs.Serving.{Rules}
 use Rattle.calspan_run.specs.Answers.{IsAnswers}
 use Rattle.calspan_run.specs.declared.status.Status.TheVariants.{Done, Refused, TableRefused}
