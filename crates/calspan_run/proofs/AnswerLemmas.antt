@@ -14,13 +14,13 @@ use Rattle.calspan_run.specs.Laws.{EveryInputHas, IsUnique, PrefixesHavePrefixes
 use Rattle.calspan_run.specs.Refusals.{refusal, status_of}
 use Rattle.calspan_run.specs.Replies.{options_of}
 use Rattle.calspan_run.specs.Rules.{span_rules}
-use Rattle.calspan_run.specs.TableRows.{TableRows, AreAccepted, contents_of}
+use Rattle.table_rows.specs.TableRows.{TableRows, AreAccepted, contents_of}
 use Rattle.calspan_run.specs.TableTexts.{row_refusal}
 use Rattle.calspan_run.specs.declared.status.Status.{Status}
 use Rattle.calspan_run.specs.declared.status.Status.TheVariants.{Done, TableRefused}
-use Rattle.calspan_run.specs.declared.rows.table.RowFault.TheVariants.{Late}
+use Rattle.table_rows.specs.declared.table.RowFault.TheVariants.{Late}
 use Rattle.calspan_run.proofs.KindLimits.{kind_limits}
-use Rattle.calspan_run.proofs.RowFirstLemmas.{row_lacks}
+use Rattle.table_rows.proofs.RowFirstLemmas.{row_lacks}
 use Rattle.calspan_run.proofs.BehindRowsLemmas.{AlwaysWrites, WritesOnce, KeepsEnd, GrowsAtLine, over_exists, over_unique, behind_exists, behind_unique, behind_ends, behind_prefix}
 
 -- there is an answer to each request line

@@ -5,18 +5,18 @@ use Rattle.cal_errors.specs.declared.errors.TableFault.{TableFault}
 use Rattle.cal_tables.specs.Kinds.{TableContents}
 use Rattle.line_reader.specs.Lines.{lines_in}
 use Rattle.request_lines.specs.Lines.{RequestLine}
-use Rattle.calspan_run.specs.BehindRows.{Behind, OverTables, SaysAt, SaysBehindRows}
+use Rattle.calspan_run.specs.BehindRows.{Behind, OverTables, RefusesTables, SaysAt, SaysBehindRows}
 use Rattle.calspan_run.specs.Laws.{EveryInputHas, IsUnique, PrefixesHavePrefixes}
-use Rattle.calspan_run.specs.RowLines.{EndBefore, RowsEnd, WithLines, AtFaultyRow, AtRequest, EndRows}
-use Rattle.calspan_run.specs.TableRows.{TableRows, contents_of, AreAccepted, IsFirstRefused}
+use Rattle.table_rows.specs.RowLines.{EndBefore, RowsEnd, WithLines, AtFaultyRow, AtRequest, EndRows}
+use Rattle.table_rows.specs.TableRows.{TableRows, contents_of, AreAccepted, IsFirstRefused}
 use Rattle.calspan_run.specs.TableTexts.{row_refusal, table_refusal}
 use Rattle.calspan_run.specs.declared.status.Status.{Status}
 use Rattle.calspan_run.specs.declared.status.Status.TheVariants.{Done, TableRefused}
-use Rattle.calspan_run.specs.declared.rows.table.Table.{Table}
-use Rattle.calspan_run.proofs.RowLineLemmas.{rows_end}
-use Rattle.calspan_run.proofs.InputLemmas.{lines_in-prefix}
-use Rattle.calspan_run.proofs.RowUniqueLemmas.{rows_end-unique}
-use Rattle.calspan_run.proofs.TableLemmas.{tables_decided, tables_refuse, refuses_unique}
+use Rattle.table_rows.specs.declared.table.Table.{Table}
+use Rattle.table_rows.proofs.RowLineLemmas.{end_before, rows_end}
+use Rattle.table_rows.proofs.InputLemmas.{lines_in-prefix}
+use Rattle.table_rows.proofs.RowUniqueLemmas.{rows_end-unique}
+use Rattle.table_rows.proofs.TableLemmas.{tables_decided, tables_refuse, tables_unique}
 
 -- there is a text over the tables where they are accepted, or they are refused
 pub over_exists : (Writes : TableContents → List ℕ → Status → Type 0) (rows : TableRows) → (AreAccepted rows → (text : List ℕ) × (status : Status) × Writes (contents_of rows) text status) → (text : List ℕ) × (status : Status) × OverTables Writes rows text status
@@ -42,6 +42,12 @@ behind_exists b always bytes whole =
     let (end, rows, ends) = rows_end (lines_in bytes whole) in
     let (text, status, says) = says_at_exists b always end whole rows in
     (text, status, record { rows = rows; end = end; ends = ends; says = says })
+
+-- one line refuses the tables
+refuses_unique : (rows : TableRows) (a b : List ℕ) → RefusesTables rows a → RefusesTables rows b → a ≡ b
+refuses_unique rows a b (s, f, h, e) (t, g, k, d) =
+    let (table, fault) = tables_unique rows s t f g h k in
+    e ∙ (ap (λ x. table_refusal x f) table ∙ (ap (table_refusal t) fault ∙ sym d))
 
 -- over any tables one text
 pub over_unique : (Writes : TableContents → List ℕ → Status → Type 0) → ((tables : TableContents) (a b : List ℕ) (s t : Status) → Writes tables a s → Writes tables b t → (a ≡ b) × (s ≡ t))
@@ -72,14 +78,6 @@ behind_unique b once bytes whole x y s t h k =
 pub record KeepsEnd (b : Behind) (Ends : Status → Type 0) : Type 0 where
   pub done : Ends Done → ⊥
   pub at_line : (rows : TableRows) (n : ℕ) (request : RequestLine) (others more : List (List ℕ)) (text : List ℕ) (status : Status) → Ends status → b.AtLine rows n request others text status → b.AtLine rows n request (others ++ more) text status
-
-end_before : (lines more : List (List ℕ)) (rows : TableRows) (n : ℕ) (line : List ℕ) (others : List (List ℕ)) → EndBefore lines rows n line others → EndBefore (lines ++ more) rows n line (others ++ more)
-end_before lines more rows n line others h = record {
-  before = h.before;
-  are_rows = h.are_rows;
-  number = h.number;
-  all = ap (λ t. t ++ more) h.all ∙ append_assoc h.before (line ∷ others) more;
-}
 
 behind_more : (b : Behind) (Ends : Status → Type 0) → KeepsEnd b Ends → (bytes : List ℕ) (all : List ℕ) (whole : Bool) (others : List (List ℕ)) (rows : TableRows) (end : RowsEnd) (text : List ℕ) (status : Status) → lines_in all whole ≡ lines_in bytes false ++ others
     → Ends status → EndRows end (lines_in bytes false) rows → SaysAt b end false rows text status → SaysBehindRows b all whole text status

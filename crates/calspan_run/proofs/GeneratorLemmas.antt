@@ -18,7 +18,7 @@ use Rattle.calspan_run.specs.Run.{Outside}
 use Rattle.calspan_run.specs.Serving.{Serves}
 use Rattle.calspan_run.specs.declared.status.Status.{Status}
 use Rattle.calspan_run.specs.declared.status.Status.TheVariants.{Done, Words}
-use Rattle.calspan_run.proofs.KnownLemmas.{consumes_none}
+use Rattle.std.proofs.KnownBytes.{Consumes-nil}
 use Rattle.request_lines.specs.Requests.{Request}
 use Rattle.calspan_run.specs.declared.generated.totals.Totals.{Totals}
 use Rattle.cal_tables.proofs.KindLemmas.{kind_lawful}
@@ -91,7 +91,7 @@ pub may_end : (count : ℕ) (left : Option (List ℕ)) (text : List ℕ) → IsG
 may_end count left text says = record {
   bytes = [];
   whole = false;
-  took = consumes_none left;
+  took = Consumes-nil left;
   says = (says, refl);
   at_end = λ e. absurd cc;
   at_line = λ e. refl;

@@ -41,8 +41,8 @@ use Rattle.cal_model.proofs.RenumberedBoundLemmas.{ranged-renumbered, apart-renu
 use Rattle.cal_rows.specs.Rows.{IsRow}
 use Rattle.cal_spans.specs.Laws.{IsWithinLimits}
 use Rattle.cal_tables.specs.Kinds.{kind_system, no_contents, side_system}
-use Rattle.calspan_run.specs.TableRows.{TableRows, no_rows, contents_of, AreAccepted}
-use Rattle.calspan_run.specs.declared.rows.table.Table.TheVariants as table
+use Rattle.table_rows.specs.TableRows.{TableRows, no_rows, contents_of, AreAccepted}
+use Rattle.table_rows.specs.declared.table.Table.TheVariants as table
 
 -- a list without rows has no row
 no_row : {Y P : Type 0} (i : ℕ) (row : Y) → IsRow [] i row → P

@@ -1,9 +1,9 @@
--- Calls in turn, on the bytes that a source and a sink tell.
+-- Calls in turn, on the bytes that a sink tells.
 use Rattle.std.proofs.Common.{ℕ, ◌+◌, ◌-◌, take, drop, length, subst, List, [], ◌++◌, Option, Some, None, Result, Ok, Err, true≢false, refl, ◌∙◌, sym, ap}
 use Rattle.std.proofs.lemmas.List.{append-nil, append_assoc, take_rest, take-append-drop}
 use Rattle.std.proofs.Math.Seq.{take-add}
 use Rattle.std.specs.Result.{IsErr}
-use Rattle.std.specs.Io.KnownBytes.{Appends, Consumes, Keeps}
+use Rattle.std.specs.Io.KnownBytes.{Appends, Keeps}
 use Rattle.byte_io.specs.declared.Failed.{Failed}
 use Rattle.byte_io.specs.Bytes.{IsPrefix}
 use Rattle.calspan_run.specs.Written.{WrotePrefix, Wrote}
@@ -23,22 +23,6 @@ appends_keeps None b c x p q = tt
 appends_keeps (Some xs) None c x p q = absurd p
 appends_keeps (Some xs) (Some ys) None x p q = absurd q
 appends_keeps (Some xs) (Some ys) (Some zs) x p q = q ∙ p
-
-pub consumes_none : (a : Option (List ℕ)) → Consumes a a []
-consumes_none None = tt
-consumes_none (Some xs) = refl
-
-pub consumes_then : (a b c : Option (List ℕ)) (x y : List ℕ) → Consumes a b x → Consumes b c y → Consumes a c (x ++ y)
-consumes_then None b c x y p q = tt
-consumes_then (Some xs) None c x y p q = absurd p
-consumes_then (Some xs) (Some ys) None x y p q = absurd q
-consumes_then (Some xs) (Some ys) (Some zs) x y p q = p ∙ (ap (λ r. x ++ r) q ∙ sym (append_assoc x y zs))
-
-pub consumes_keeps : (a b c : Option (List ℕ)) (x : List ℕ) → Consumes a b x → Keeps b c → Consumes a c x
-consumes_keeps None b c x p q = tt
-consumes_keeps (Some xs) None c x p q = absurd p
-consumes_keeps (Some xs) (Some ys) None x p q = absurd q
-consumes_keeps (Some xs) (Some ys) (Some zs) x p q = p ∙ ap (λ r. x ++ r) (sym q)
 
 pub prefix_all : (x : List ℕ) → IsPrefix x x
 prefix_all x = ([], sym (append-nil x))

@@ -9,15 +9,15 @@ use Rattle.calspan_run.specs.BehindRows.{OverTables, SaysAt, SaysBehindRows}
 use Rattle.calspan_run.specs.ListAnswers.{line_refusal, list_behind}
 use Rattle.calspan_run.specs.ListEnds.{AllListed, MetOther, MetFaultyRow, TablesRefused, ListEnds}
 use Rattle.calspan_run.specs.Laws.{EveryInputHas, IsUnique, IsList, AreLasting}
-use Rattle.calspan_run.specs.RowLines.{AreRows, RowsEnd, WithLines, AtFaultyRow, AtRequest, EndRows}
+use Rattle.table_rows.specs.RowLines.{AreRows, RowsEnd, WithLines, AtFaultyRow, AtRequest, EndRows}
 use Rattle.calspan_run.specs.Rules.{list_rules}
 use Rattle.calspan_run.specs.Run.{Outside, Exchanged, limit}
 use Rattle.calspan_run.specs.Serving.{Answered, StoppedReading, TookTooMuch, Serves}
-use Rattle.calspan_run.specs.TableRows.{TableRows, contents_of}
+use Rattle.table_rows.specs.TableRows.{TableRows, contents_of}
 use Rattle.calspan_run.specs.declared.status.Status.{Status}
 use Rattle.calspan_run.specs.declared.status.Status.TheVariants.{Done, Refused, Words, ReadFault, WriteFault, NoMemory, TableRefused, TooLong}
 use Rattle.calspan_run.proofs.BehindRowsLemmas.{behind_exists, behind_unique, behind_ends}
-use Rattle.calspan_run.proofs.RowFirstLemmas.{row_lacks}
+use Rattle.table_rows.proofs.RowFirstLemmas.{row_lacks}
 
 refused_is_not : (c : Bool) (s : Status) → s ≡ status_of c → s ≡ TableRefused → ⊥
 refused_is_not true s e f = cc

@@ -4,33 +4,34 @@ use Rattle.std.proofs.lemmas.List.{take_all}
 use Rattle.cal_tables.specs.Kinds.{TableContents}
 use Rattle.line_reader.specs.Buffer.{Holds}
 use Rattle.line_reader.specs.declared.buffer.LineBuffer.{LineBuffer}
-use Rattle.request_lines.specs.Lines.{Nothing, GivesRow, Requests, RequestLine, Long, Asks, Malformed, IsLine, SaysAs}
-use Rattle.request_lines.specs.Rows.{Row}
+use Rattle.request_lines.specs.Lines.{Requests, RequestLine, Long, Asks, Malformed, IsLine}
+use Rattle.table_rows.specs.Reading.{is_long}
+use Rattle.table_rows.proofs.ReadingLemmas.{long_is}
 use Rattle.calspan_run.specs.Refusals.{refusal, status_of}
 use Rattle.calspan_run.specs.BehindRows.{OverTables, SaysBehindRows}
 use Rattle.calspan_run.specs.Endings.{EndsWith, MayEnd}
 use Rattle.calspan_run.specs.ListAnswers.{line_refusal, list_behind, list_end}
-use Rattle.calspan_run.specs.RowLines.{WithLines, AtFaultyRow, AtRequest}
-use Rattle.calspan_run.specs.Gathering.{MetEnd, MetFaulty, MetOther, Stops}
+use Rattle.table_rows.specs.RowLines.{WithLines, AtFaultyRow, AtRequest}
+use Rattle.table_rows.specs.Gathering.{MetEnd, MetFaulty, MetOther, Stops}
 use Rattle.calspan_run.specs.Rules.{list_rules}
 use Rattle.calspan_run.specs.Run.{outside, limit}
 use Rattle.calspan_run.specs.Serving.{Serves}
-use Rattle.calspan_run.specs.TableRows.{TableRows}
+use Rattle.table_rows.specs.TableRows.{TableRows}
 use Rattle.calspan_run.specs.TableTexts.{row_refusal}
+use Rattle.calspan_run.specs.Status.{stop_status}
+use Rattle.table_rows.specs.declared.gathering.Stop.{Stop}
+use Rattle.table_rows.specs.declared.gathering.Stop.TheVariants as stop
 use Rattle.calspan_run.specs.declared.status.Status.{Status}
 use Rattle.calspan_run.specs.declared.status.Status.TheVariants.{Done, Refused, Words, ReadFault, WriteFault, NoMemory, TableRefused, TooLong}
-use Rattle.calspan_run.specs.declared.rows.table.RowFault.{RowFault}
+use Rattle.table_rows.specs.declared.table.RowFault.{RowFault}
 use Rattle.calspan_run.proofs.EndLemmas.{IsEnd, ends_serve}
 use Rattle.calspan_run.proofs.KnownLemmas.{appends_none}
 use Rattle.calspan_run.proofs.ListLemmas.{list_lasts, list_lasts-done}
 
 module _ (Lists : TableContents → List ℕ → Bool → Type 0) (left l : Option (List ℕ)) where
   -- nothing was written where the source failed or gave too much, or memory was wanted
-  pub stops_serve : (status : Status) (t : Option (List ℕ)) (faults more w : ℕ) → Stops status left l faults more → Serves (list_rules Lists) status (outside left t faults w) (outside l t more w)
-  stops_serve Done t faults more w h = absurd h
-  stops_serve Refused t faults more w h = absurd h
-  stops_serve Words t faults more w h = absurd h
-  stops_serve ReadFault t faults more w (bytes, rows, rose, took, are) = record {
+  pub stops_serve : (why : Stop) (t : Option (List ℕ)) (faults more w : ℕ) → Stops why left l faults more → Serves (list_rules Lists) (stop_status why) (outside left t faults w) (outside l t more w)
+  stops_serve stop.ReadFault t faults more w (bytes, rows, rose, took, are) = record {
     bytes = bytes;
     text = [];
     status = Done;
@@ -39,16 +40,14 @@ module _ (Lists : TableContents → List ℕ → Bool → Type 0) (left l : Opti
     says = record { rows = rows; end = WithLines; ends = are; says = (refl, refl) };
     goes_on = (list_lasts-done Lists);
   }
-  stops_serve WriteFault t faults more w h = absurd h
-  stops_serve NoMemory t faults more w (bytes, whole, took, may, at_end) = record {
+  stops_serve stop.NoMemory t faults more w (bytes, whole, took, may, at_end) = record {
     bytes = bytes;
     whole = whole;
     exchanged = record { took = took; wrote = appends_none t };
     may = may;
     at_end = at_end;
   }
-  stops_serve TableRefused t faults more w h = absurd h
-  stops_serve TooLong t faults more w (bytes, rows, size, took, are) = record {
+  stops_serve stop.TooLong t faults more w (bytes, rows, size, took, are) = record {
     bytes = bytes;
     text = [];
     status = Done;
@@ -94,31 +93,14 @@ over_end Lists rows text status (inl (accepted, (true, lists, e))) = inr (inl e)
 over_end Lists rows text status (inl (accepted, (false, lists, e))) = inl e
 over_end Lists rows text status (inr (refuses, e)) = inr (inr e)
 
-requests_not_row : (request : RequestLine) (row : Option Row) → Requests request ≡ GivesRow row → ⊥
-requests_not_row request row e = cc
-
 -- a line that is no row line is long where its buffer says so
-long_requests : (silent long row : Bool) (text : List ℕ) (request : RequestLine) (n : ℕ) → SaysAs silent long row text (Requests request) → line_refusal n request ≡ refusal n (cond long (codes "long") (codes "syntax"))
-long_requests true long row text request n e = absurd (differ e)
-  where
-    differ : Requests request ≡ Nothing → ⊥
-    differ e = cc
-long_requests false true row text request n e = ap (line_refusal n) (same e)
-  where
-    same : Requests request ≡ Requests Long → request ≡ Long
-    same e = cc
-long_requests false false true text request n e = absurd (requests_not_row request _ e)
-long_requests false false false text request n (inl h) = ap (line_refusal n) (same h.asks_it)
-  where
-    same : Requests request ≡ Requests (Asks h.request) → request ≡ Asks h.request
-    same e = cc
-long_requests false false false text request n (inr h) = ap (line_refusal n) (same h.malformed)
-  where
-    same : Requests request ≡ Requests Malformed → request ≡ Malformed
-    same e = cc
+long_refusal : (request : RequestLine) (n : ℕ) → line_refusal n request ≡ refusal n (cond (is_long request) (codes "long") (codes "syntax"))
+long_refusal Long n = refl
+long_refusal (Asks r) n = refl
+long_refusal Malformed n = refl
 
 pub refusal_is : (whole : List ℕ) (line : LineBuffer) (request : RequestLine) (n : ℕ) → IsLine whole (Requests request) → Holds line whole → line_refusal n request ≡ refusal n (cond line.over (codes "long") (codes "syntax"))
-refusal_is whole line request n says holds = long_requests _ (nat_lt 512 (length whole)) _ _ request n says ∙ ap (λ o. refusal n (cond o (codes "long") (codes "syntax"))) (sym holds.over)
+refusal_is whole line request n says holds = long_refusal request n ∙ ap (λ o. refusal n (cond o (codes "long") (codes "syntax"))) (long_is whole line request says holds)
 
 module _ (Lists : TableContents → List ℕ → Bool → Type 0) (left l t t2 : Option (List ℕ)) (faults reads w w2 : ℕ) (result : Status) where
   -- another line was met, which the buffer holds, and is refused

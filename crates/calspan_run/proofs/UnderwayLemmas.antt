@@ -16,26 +16,30 @@ use Rattle.cal_errors.specs.declared.errors.TableFault.{TableFault}
 use Rattle.calspan_run.specs.BehindRows.{OverTables}
 use Rattle.calspan_run.specs.Endings.{EndsWith, MayEnd}
 use Rattle.calspan_run.specs.Progress.{standing_of, answered_status}
-use Rattle.calspan_run.specs.RowLines.{AreRows, EndBefore, WithLines, AtFaultyRow, AtRequest}
-use Rattle.calspan_run.specs.Gathering.{MetEnd, MetFaulty, MetLast, MetOther, MetRequest, Stops}
+use Rattle.table_rows.specs.RowLines.{AreRows, EndBefore, WithLines, AtFaultyRow, AtRequest}
+use Rattle.table_rows.specs.Gathering.{MetEnd, MetFaulty, MetLast, MetOther, MetRequest, Stops}
 use Rattle.calspan_run.specs.Rules.{span_rules}
 use Rattle.calspan_run.specs.Run.{Outside, outside, limit}
 use Rattle.calspan_run.specs.Serving.{StoppedReading, StoppedWriting, TookTooMuch, Serves}
 use Rattle.calspan_run.specs.Answers.{Standing, Answering, Ended, IsAnswerTo, AreAnswers, IsAnswers, span_behind, status_at}
-use Rattle.calspan_run.specs.TableRows.{TableRows, contents_of, AreAccepted, IsFirstRefused}
+use Rattle.table_rows.specs.TableRows.{TableRows, contents_of, AreAccepted, IsFirstRefused}
 use Rattle.calspan_run.specs.TableTexts.{row_refusal, table_refusal}
 use Rattle.calspan_run.specs.TextSoFar.{TextSoFar}
-use Rattle.calspan_run.specs.Written.{WrotePrefix, with_open_line}
+use Rattle.calspan_run.specs.Written.{WrotePrefix}
 use Rattle.calspan_run.specs.declared.span.answers.Answered.{Answered}
 use Rattle.calspan_run.specs.declared.span.answers.Answered.TheVariants.{GoesOn, Stopped}
+use Rattle.calspan_run.specs.Status.{stop_status}
+use Rattle.table_rows.specs.declared.gathering.Stop.{Stop}
+use Rattle.table_rows.specs.declared.gathering.Stop.TheVariants as stop
 use Rattle.calspan_run.specs.declared.status.Status.{Status}
 use Rattle.calspan_run.specs.declared.status.Status.TheVariants.{Done, Refused, Words, ReadFault, WriteFault, NoMemory, TableRefused, TooLong}
-use Rattle.calspan_run.specs.declared.rows.table.RowFault.{RowFault}
-use Rattle.calspan_run.specs.declared.rows.table.Table.{Table}
-use Rattle.calspan_run.proofs.GatheringLemmas.{open_line_is, not_request}
-use Rattle.calspan_run.proofs.KnownLemmas.{appends_none, consumes_keeps, consumes_then, prefix_then}
+use Rattle.table_rows.specs.declared.table.RowFault.{RowFault}
+use Rattle.table_rows.specs.declared.table.Table.{Table}
+use Rattle.table_rows.proofs.GatheringLemmas.{open_line_is, not_request}
+use Rattle.std.proofs.KnownBytes.{Consumes-kept, Consumes-trans}
+use Rattle.calspan_run.proofs.KnownLemmas.{appends_none, prefix_then}
 use Rattle.calspan_run.proofs.EndLemmas.{IsEnd, ends_serve}
-use Rattle.calspan_run.proofs.InputLemmas.{consumes_end, lines_in-whole}
+use Rattle.table_rows.proofs.InputLemmas.{consumes_end, lines_in-whole}
 use Rattle.calspan_run.proofs.AnswerLemmas.{answers_append, span_exists, lines_exist, ended_append, span_lasts}
 use Rattle.calspan_run.proofs.WriterLemmas.{text_all, short_more}
 
@@ -178,7 +182,7 @@ module _ (old : Outside) (l t : Option (List ℕ)) (r w : ℕ) (reader : Reader)
     lines = h.lines;
     rest = open_line h.bytes;
     text = h.text;
-    took = consumes_then old.left l l2 h.bytes x h.took took;
+    took = Consumes-trans old.left l l2 h.bytes x h.took took;
     at = at;
     holds = f.holds;
     counted = still ∙ (same ∙ h.counted);
@@ -201,7 +205,7 @@ module _ (old : Outside) (l t : Option (List ℕ)) (r w : ℕ) (reader : Reader)
     text = h.text;
     status = status_at (Answering refused);
     rose = omega (arith, h.read_later, rose);
-    exchanged = record { took = consumes_keeps old.left l l2 h.bytes h.took keeps; wrote = text_all old.taken t2 none h.text so_far e };
+    exchanged = record { took = Consumes-kept old.left l l2 h.bytes h.took keeps; wrote = text_all old.taken t2 none h.text so_far e };
     says = behind_says h.bytes false rows h.lines h.text (Answering refused) (status_at (Answering refused)) f.all refl h.answers;
     goes_on = goes_on refused;
   }
@@ -349,11 +353,8 @@ module _ (left l : Option (List ℕ)) (reader : Reader) (line : LineBuffer) (row
       }
 
 -- nothing was written where the source failed or gave too much, or memory was wanted
-pub span_stops : (left l t : Option (List ℕ)) (faults more w : ℕ) (status : Status) → Stops status left l faults more → Serves span_rules status (outside left t faults w) (outside l t more w)
-span_stops left l t faults more w Done h = absurd h
-span_stops left l t faults more w Refused h = absurd h
-span_stops left l t faults more w Words h = absurd h
-span_stops left l t faults more w ReadFault (bytes, rows, rose, took, are) = record {
+pub span_stops : (left l t : Option (List ℕ)) (faults more w : ℕ) (why : Stop) → Stops why left l faults more → Serves span_rules (stop_status why) (outside left t faults w) (outside l t more w)
+span_stops left l t faults more w stop.ReadFault (bytes, rows, rose, took, are) = record {
   bytes = bytes;
   text = [];
   status = Done;
@@ -362,16 +363,14 @@ span_stops left l t faults more w ReadFault (bytes, rows, rose, took, are) = rec
   says = record { rows = rows; end = WithLines; ends = are; says = (refl, refl) };
   goes_on = goes_on false;
 }
-span_stops left l t faults more w WriteFault h = absurd h
-span_stops left l t faults more w NoMemory (bytes, whole, took, may, at_end) = record {
+span_stops left l t faults more w stop.NoMemory (bytes, whole, took, may, at_end) = record {
   bytes = bytes;
   whole = whole;
   exchanged = record { took = took; wrote = appends_none t };
   may = may;
   at_end = at_end;
 }
-span_stops left l t faults more w TableRefused h = absurd h
-span_stops left l t faults more w TooLong (bytes, rows, size, took, are) = record {
+span_stops left l t faults more w stop.TooLong (bytes, rows, size, took, are) = record {
   bytes = bytes;
   text = [];
   status = Done;

@@ -8,7 +8,7 @@ use Rattle.calspan_run.specs.Replies.{IsReply}
 use Rattle.calspan_run.specs.TableTexts.{row_refusal}
 use Rattle.calspan_run.specs.declared.status.Status.{Status}
 use Rattle.calspan_run.specs.declared.status.Status.TheVariants.{Done, TableRefused}
-use Rattle.calspan_run.specs.declared.rows.table.RowFault.TheVariants as row_fault
+use Rattle.table_rows.specs.declared.table.RowFault.TheVariants as row_fault
 
 -- the text that answers the request line of number n, and whether it is a refusal
 abbrev pub IsRequestAnswer : TableContents → RequestLine → ℕ → List ℕ → Bool → Type 0

@@ -4,12 +4,12 @@ use Rattle.cal_errors.specs.declared.errors.TableFault.{TableFault}
 use Rattle.cal_tables.specs.Kinds.{TableContents}
 use Rattle.line_reader.specs.Lines.{lines_in}
 use Rattle.request_lines.specs.Lines.{RequestLine}
-use Rattle.calspan_run.specs.RowLines.{RowsEnd, WithLines, AtFaultyRow, AtRequest, EndRows}
-use Rattle.calspan_run.specs.TableRows.{TableRows, contents_of, AreAccepted, IsFirstRefused}
+use Rattle.table_rows.specs.RowLines.{RowsEnd, WithLines, AtFaultyRow, AtRequest, EndRows}
+use Rattle.table_rows.specs.TableRows.{TableRows, contents_of, AreAccepted, IsFirstRefused}
 use Rattle.calspan_run.specs.TableTexts.{row_refusal, table_refusal}
 use Rattle.calspan_run.specs.declared.status.Status.{Status}
 use Rattle.calspan_run.specs.declared.status.Status.TheVariants.{Done, TableRefused}
-use Rattle.calspan_run.specs.declared.rows.table.Table.{Table}
+use Rattle.table_rows.specs.declared.table.Table.{Table}
 
 -- the tables aren't accepted, and the first fault is named
 abbrev pub RefusesTables : TableRows → List ℕ → Type 0

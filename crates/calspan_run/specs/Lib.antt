@@ -7,7 +7,6 @@ pub mod CommandSaid
 pub mod CommandWordsLeft
 pub mod DayLines
 pub mod Endings
-pub mod Gathering
 pub mod Generator
 pub mod HolidayEndings
 pub mod HolidayLines
@@ -21,14 +20,10 @@ pub mod Progress
 pub mod Recurrences
 pub mod Refusals
 pub mod Replies
-pub mod RowLines
-pub mod RowYears
-pub mod RowsSaid
 pub mod Rules
 pub mod Run
 pub mod Serving
 pub mod Status
-pub mod TableRows
 pub mod TableTexts
 pub mod TextSoFar
 pub mod TotalBounds

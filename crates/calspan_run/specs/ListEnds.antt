@@ -7,15 +7,15 @@ use Rattle.line_reader.specs.Lines.{lines_in}
 use Rattle.request_lines.specs.Lines.{RequestLine}
 use Rattle.calspan_run.specs.BehindRows.{RefusesTables}
 use Rattle.calspan_run.specs.ListAnswers.{line_refusal}
-use Rattle.calspan_run.specs.RowLines.{AreRows, AtFaultyRow, AtRequest, EndRows}
+use Rattle.table_rows.specs.RowLines.{AreRows, AtFaultyRow, AtRequest, EndRows}
 use Rattle.calspan_run.specs.Rules.{list_rules}
 use Rattle.calspan_run.specs.Run.{Outside, Exchanged, limit}
 use Rattle.calspan_run.specs.Serving.{StoppedWriting, WantedMemory}
-use Rattle.calspan_run.specs.TableRows.{TableRows, contents_of, AreAccepted}
+use Rattle.table_rows.specs.TableRows.{TableRows, contents_of, AreAccepted}
 use Rattle.calspan_run.specs.TableTexts.{row_refusal}
 use Rattle.calspan_run.specs.declared.status.Status.{Status}
 use Rattle.calspan_run.specs.declared.status.Status.TheVariants.{Done, Refused, Words, ReadFault, WriteFault, NoMemory, TableRefused, TooLong}
-use Rattle.calspan_run.specs.declared.rows.table.RowFault.{RowFault}
+use Rattle.table_rows.specs.declared.table.RowFault.{RowFault}
 
 -- the source was read to its end, its rows are accepted, and the list over them is written, or the line that refuses it
 pub record AllListed (Lists : TableContents → List ℕ → Bool → Type 0) (old new : Outside) (refused : Bool) : Type 0 where

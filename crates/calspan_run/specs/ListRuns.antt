@@ -3,7 +3,8 @@ use Rattle.std.specs.Prelude.{◌≢◌, ◌≤◌, ℕ, Bool, true, List, IfSom
 use Rattle.cal_tables.specs.Kinds.{TableContents}
 use Rattle.line_reader.specs.Lines.{lines_in}
 use Rattle.calspan_run.specs.Rules.{list_rules}
-use Rattle.calspan_run.specs.Run.{Outside, NoFault, RowComesFirst, limit}
+use Rattle.calspan_run.specs.Run.{Outside, NoFault, limit}
+use Rattle.table_rows.specs.RowLines.{RowComesFirst}
 use Rattle.calspan_run.specs.Serving.{IsAnswered, Serves}
 use Rattle.calspan_run.specs.declared.status.Status.{Status}
 use Rattle.calspan_run.specs.declared.status.Status.TheVariants.{NoMemory}

@@ -9,7 +9,7 @@ use Rattle.calspan_run.specs.Generator.{IsGenerated}
 use Rattle.calspan_run.specs.HolidayLines.{holidays_answer}
 use Rattle.calspan_run.specs.ListAnswers.{list_behind}
 use Rattle.calspan_run.specs.Refusals.{status_of}
-use Rattle.calspan_run.specs.Run.{RowComesFirst}
+use Rattle.table_rows.specs.RowLines.{RowComesFirst}
 use Rattle.calspan_run.specs.Serving.{Rules}
 use Rattle.calspan_run.specs.Answers.{IsAnswers}
 use Rattle.calspan_run.specs.declared.status.Status.{Status}

@@ -1,5 +1,7 @@
--- The exit codes.
+-- The exit codes, and how a run ends where reading its row lines stopped at no line.
 use Rattle.std.specs.Prelude.{ℕ}
+use Rattle.table_rows.specs.declared.gathering.Stop.{Stop}
+use Rattle.table_rows.specs.declared.gathering.Stop.TheVariants as stop
 use Rattle.calspan_run.specs.declared.status.Status.{Status}
 use Rattle.calspan_run.specs.declared.status.Status.TheVariants.{Done, Refused, Words, ReadFault, WriteFault, NoMemory, TableRefused, TooLong}
 
@@ -13,3 +15,9 @@ code_of WriteFault = 4
 code_of NoMemory = 5
 code_of TableRefused = 6
 code_of TooLong = 7
+
+-- the status where reading row lines stopped at no line
+abbrev pub stop_status : Stop → Status
+stop_status stop.ReadFault = ReadFault
+stop_status stop.TooLong = TooLong
+stop_status stop.NoMemory = NoMemory

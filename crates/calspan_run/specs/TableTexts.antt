@@ -4,10 +4,10 @@ use Rattle.cal_errors.specs.declared.errors.TableFault.{TableFault}
 use Rattle.cal_errors.specs.declared.errors.TablePart.{TablePart}
 use Rattle.cal_errors.specs.declared.errors.TablePart.TheVariants.{Year, Join, End, Leap, Rule}
 use Rattle.reply_texts.specs.Texts.{about_line}
-use Rattle.calspan_run.specs.declared.rows.table.RowFault.{RowFault}
-use Rattle.calspan_run.specs.declared.rows.table.RowFault.TheVariants.{Syntax, Range, Late}
-use Rattle.calspan_run.specs.declared.rows.table.Table.{Table}
-use Rattle.calspan_run.specs.declared.rows.table.Table.TheVariants.{China, Korea, Hijri, Persian}
+use Rattle.table_rows.specs.declared.table.RowFault.{RowFault}
+use Rattle.table_rows.specs.declared.table.RowFault.TheVariants.{Syntax, Range, Late}
+use Rattle.table_rows.specs.declared.table.Table.{Table}
+use Rattle.table_rows.specs.declared.table.Table.TheVariants.{China, Korea, Hijri, Persian}
 
 abbrev pub row_fault_text : RowFault → List ℕ
 row_fault_text Syntax = codes "syntax"

@@ -8,10 +8,10 @@ use Rattle.line_reader.specs.declared.buffer.LineBuffer.{LineBuffer}
 use Rattle.line_reader.specs.declared.reader.Reader.{Reader}
 use Rattle.request_lines.specs.Lines.{RequestLine, Requests, IsLine, line_of}
 use Rattle.calspan_run.specs.Progress.{standing_of}
-use Rattle.calspan_run.specs.RowLines.{EndBefore}
+use Rattle.table_rows.specs.RowLines.{EndBefore}
 use Rattle.calspan_run.specs.Run.{Outside}
 use Rattle.calspan_run.specs.Answers.{Standing, Answering, IsAnswerTo, AreAnswers}
-use Rattle.calspan_run.specs.TableRows.{TableRows, contents_of, AreAccepted}
+use Rattle.table_rows.specs.TableRows.{TableRows, contents_of, AreAccepted}
 use Rattle.calspan_run.specs.TextSoFar.{TextSoFar}
 use Rattle.calspan_run.specs.Written.{WrotePrefix}
 use Rattle.calspan_run.specs.declared.span.answers.Answered.{Answered}

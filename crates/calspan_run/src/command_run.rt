@@ -7,7 +7,8 @@ ghost use Rattle.calspan_run.specs.HolidayRuns.{RunsHolidays};
 ghost use Rattle.calspan_run.specs.ListRuns.{RunsList};
 ghost use Rattle.calspan_run.specs.ListTexts.{ListsAnniversaries, ListsOccurrences};
 ghost use Rattle.calspan_run.specs.Rules.{generator_rules, span_rules};
-ghost use Rattle.calspan_run.specs.Run.{outside, NoFault, RowComesFirst, limit};
+ghost use Rattle.calspan_run.specs.Run.{outside, NoFault, limit};
+ghost use Rattle.table_rows.specs.RowLines.{RowComesFirst};
 ghost use Rattle.calspan_run.specs.Serving.{IsAnswered, Serves};
 
 use crate::command::{Command, read_command};

@@ -3,11 +3,12 @@ ghost use Rattle.calspan_run.specs.Endings.{EndsWith};
 ghost use Rattle.calspan_run.specs.TableTexts.{row_refusal, table_refusal};
 ghost use Rattle.calspan_run.specs.declared.status.Status.{Status};
 
-use crate::rows::table::{RowFault, TableRefusal, push_row_refusal, push_table_refusal};
+use crate::row_refusals::{push_row_refusal, push_table_refusal};
 use crate::status::Status;
 use crate::writer::write_all;
 use byte_io::Sink;
 use reply_texts::Pending;
+use table_rows::{RowFault, TableRefusal};
 
 // Writes the last text of a run, which ends with this status.
 pub(crate) fn end_with<K: Sink>(text: &Pending, status: Status, sink: &mut K) -> Status

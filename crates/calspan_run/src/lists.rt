@@ -7,22 +7,21 @@ ghost use Rattle.calspan_run.specs.Refusals.{refusal};
 ghost use Rattle.calspan_run.specs.BehindRows.{OverTables};
 ghost use Rattle.calspan_run.specs.Endings.{EndsWith, Listed};
 ghost use Rattle.calspan_run.specs.ListAnswers.{list_end};
-ghost use Rattle.calspan_run.specs.RowsSaid.{rows_said};
+ghost use Rattle.table_rows.specs.RowsSaid.{rows_said};
 ghost use Rattle.calspan_run.specs.Rules.{list_rules};
 ghost use Rattle.calspan_run.specs.Run.{outside};
 ghost use Rattle.calspan_run.specs.Serving.{Serves};
 ghost use Rattle.calspan_run.specs.declared.status.Status.{Status};
 
 use crate::endings::{end_with, refuse_row, refuse_table};
-use crate::rows::gather::{Gathered, gather};
-use crate::rows::table_rows::TableRows;
-use crate::status::Status;
+use crate::status::{Status, status_of_stop};
 use byte_io::{Failed, Sink, Source};
 use cal_base::Calendar;
 use cal_tables::Tables;
 use line_reader::{LineBuffer, Reader};
 use reply_texts::{Pending, push_about};
 use std::alloc::Global;
+use table_rows::{Gathered, TableRows, gather};
 
 /// What a command lists over tables.
 pub trait TableList {
@@ -101,6 +100,6 @@ pub fn serve_list<L: TableList, S: Source, K: Sink>(
         Gathered::LastRequest => refuse_line(reader.lines() + 1, line.over, sink),
         Gathered::End => list_over(&rows, list, sink),
         Gathered::Refused(number, why) => refuse_row(number, why, sink),
-        Gathered::Stopped(status) => status,
+        Gathered::Stopped(stop) => status_of_stop(stop),
     }
 }

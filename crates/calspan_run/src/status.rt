@@ -1,5 +1,7 @@
 //! How a run ends.
 
+use table_rows::Stop;
+
 /// How a run ends. Its exit code is [`code`].
 #[derive(Clone, Copy, Debug, PartialEq, Eq)]
 pub enum Status {
@@ -22,11 +24,22 @@ pub enum Status {
 }
 
 ghost use Rattle.std.specs.Prelude.{◌≡◌};
-ghost use Rattle.calspan_run.specs.Status.{code_of};
+ghost use Rattle.calspan_run.specs.Status.{code_of, stop_status};
 
 /// The exit code of a status, from 0 for `Done` to 7 for `TooLong`.
 pub fn code(status: Status) -> u8
     ensures { result ≡ code_of status }
 {
     status as u8
+}
+
+/// How a run ends where reading its row lines stopped at no line.
+pub(crate) fn status_of_stop(stop: Stop) -> Status
+    ensures { result ≡ stop_status stop }
+{
+    match stop {
+        Stop::ReadFault => Status::ReadFault,
+        Stop::TooLong => Status::TooLong,
+        Stop::NoMemory => Status::NoMemory,
+    }
 }

@@ -9,7 +9,7 @@ ghost use Rattle.calspan_run.specs.Answers.{Answering, IsAnswerTo, IsRequestAnsw
 ghost use Rattle.calspan_run.specs.Refusals.{refusal};
 ghost use Rattle.request_lines.specs.LineSaid.{request_line_said};
 
-use crate::rows::table::{RowFault, push_row_refusal};
+use crate::row_refusals::push_row_refusal;
 use crate::span::replies::reply;
 use crate::status::Status;
 use cal_tables::Tables;
@@ -17,6 +17,7 @@ use cal_types::DateFields;
 use line_reader::LineBuffer;
 use reply_texts::{Pending, push_about};
 use request_lines::{Line, RequestLine, is_silent, read_line};
+use table_rows::RowFault;
 
 /// Where a run stands behind the rows of tables, and the request lines that it has answered.
 #[derive(Clone, Copy, Debug, PartialEq, Eq)]

@@ -11,25 +11,23 @@ ghost use Rattle.calspan_run.specs.Rules.{span_rules};
 ghost use Rattle.calspan_run.specs.Run.{Outside, outside};
 ghost use Rattle.calspan_run.specs.Serving.{Serves};
 ghost use Rattle.calspan_run.specs.Answers.{Standing, Answering, status_at};
-ghost use Rattle.calspan_run.specs.TableRows as table;
-ghost use Rattle.calspan_run.specs.TableRows.{contents_of};
-ghost use Rattle.calspan_run.specs.Gathering.{MetEnd, MetLast, MetRequest};
-ghost use Rattle.calspan_run.specs.RowsSaid.{rows_said};
+ghost use Rattle.table_rows.specs.TableRows as table;
+ghost use Rattle.table_rows.specs.TableRows.{contents_of};
+ghost use Rattle.table_rows.specs.Gathering.{MetEnd, MetLast, MetRequest, with_open_line};
+ghost use Rattle.table_rows.specs.RowsSaid.{rows_said};
 ghost use Rattle.line_reader.specs.Reader.{lines_given};
 ghost use Rattle.calspan_run.specs.TextSoFar.{TextSoFar};
-ghost use Rattle.calspan_run.specs.Written.{with_open_line};
 
 use crate::endings::{refuse_row, refuse_table};
-use crate::rows::gather::{Gathered, gather};
-use crate::rows::table_rows::TableRows;
 use crate::span::answers::{Answered, Progress, answer};
-use crate::status::Status;
+use crate::status::{Status, status_of_stop};
 use crate::writer::{flush, make_room};
 use byte_io::{Failed, Sink, Source};
 use cal_tables::Tables;
 use line_reader::{Filled, LineBuffer, Next, Reader};
 use reply_texts::Pending;
 use std::alloc::Global;
+use table_rows::{Gathered, TableRows, gather};
 
 /// Answers the line of this number. The answer is pending then, and what was pending is written first where there might
 /// be no room for it.
@@ -217,6 +215,6 @@ pub fn serve_span<S: Source, K: Sink>(alloc: Global, source: &mut S, sink: &mut 
         Gathered::LastRequest => serve_last(&rows, reader.lines(), &line, sink),
         Gathered::End => serve_none(&rows, sink),
         Gathered::Refused(number, why) => refuse_row(number, why, sink),
-        Gathered::Stopped(status) => status,
+        Gathered::Stopped(stop) => status_of_stop(stop),
     }
 }

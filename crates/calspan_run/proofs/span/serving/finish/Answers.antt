@@ -2,9 +2,9 @@ use Rattle.std.proofs.Common.{◌≡◌, ◌+◌, ◌++◌, ◌∷◌, [], List,
 use Rattle.calspan_run.specs.Underway.{AnswersBehind}
 use Rattle.calspan_run.specs.Answers.{Answering, status_at}
 use Rattle.calspan_run.specs.Progress.{answered_status, standing_of}
-use Rattle.calspan_run.specs.Written.{with_open_line}
+use Rattle.table_rows.specs.Gathering.{with_open_line}
 use Rattle.calspan_run.proofs.UnderwayLemmas.{behind_push, behind_more, ends_from, standing_status}
-use Rattle.calspan_run.proofs.InputLemmas.{is_none, is_some, opened}
+use Rattle.table_rows.proofs.InputLemmas.{is_none, is_some, opened}
 use Rattle.calspan_run.proofs.WriterLemmas.{short_more}
 use Rattle.calspan_run.proofs.span.serving.finish.Goals as goal
 

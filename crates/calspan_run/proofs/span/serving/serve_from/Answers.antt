@@ -3,7 +3,7 @@ use Rattle.line_reader.specs.Lines.{open_line}
 use Rattle.request_lines.specs.Lines.{line_of}
 use Rattle.calspan_run.specs.Progress.{standing_of}
 use Rattle.calspan_run.specs.Answers.{Answering, IsAnswerTo, status_at}
-use Rattle.calspan_run.specs.TableRows.{contents_of}
+use Rattle.table_rows.specs.TableRows.{contents_of}
 use Rattle.calspan_run.specs.declared.span.answers.Answered.{Answered}
 use Rattle.calspan_run.specs.declared.status.Status.TheVariants.{TableRefused}
 use Rattle.calspan_run.proofs.UnderwayLemmas.{line_on, chunk_on, write_stopped, read_stopped, too_much, late_ends, input_ends, span_ends, status_is_end}

@@ -4,7 +4,7 @@ use Rattle.cal_tables.specs.Kinds.{table_contents}
 use Rattle.calspan_run.specs.Underway.{IsUnderway}
 use Rattle.calspan_run.specs.Run.{Outside, outside}
 use Rattle.calspan_run.specs.Answers.{Answering}
-use Rattle.calspan_run.specs.TableRows.{TableRows, contents_of}
+use Rattle.table_rows.specs.TableRows.{TableRows, contents_of}
 use Rattle.calspan_run.proofs.span.serving.serve_from.Given as goal
 
 abbrev pub invariant-lines : goal.invariant-lines

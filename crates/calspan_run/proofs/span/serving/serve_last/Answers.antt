@@ -3,15 +3,15 @@ use Rattle.line_reader.specs.Lines.{open_line}
 use Rattle.line_reader.specs.Reader.{lines_given}
 use Rattle.request_lines.specs.Lines.{line_of}
 use Rattle.calspan_run.specs.Progress.{answered_status, standing_of}
-use Rattle.calspan_run.specs.RowsSaid.{rows_said}
+use Rattle.table_rows.specs.RowsSaid.{rows_said}
 use Rattle.calspan_run.specs.Rules.{span_rules}
 use Rattle.calspan_run.specs.Answers.{Answering, IsAnswerTo, status_at}
-use Rattle.calspan_run.specs.TableRows.{contents_of}
+use Rattle.table_rows.specs.TableRows.{contents_of}
 use Rattle.calspan_run.specs.TableTexts.{table_refusal}
 use Rattle.calspan_run.specs.declared.status.Status.TheVariants.{TableRefused}
 use Rattle.calspan_run.proofs.UnderwayLemmas.{request_refused, nothing_short, last_ends, ends_from, standing_status, status_is_end}
 use Rattle.calspan_run.proofs.EndLemmas.{ends_serve}
-use Rattle.calspan_run.proofs.GatheringLemmas.{met_last_line}
+use Rattle.table_rows.proofs.GatheringLemmas.{met_last_line}
 use Rattle.calspan_run.proofs.AnswerLemmas.{span_lasts}
 use Rattle.calspan_run.proofs.WriterLemmas.{text_begins}
 use Rattle.calspan_run.proofs.span.serving.serve_last.Goals as goal

@@ -1,5 +1,5 @@
 use Rattle.std.proofs.Common.{[], inl, inr, refl}
-use Rattle.calspan_run.specs.RowsSaid.{rows_said}
+use Rattle.table_rows.specs.RowsSaid.{rows_said}
 use Rattle.calspan_run.specs.Rules.{span_rules}
 use Rattle.calspan_run.specs.TableTexts.{table_refusal}
 use Rattle.calspan_run.specs.declared.status.Status.TheVariants.{Done, TableRefused}

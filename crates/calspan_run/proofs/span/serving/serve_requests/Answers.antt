@@ -2,17 +2,17 @@ use Rattle.std.proofs.Common.{[], Bool, false, inr, refl, subst}
 use Rattle.line_reader.specs.Reader.{lines_given}
 use Rattle.request_lines.specs.Lines.{line_of}
 use Rattle.calspan_run.specs.Progress.{standing_of}
-use Rattle.calspan_run.specs.RowsSaid.{rows_said}
+use Rattle.table_rows.specs.RowsSaid.{rows_said}
 use Rattle.calspan_run.specs.Rules.{span_rules}
 use Rattle.calspan_run.specs.Run.{outside}
 use Rattle.calspan_run.specs.Answers.{Answering, IsAnswerTo}
-use Rattle.calspan_run.specs.TableRows.{contents_of}
+use Rattle.table_rows.specs.TableRows.{contents_of}
 use Rattle.calspan_run.specs.TableTexts.{table_refusal}
 use Rattle.calspan_run.specs.declared.span.answers.Answered.{Answered}
 use Rattle.calspan_run.specs.declared.status.Status.TheVariants.{TableRefused}
 use Rattle.calspan_run.proofs.UnderwayLemmas.{request_refused, nothing_short, underway, first_ends, ends_from}
 use Rattle.calspan_run.proofs.EndLemmas.{ends_serve}
-use Rattle.calspan_run.proofs.GatheringLemmas.{met_line}
+use Rattle.table_rows.proofs.GatheringLemmas.{met_line}
 use Rattle.calspan_run.proofs.AnswerLemmas.{span_lasts}
 use Rattle.calspan_run.proofs.WriterLemmas.{text_begins}
 use Rattle.calspan_run.proofs.span.serving.serve_requests.Goals as goal

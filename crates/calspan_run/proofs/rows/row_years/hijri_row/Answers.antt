@@ -1,7 +1,0 @@
-use Rattle.request_lines.specs.RowSaid.{year_row_said}
-use Rattle.calspan_run.proofs.RowYearLemmas.{hijri_row-made}
-use Rattle.calspan_run.proofs.rows.row_years.hijri_row.Goals as goal
-
-pub returns-in-Some : goal.returns-in-Some
-returns-in-Some c =
-    hijri_row-made (year_row_said c.args.row.now) c.in-Some.year c.row.result c.in-Some.ensures c.row.ensures.some.1 c.row.ensures.row

@@ -1,0 +1,135 @@
+//! The row lines at the head of an input.
+ghost use Rattle.std.specs.Prelude.{◌≡◌, ◌≤◌, ℕ, List, [], Option, false};
+ghost use Rattle.line_reader.specs.Buffer.{Holds};
+ghost use Rattle.std.specs.Io.KnownBytes.{Consumes, IsAtEnd};
+ghost use Rattle.line_reader.specs.Reader.{GivesAll, lines_given};
+ghost use Rattle.line_reader.specs.declared.buffer.LineBuffer.{LineBuffer};
+ghost use Rattle.line_reader.specs.declared.reader.Reader.{Reader};
+ghost use Rattle.request_lines.specs.Lines.{is_silent as line_is_silent};
+ghost use Rattle.table_rows.specs.RowsSaid.{rows_said};
+ghost use Rattle.table_rows.specs.Gathering.{IsGathering};
+
+use crate::rows::{TableRows, Taken};
+use crate::table::RowFault;
+use byte_io::Source;
+use line_reader::{Filled, LineBuffer, Next, Reader};
+use request_lines::{LineKind, is_silent, line_kind};
+
+/// Why reading row lines stopped at no line.
+#[derive(Clone, Copy, Debug, PartialEq, Eq)]
+pub enum Stop {
+    /// The source counted a fault.
+    ReadFault,
+    /// The source gave more than 16777216 bytes.
+    TooLong,
+    /// There is no memory for a row.
+    NoMemory,
+}
+
+/// Where the row lines came to an end.
+#[derive(Clone, Copy, Debug, PartialEq, Eq)]
+pub enum Gathered {
+    /// Another line came, which the buffer holds.
+    Request,
+    /// It is the last line of the input, without an LF.
+    LastRequest,
+    /// The input came to its end.
+    End,
+    /// The row line of this number is refused.
+    Refused(u64, RowFault),
+    /// At no line.
+    Stopped(Stop),
+}
+
+// What a line did among the row lines.
+#[derive(Clone, Copy, Debug, PartialEq, Eq)]
+pub(crate) enum LineGathered {
+    // It gives nothing, or a row that is kept.
+    GoesOn,
+    // It is another line.
+    Request,
+    // It is a row line that is refused.
+    Refused(RowFault),
+    // There is no memory for its row.
+    NoMemory,
+}
+
+ghost use Rattle.table_rows.specs.Gathering.{Gathers, IsGathered, IsSaidGathered};
+
+// What a line did that isn't silent. What its row needs is set up at the call, which a silent line is spared.
+#[inline(never)]
+pub(crate) fn gather_said(rows: &mut TableRows, line: &LineBuffer) -> LineGathered
+    ensures { (whole : List ℕ) → Holds line.now whole → line_is_silent whole ≡ false
+        → IsSaidGathered result whole (rows_said rows.old) (rows_said rows.new) }
+{
+    match line_kind(line) {
+        LineKind::GivesRow(row) => match rows.take(row) {
+            Taken::Kept => LineGathered::GoesOn,
+            Taken::Refused(why) => LineGathered::Refused(why),
+            Taken::NoMemory => LineGathered::NoMemory,
+        },
+        LineKind::Requests => LineGathered::Request,
+    }
+}
+
+fn gather_line(rows: &mut TableRows, line: &LineBuffer) -> LineGathered
+    ensures { (whole : List ℕ) → Holds line.now whole
+        → IsGathered result whole (rows_said rows.old) (rows_said rows.new) }
+{
+    if is_silent(line) {
+        LineGathered::GoesOn
+    } else {
+        gather_said(rows, line)
+    }
+}
+
+// What follows the last LF, behind this many lines, at the end of the source.
+fn gather_last(rows: &mut TableRows, lines: u64, line: &LineBuffer) -> Gathered
+    requires { lines ≤ 16777216 }
+    ensures { (left l l2 : Option (List ℕ)) (faults more : ℕ) (reader mid q : Reader) (before : LineBuffer)
+        → (h : IsGathering left l reader before (rows_said rows.old)) → GivesAll mid line.now h.bytes h.lines
+        → lines ≡ lines_given reader → lines_given q ≡ lines_given reader → Consumes l l2 [] → IsAtEnd l2
+        → Gathers result left l2 faults more q line.now (rows_said rows.new) }
+{
+    match gather_line(rows, line) {
+        LineGathered::GoesOn => Gathered::End,
+        LineGathered::Request => Gathered::LastRequest,
+        LineGathered::Refused(why) => Gathered::Refused(lines + 1, why),
+        LineGathered::NoMemory => Gathered::Stopped(Stop::NoMemory),
+    }
+}
+
+/// Reads lines and keeps their rows, until another line comes, a row is refused, or the source ends or fails.
+pub fn gather<S: Source>(
+    rows: &mut TableRows,
+    reader: &mut Reader,
+    line: &mut LineBuffer,
+    source: &mut S,
+) -> Gathered
+    ensures later { S.faults source.old ≤ S.faults source.new }
+    ensures gathers { (left : Option (List ℕ)) (faults : ℕ) → faults ≤ S.faults source.old
+        → IsGathering left (S.left source.old) reader.old line.old (rows_said rows.old)
+        → Gathers result left (S.left source.new) faults (S.faults source.new) reader.new line.new
+        (rows_said rows.new) }
+{
+    'lines: loop {
+        match reader.next_line(line) {
+            Next::Line => match gather_line(rows, line) {
+                LineGathered::GoesOn => {
+                    line.clear();
+                    continue;
+                }
+                LineGathered::Request => return Gathered::Request,
+                LineGathered::Refused(why) => return Gathered::Refused(reader.lines(), why),
+                LineGathered::NoMemory => return Gathered::Stopped(Stop::NoMemory),
+            },
+            Next::TooLong => return Gathered::Stopped(Stop::TooLong),
+            Next::Spent => {}
+        }
+        match reader.fill(source) {
+            Filled::Some => {}
+            Filled::End => return gather_last(rows, reader.lines(), line),
+            Filled::Fault => return Gathered::Stopped(Stop::ReadFault),
+        }
+    }
+}
