@@ -16,10 +16,12 @@ TOP = Path(__file__).resolve().parent.parent
 # The script refuses words by itself, so that the program's own answer is asked of the program.
 SCRIPT = str(TOP / "calspan")
 PROGRAM = str(TOP / "crates/calspan/out/calspan")
-NOT_BUILT = {b"holidays", b"islamic-type1-friday", b"islamic-type1-thursday"}
+NOT_BUILT = [b"islamic-type1-friday", b"islamic-type1-thursday"]
 WORDS_REFUSED = 2
 ENDS = {0, 1, 6}
 MOST_DAYS = 4000
+# The place of the last day among the words of a list; the first day stands before it.
+LAST_DAY = {b"anniversary": 7, b"recur": 7, b"holidays": 2}
 SHORT = [[b"span"], [b"gen", b"100"]]
 PROCESSES = os.cpu_count() or 1
 
@@ -41,7 +43,7 @@ def cases_of(path: Path) -> list[Case]:
 
 
 def is_built(case: Case) -> bool:
-    return NOT_BUILT.isdisjoint(case.words)
+    return not any(name in text for name in NOT_BUILT for text in [*case.words, case.source])
 
 
 def run(program: str, words: list[bytes], source: bytes) -> subprocess.CompletedProcess:
@@ -102,10 +104,11 @@ def words_like(chance: random.Random, words: list[bytes]) -> list[bytes]:
 
 def narrowed(words: list[bytes]) -> list[bytes]:
     """The words of a command, with a last day that isn't far behind the first: a long list would tell no more."""
-    if words[0] not in (b"anniversary", b"recur"):
+    at = LAST_DAY.get(words[0])
+    if not at:
         return words
-    first, last = int(words[6]), int(words[7])
-    return [*words[:7], b"%d" % min(last, first + MOST_DAYS), *words[8:]] if first <= last else words
+    first, last = int(words[at - 1]), int(words[at])
+    return [*words[:at], b"%d" % min(last, first + MOST_DAYS), *words[at + 1 :]] if first <= last else words
 
 
 def fault_of_words(case: Case) -> str | None:

@@ -1,5 +1,5 @@
 #!/usr/bin/env python3
-"""Refuses memory to the program, one allocation at a time, over inputs that have rows.
+"""Refuses memory to the program, one allocation at a time, over inputs that have rows, and over a book.
 
 Each run must end with NoMemory and nothing written, or as the run does that is refused nothing. The program runs as `rt try` has it, with
 nothing proved, which takes half a minute each time. It doesn't tell whether there was such an allocation, so the trials stop after some
@@ -15,9 +15,15 @@ from pathlib import Path
 CRATE = Path(__file__).resolve().parent.parent / "crates/calspan"
 ROW = "row hijri 1445 738720 sllslslslsll\n"
 REQUEST = "span islamic-umalqura iso days reject none from year=1445 month=M02 day=1 to year=1446 month=M01 day=1\n"
+BOOK = """easter,Easter,gregorian,,0,
+easter,Pascha,julian,,0,
+weekday,Thanksgiving,gregorian,M11,4,thursday
+fixed,Purim,hebrew,M06,14,constrain
+"""
 RUNS = [
     (["span"], ROW + REQUEST),
     (["anniversary", "islamic-umalqura", "iso", "exact", "M02", "1", "738720", "739100"], ROW),
+    (["holidays", "738886", "739251"], BOOK),
 ]
 WHOLE_IN_A_ROW = 3
 ENDED = re.compile(r"^run=ended status=(\d+)", re.MULTILINE)
