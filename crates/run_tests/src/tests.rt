@@ -1,6 +1,7 @@
 //! Lines of all kinds, requests and rows of tables, and what is written for them.
 
 mod faults;
+mod holidays;
 mod lines;
 mod lists;
 mod requests;
