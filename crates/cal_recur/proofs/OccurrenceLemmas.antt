@@ -232,6 +232,29 @@ lands-rise c law t h Months k l lt n m p q =
 lands-rise c law t h Weeks k l lt n m p q = days-rise c t (7 * k + 0) (7 * l + 0) (omega arith) n m p q
 lands-rise c law t h Days k l lt n m p q = days-rise c t (7 * 0 + k) (7 * 0 + l) (omega arith) n m p q
 
+-- more months or days from the same years lead to a later day
+pub lands-further : (c : CalendarList) → IsLawful c → (t : Date) → IsDate c t → (years j k a b : ℕ) → j ≤ k → a ≤ b → j + a < k + b → (n m : ℤ) → Lands c t years j a n → Lands c t years k b m → n <ℤ m
+lands-further c law t h years j k a b months days more n m p q =
+    by_lt {P = n <ℤ m} j k
+    (λ lt.
+    let from : p.reaches.from ≡ q.reaches.from = some_same (sym p.reaches.spot_is ∙ q.reaches.spot_is) in
+    let start = ap (λ (i : ℕ). month_number c (t.year +ℤ pos years) i) from in
+    let order : month_number c p.year p.month <ℤ month_number c q.year q.month = omega (arith, signed, p.reaches.moved.moved, q.reaches.moved.moved, start) in
+    omega (
+      arith,
+      signed,
+      p.day,
+      q.day,
+      month-rises c law t h p.year p.month q.year q.month p.reaches.moved.place q.reaches.moved.place
+          (number-order c p.year p.month q.year q.month p.reaches.moved.place q.reaches.moved.place order),
+    ))
+    (λ ge.
+    let same : j ≡ k = omega arith in
+    let there = subst (λ (i : ℕ). Lands c t years i a n) same p in
+    let month = reach-unique c false t years k there.year there.month q.year q.month there.reaches q.reaches in
+    let base_is = ap (λ (y : ℤ). day_number c (base c t y there.month)) month.0 ∙ ap (λ (i : ℕ). day_number c (base c t q.year i)) month.1 in
+    omega (arith, signed, there.day, q.day, base_is))
+
 -- nothing added leads to the start itself
 pub lands-start : (c : CalendarList) → IsLawful c → (t : Date) → IsDate c t → (unit : DateDurationUnit) → Lands c t (units unit 0).years (units unit 0).months (7 * (units unit 0).weeks + (units unit 0).days) (day_number c t)
 lands-start c law t h unit = by_unit unit where
@@ -248,6 +271,13 @@ lands-start c law t h unit = by_unit unit where
   by_unit Months = here
   by_unit Weeks = here
   by_unit Days = here
+
+-- days lead as far from the start's own day
+pub lands-days : (c : CalendarList) → IsLawful c → (t : Date) → IsDate c t → (a : ℕ) (n : ℤ) → Lands c t 0 0 a n → n ≡ day_number c t +ℤ pos a
+lands-days c law t h a n l =
+    let month = reach-unique c false t 0 0 l.year l.month t.year t.month l.reaches (reaches-own c law false t h 0 0 refl refl) in
+    let base_is = ap (λ (y : ℤ). day_number c (base c t y l.month)) month.0 ∙ ap (λ (i : ℕ). day_number c (base c t t.year i)) month.1 ∙ ap (day_number c) (base-own c t h) in
+    omega (arith, signed, l.day, base_is)
 
 -- the limits of a unit
 abbrev pub most : DateDurationUnit → ℕ

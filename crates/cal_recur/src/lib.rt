@@ -30,6 +30,7 @@
 //! for Adar I, as SKIP=FORWARD does. The rest of SKIP=FORWARD and the BY-parts aren't here.
 #![tactic(auto)]
 
+mod near;
 mod occurrences;
 mod recurrence;
 mod rule;
