@@ -3,6 +3,7 @@
 mod faults;
 mod lines;
 mod lists;
+mod own_rows;
 mod requests;
 mod rows;
 mod runs;
