@@ -1,3 +1,4 @@
+pub mod Almanac
 pub mod Forms
 pub mod Recurrence
 pub mod Feasts

@@ -1,12 +1,14 @@
 //! Uses of `icu_calendar`, as its callers write them, and a program that prints them.
 #![tactic(auto)]
 
+mod almanac;
 mod coming_days;
 mod every_calendar;
 mod feasts;
 mod mean_rules;
 mod uses;
 
+use almanac::new_year_by_rows;
 use coming_days::{next_birthdays, paydays, reunions};
 use every_calendar::print_every_calendar;
 use feasts::{hebrew_text_in_gregorian, next_easter};
@@ -167,6 +169,26 @@ fn print_reunions(rt: &HostRuntime) -> io::Result<()> {
     Ok(())
 }
 
+/// The years 1912 to 1914 as China published them.
+const PUBLISHED: &[u8] = b"# rows of an almanac
+row china 1912 698026 lslsslssllsl 0
+row china 1913 698380 llslsslsslsl 0
+row china 1914 698734 llslslslslssl 6
+";
+
+/// The Chinese new year of 1914 by the published rows and by computed years; rows that don't meet the year behind them;
+/// and a line that is no row.
+fn print_new_years(rt: &HostRuntime) -> io::Result<()> {
+    let missing: &[u8] = b"row china 1912 698026 lslsslssllss 0";
+    for text in [PUBLISHED, b"", missing, b"row china 1914"] {
+        match new_year_by_rows(rt.alloc(), text, 1914) {
+            Ok(new_year) => println!(rt; "new year of 1914: {new_year:?}")?,
+            Err(fault) => println!(rt; "new year of 1914: {fault}")?,
+        }
+    }
+    Ok(())
+}
+
 fn main(rt: HostRuntime) -> io::Result<()> {
     print_forms(&rt)?;
     print_chosen_calendar(&rt)?;
@@ -179,5 +201,6 @@ fn main(rt: HostRuntime) -> io::Result<()> {
     print_own_rules(&rt)?;
     print_birthdays(&rt)?;
     print_paydays(&rt)?;
-    print_reunions(&rt)
+    print_reunions(&rt)?;
+    print_new_years(&rt)
 }

@@ -12,6 +12,7 @@ pub mod HijriMonthStarts
 pub mod EastAsianMonthStarts
 pub mod Recurring
 pub mod HolidayBooks
+pub mod OwnRows
 pub use Rattle.cal_days.specs.Day
 pub use Rattle.cal_days.specs.Sums
 pub use Rattle.cal_days.specs.Gregorian

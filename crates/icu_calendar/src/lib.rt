@@ -19,6 +19,7 @@ mod placing;
 pub mod published;
 mod record_dates;
 mod recurrences;
+pub mod rows;
 mod span_parts;
 mod spans;
 mod weeks;

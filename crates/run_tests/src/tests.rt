@@ -4,6 +4,7 @@ mod faults;
 mod holidays;
 mod lines;
 mod lists;
+mod own_rows;
 mod requests;
 mod rows;
 mod runs;

@@ -1,0 +1,10 @@
+-- Rows of a caller's own: what the lines of a text say, the rows that they give, and which tables are accepted.
+pub use Rattle.line_reader.specs.Lines.{lines_in}
+pub use Rattle.line_reader.specs.Reader.{limit}
+pub use Rattle.request_lines.specs.Lines.{Line, Nothing, GivesRow, Requests, RequestLine, IsLine}
+pub use Rattle.request_lines.specs.Rows.{Row, YearRow, EraRow, row_read}
+pub use Rattle.table_rows.specs.RowLines.{RowOutcome, TakesRow, KeepsLine, AreRows, RowComesFirst, RowsEnd, EndRows}
+pub use Rattle.table_rows.specs.RowYears.{IsHijriYear, IsEastAsianYear}
+pub use Rattle.table_rows.specs.RowsSaid.{rows_said}
+pub use Rattle.table_rows.specs.TableRows.{TableRows, no_rows, contents_of, IsTableAccepted, AreAccepted, IsFirstRefused}
+pub use Rattle.table_rows.specs.Reading.{IsLineTaken, IsRowText, IsTextRead}

@@ -1,0 +1,16 @@
+//! Rows of tables of a caller's own: lines of text such as `row china 1912 698026 lslslslslsls 0`, each of which gives a
+//! published year in place of a computed one, or an era of Japan after Reiwa.
+//!
+//! [`TableRows::try_read`] reads a text, [`TableRows::take_line`] takes one line, and [`TableRows::tables`] tests the rows
+//! and has the tables of them. A refusal prints what the program `calspan` writes for it, as `table line 1 range` or
+//! `table china 3 end`. The page of the program says what a row line may be.
+//!
+//! ```
+//! let rows = TableRows::try_read(alloc, b"row china 1912 698026 lslslslslsls 0\n")?;
+//! let tables = rows.tables()?;
+//! let chinese = tables.chinese();
+//! let date = Date::try_new(1912.into(), Month::new(1), 30, chinese)?;
+//! // on day 698055, 1912-03-18 of the ISO calendar
+//! ```
+
+pub use table_rows::{RowError, RowFault, RowsError, Table, TableRefusal, TableRows};
