@@ -85,7 +85,7 @@ text_other whole rest n request kept long h is =
       request,
       h.others ++ others,
       subst (λ (y : List (List ℕ)). EndRows (AtRequest n request (h.others ++ others)) y kept) (sym lines)
-      (at, more ++ others, end_before (lines_in (take limit h.bytes) h.whole) others kept n at more before, says, ap (λ t. t ++ others) same),
+          (at, more ++ others, end_before (lines_in (take limit h.bytes) h.whole) others kept n at more before, says, ap (λ t. t ++ others) same),
       is,
     )
 
