@@ -1,16 +1,16 @@
 -- Rows of a caller's own: a line of them, and a whole text.
-use Rattle.std.proofs.Common.{◌≡◌, ℕ, ◌+◌, ◌<◌, ◌≤◌, Bool, true, false, cond, nat_lt, List, [], ◌∷◌, ◌++◌, length, take, drop, Option, Some, Result, Ok, Err, ◌↔◌, inl, inr, refl, arith, ◌∙◌, sym, ap, subst}
+use Rattle.std.proofs.Common.{◌≡◌, ℕ, ◌+◌, ◌<◌, ◌≤◌, Bool, true, false, cond, nat_lt, List, [], ◌++◌, length, take, drop, Option, Some, Result, Ok, Err, ◌↔◌, inl, inr, refl, arith, ◌∙◌, sym, ap, subst}
 use Rattle.std.proofs.lemmas.List.{append-nil, append_assoc, take_all, take-append-drop, take-append-le, length-append}
 use Rattle.std.specs.Prelude.{IsOk}
 use Rattle.line_reader.specs.Buffer.{Holds}
 use Rattle.line_reader.specs.Lines.{lines_in}
 use Rattle.line_reader.specs.Reader.{limit}
 use Rattle.line_reader.specs.declared.buffer.LineBuffer.{LineBuffer}
-use Rattle.request_lines.specs.Lines.{Line, Nothing, GivesRow, Requests, RequestLine, Long, Asks, Malformed, IsLine, SaysAs}
+use Rattle.request_lines.specs.Lines.{Nothing, GivesRow, Requests, RequestLine, Long, Asks, Malformed, IsLine, SaysAs}
 use Rattle.request_lines.specs.Rows.{Row}
 use Rattle.table_rows.specs.Gathering.{MetEnd, MetFaulty, MetOther, Stops}
 use Rattle.table_rows.specs.Reading.{is_long, EndsAtOther, IsLineTaken, IsOtherLine, IsRowText, IsTextRead}
-use Rattle.table_rows.specs.RowLines.{RowComesFirst, AreRows, RowsEnd, WithLines, AtFaultyRow, AtRequest, EndRows}
+use Rattle.table_rows.specs.RowLines.{RowComesFirst, AreRows, WithLines, AtFaultyRow, AtRequest, EndRows}
 use Rattle.table_rows.specs.TableRows as rows
 use Rattle.table_rows.specs.RowsSaid.{rows_said}
 use Rattle.table_rows.specs.declared.errors.RowError.TheVariants as line
@@ -85,7 +85,7 @@ text_other whole rest n request kept long h is =
       request,
       h.others ++ others,
       subst (λ (y : List (List ℕ)). EndRows (AtRequest n request (h.others ++ others)) y kept) (sym lines)
-      (at, more ++ others, end_before (lines_in (take limit h.bytes) h.whole) others kept n at more before, says, ap (λ t. t ++ others) same),
+          (at, more ++ others, end_before (lines_in (take limit h.bytes) h.whole) others kept n at more before, says, ap (λ t. t ++ others) same),
       is,
     )
 

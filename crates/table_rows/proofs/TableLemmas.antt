@@ -1,5 +1,5 @@
 -- The rows of all tables are accepted, or there is a first table that isn't, and its fault.
-use Rattle.std.proofs.Common.{◌≡◌, ℕ, ℤ, List, ◌<◌, ◌⊎◌, inl, inr, refl, ◌∙◌, sym, ap, subst}
+use Rattle.std.proofs.Common.{◌≡◌, ℤ, List, ◌<◌, ◌⊎◌, inl, inr, refl, sym, subst}
 use Rattle.cal_errors.specs.declared.errors.TableFault.{TableFault}
 use Rattle.cal_rows.specs.FaultLaws.{faults_decided, fault_refuses, one_fault}
 use Rattle.cal_tables.specs.Kinds.{TableContents}

@@ -13,10 +13,7 @@ const REFUSED: [(&[u8], &str); 5] = [
         b"# hijri\r\nrow hijri 1445 738720 sll\n",
         "table line 2 syntax",
     ),
-    (
-        b"row hijri 1445 738730 sllslslslsll",
-        "table line 1 range",
-    ),
+    (b"row hijri 1445 738730 sllslslslsll", "table line 1 range"),
     (b"row persian 1502\n\nspan iso", "err line 3 syntax"),
     (&[b'x'; 513], "err line 1 long"),
     (b"row hijri 1445 738720 sllslslslsls\n", "table hijri 1 end"),

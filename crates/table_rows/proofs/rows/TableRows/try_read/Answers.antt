@@ -1,11 +1,10 @@
-use Rattle.std.proofs.Common.{ℕ, ◌+◌, ◌<◌, true, false, cond, List, Some, Ok, Err, arith, ap, sym, subst}
-use Rattle.std.specs.Prelude.{take}
+use Rattle.std.proofs.Common.{ℕ, ◌+◌, true, cond, List, Some, Ok, Err, arith, ap, sym, subst}
 use Rattle.std.proofs.KnownBytes.{Consumes-nil}
 use Rattle.byte_io.specs.Plain.{plain_rest}
 use Rattle.line_reader.specs.Lines.{lines_in, open_line}
 use Rattle.table_rows.specs.Gathering.{Stops}
 use Rattle.table_rows.specs.Reading.{IsTextRead}
-use Rattle.table_rows.specs.RowLines.{AreRows, AtFaultyRow, EndRows, RowComesFirst}
+use Rattle.table_rows.specs.RowLines.{AreRows, RowComesFirst}
 use Rattle.table_rows.specs.RowsSaid.{rows_said}
 use Rattle.table_rows.specs.declared.errors.RowsError.{RowsError}
 use Rattle.table_rows.specs.declared.errors.RowsError.TheVariants as text
