@@ -4,6 +4,7 @@ mod DayLineLemmas
 mod EndLemmas
 mod GeneratorLemmas
 mod HolidayLemmas
+mod HolidayLineLemmas
 mod KindLimits
 mod KnownLemmas
 mod ListLemmas
