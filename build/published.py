@@ -3,8 +3,9 @@
 
 A row is plain numbers. A Chinese or Korean one has the year's number, a bit for each month of 30 days, the first month's the lowest, the place
 of the leap month, or 0, and how many days after January 19 it starts. An Umm al-Qura one has the number, the bits, and how many days the year
-starts after the fifth day before the mean year. A Persian one is the corrected year's number. The first and the last year of each list are
-constants beside it. With --check nothing is written: the files that differ are named, and the status is 1 where there is one.
+starts after the fifth day before the mean year. A Persian one is the corrected year's number. Constants beside each list are its first and its
+last year, and of Chinese and Korean years how many have a leap month. With --check nothing is written: the files that differ are named, and
+the status is 1 where there is one.
 """
 
 import sys
@@ -109,6 +110,8 @@ def east_asian(side: str, people: str) -> str:
     rows = rows_of(TOP / f"rows/{side}.rows")
     first, last = years_of(rows)
     constants = ends(f"{people.upper()}_YEAR", f"published {people} year", first, last)
+    leaps = sum(row[3] != "0" for row in rows)
+    constants += f"\n/// How many of the published {people} years have a leap month.\npub(crate) const {people.upper()}_LEAP_YEARS: u32 = {leaps};\n"
     text = f"The {people} years {first} to {last}."
     return constants + "\n" + static(side.upper(), "EastAsianRow", "east_asian_rows!", text, [east_asian_row(row) for row in rows])
 

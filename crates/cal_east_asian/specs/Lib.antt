@@ -18,6 +18,7 @@ pub mod MeanYears
 pub mod MeanPlaces
 pub mod MoonLaws
 pub mod LeapMonthLaws
+pub mod LeapRows
 pub mod MeanYearLaws
 pub mod MeanStartLaws
 pub mod MeanMonthLaws

@@ -1,10 +1,11 @@
 -- Over an accepted table the chosen years are numbered, join and keep their leap months.
-use Rattle.std.proofs.Common.{◌≡◌, ℕ, ◌+◌, true, ◌||◌, nat_lt, int_le, List, length, sym, subst, arith, ℤ, pos, ◌+ℤ◌, ◌-ℤ◌}
+use Rattle.std.proofs.Common.{◌≡◌, ℕ, ◌+◌, ◌≤◌, ⊎_elim, true, ◌||◌, nat_lt, int_le, List, length, sym, subst, arith, ℤ, pos, ◌+ℤ◌, ◌-ℤ◌}
 use Rattle.cal_days.specs.Day.{IsRuleYear}
-use Rattle.cal_days.proofs.Signed.{signed}
+use Rattle.std.proofs.lemmas.Option.{slice_get_cases}
+use Rattle.cal_days.proofs.Signed.{signed, by_lt}
 use Rattle.cal_model.proofs.DateTests.{and-left, and-right}
 use Rattle.cal_rows.specs.Rows.{AreConsecutive, AreJoined}
-use Rattle.cal_rows.specs.RowLaws.{or_right, consecutive, is_last}
+use Rattle.cal_rows.specs.RowLaws.{or_right, consecutive, is_last, number-at, row_below}
 use Rattle.cal_rows.specs.RowPlaces.{by_year, chosen-number}
 use Rattle.cal_rows.specs.RowJoins.{chosen-join}
 use Rattle.cal_east_asian.specs.EastAsianYears.{end_day, AreYears}
@@ -20,6 +21,22 @@ three_same a b y e f h known = rw (e, f, h) known
 module _ (year_of : ℤ → EastAsianTraditionalYear) (rows : List EastAsianTraditionalYear) (accepted : IsAccepted year_of rows) where
   pub accepted-consecutive : AreConsecutive number_of rows
   accepted-consecutive = consecutive number_of (pos 1912) rows (λ i row h. and-left (is_next (row_before rows i) row) (int_le row.related_iso (pos 9999)) (accepted i row h Year))
+
+  -- there are at most as many rows as years from 1912 to 9999
+  pub accepted-few : length rows ≤ 8088
+  accepted-few =
+      by_lt {P = length rows ≤ 8088} 8088 (length rows)
+      (λ more.
+      ⊎_elim {C = length rows ≤ 8088}
+      (λ late.
+      row_below {P = length rows ≤ 8088} rows 0 8088 late.0 late.2 (omega arith)
+      (λ first here.
+      let least = and-left (is_next (row_before rows 0) first) (int_le first.related_iso (pos 9999)) (accepted 0 first here Year) in
+      let most = and-right (is_next (row_before rows 8088) late.0) (int_le late.0.related_iso (pos 9999)) (accepted 8088 late.0 late.2 Year) in
+      absurd (omega (arith, signed, least, most, number-at number_of rows accepted-consecutive first here 8088 late.0 late.2))))
+      (λ past. past.0)
+      ((slice_get_cases rows 8088).1))
+      (λ few. few)
 
   accepted-joined : AreJoined number_of start_of end_day year_of rows
   accepted-joined = record { starts = λ i row h. accepted i row h Join; last = λ i row h. accepted i row h End }

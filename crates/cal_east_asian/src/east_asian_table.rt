@@ -4,6 +4,7 @@ ghost use Rattle.std.specs.Prelude.{◌≡◌, ◌↔◌, [], IsOk, MatchResult}
 ghost use Rattle.cal_days.specs.Day.{IsRuleYear};
 ghost use Rattle.cal_east_asian.specs.ComputedLaws.{computed_year};
 ghost use Rattle.cal_east_asian.specs.EastAsianRows.{years_of};
+ghost use Rattle.cal_east_asian.specs.LeapRows.{leap_rows as leap_rows_of};
 ghost use Rattle.cal_east_asian.specs.TableAccepted.{IsAccepted, IsFirstFault};
 ghost use Rattle.cal_east_asian.specs.TableYears as table;
 ghost use Rattle.cal_east_asian.specs.TableYears.{HasNoRow, IsRowOf};
@@ -12,6 +13,7 @@ ghost use Rattle.cal_east_asian.specs.declared.east_asian_traditional_year.EastA
 use crate::chosen_years::chosen_year;
 use crate::east_asian_row::EastAsianRow;
 use crate::east_asian_traditional_year::EastAsianTraditionalYear;
+use crate::leap_rows::count_leap_rows;
 use crate::sides::Side;
 use crate::table_check::check;
 use cal_types::TableFault;
@@ -20,12 +22,16 @@ use cal_types::TableFault;
 ///
 /// The rows' numbers follow one another, from 1912 to 9999. Each row starts where the year before it ends, the last row
 /// ends where the computed next year starts, and no three years in a row lack a leap month. The rows are handed in by
-/// [`EastAsianTable::try_new`] or [`EastAsianTable::new`]; a table made by [`EastAsianTable::none`] has none.
+/// [`EastAsianTable::try_new`], [`EastAsianTable::new`] or [`EastAsianTable::with_leap_rows`]; a table made by
+/// [`EastAsianTable::none`] has none.
 #[derive(Clone, Copy, Debug)]
 pub struct EastAsianTable<'t> {
     side: Side,
+    /// How many rows have a leap month, so that sums and differences over all rows needn't look at each.
+    leap_rows: u32,
     rows: &'t [EastAsianRow],
     ghost accepted: { IsAccepted (computed_year side) (years_of rows.now) },
+    ghost counted: { leap_rows ≡ leap_rows_of rows.now },
 }
 
 impl<'t> EastAsianTable<'t> {
@@ -34,17 +40,44 @@ impl<'t> EastAsianTable<'t> {
         ensures side { result.side ≡ side }
         ensures rows { result.rows.now ≡ [] }
     {
-        EastAsianTable { side, rows: &[] }
+        EastAsianTable {
+            side,
+            leap_rows: 0,
+            rows: &[],
+        }
     }
 
     /// The table of rows that are known to be accepted for one side, as those of constant data can be by computation.
-    /// No row is looked at.
+    /// Their leap months are counted; [`EastAsianTable::with_leap_rows`] looks at no row.
     pub fn new(side: Side, rows: &'t [EastAsianRow]) -> EastAsianTable<'t>
         requires { IsAccepted (computed_year side) (years_of rows.now) }
         ensures side { result.side ≡ side }
         ensures rows { result.rows.now ≡ rows.now }
     {
-        EastAsianTable { side, rows }
+        EastAsianTable {
+            side,
+            leap_rows: count_leap_rows(rows),
+            rows,
+        }
+    }
+
+    /// The table of rows that are known to be accepted for one side, of which so many have a leap month. No row is
+    /// looked at.
+    pub fn with_leap_rows(
+        side: Side,
+        rows: &'t [EastAsianRow],
+        leap_rows: u32,
+    ) -> EastAsianTable<'t>
+        requires accepted { IsAccepted (computed_year side) (years_of rows.now) }
+        requires counted { leap_rows ≡ leap_rows_of rows.now }
+        ensures side { result.side ≡ side }
+        ensures rows { result.rows.now ≡ rows.now }
+    {
+        EastAsianTable {
+            side,
+            leap_rows,
+            rows,
+        }
     }
 
     /// The table of these rows, for one side.
@@ -63,7 +96,11 @@ impl<'t> EastAsianTable<'t> {
         ensures exact { IsOk result ↔ IsAccepted (computed_year side) (years_of rows.now) }
     {
         match check(side, rows) {
-            Ok(()) => Ok(EastAsianTable { side, rows }),
+            Ok(()) => Ok(EastAsianTable {
+                side,
+                leap_rows: count_leap_rows(rows),
+                rows,
+            }),
             Err(fault) => Err(fault),
         }
     }
@@ -80,6 +117,13 @@ impl<'t> EastAsianTable<'t> {
         ensures { result.now ≡ self.now.rows.now }
     {
         self.rows
+    }
+
+    /// How many rows have a leap month.
+    pub(crate) fn leap_rows(&self) -> u32
+        ensures { result ≡ leap_rows_of self.now.rows.now }
+    {
+        self.leap_rows
     }
 
     /// The year of a number from -8000000 to 8000000: its row where there is one, and otherwise the computed year.

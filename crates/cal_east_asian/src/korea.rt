@@ -10,7 +10,7 @@ use crate::reference_years::reference_year;
 use crate::rules::Rules;
 use crate::same_rows::have_same_rows;
 use crate::sides::Side;
-use crate::table_months::months_without_rows;
+use crate::table_months::months_between;
 use cal_base::scaffold::UnstableSealed;
 use cal_types::{CalendarAlgorithm, EcmaReferenceYearError, MismatchedCalendarError, Month};
 
@@ -81,7 +81,7 @@ impl<'t> Rules for Korea<'t> {
     }
 
     fn months_by_number(&self, first: i32, last: i32) -> (i32, u32) {
-        months_without_rows(&self.table, first, last)
+        (last, months_between(&self.table, first, last))
     }
 
     fn ecma_reference_year(&self, month: Month, day: u8) -> Result<i32, EcmaReferenceYearError> {

@@ -10,6 +10,7 @@ mod east_asian_table;
 mod east_asian_traditional;
 mod east_asian_traditional_year;
 mod korea;
+mod leap_rows;
 mod mean_moons;
 mod mean_years;
 mod month_starts;

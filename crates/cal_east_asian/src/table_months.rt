@@ -1,13 +1,16 @@
-//! The months between two years that a table chooses: those of computed years in closed form.
+//! The months between two years that a table chooses: those of computed years in closed form, and those of rows by how
+//! many have a leap month.
 
-ghost use Rattle.std.specs.Prelude.{◌≡◌, ◌≤ℤ◌, ◌<ℤ◌, ◌+ℤ◌, ℤ, pos};
+ghost use Rattle.std.specs.Prelude.{◌≡◌, ◌≤◌, ◌-◌, ◌≤ℤ◌, ◌<ℤ◌, ◌+ℤ◌, ℤ, pos, length, take, drop};
 ghost use Rattle.cal_days.specs.Day.{IsBetween, IsRuleYear};
 ghost use Rattle.cal_model.specs.CalendarList.{month_number};
-ghost use Rattle.cal_east_asian.specs.TableMonths.{AreComputed, table_list};
+ghost use Rattle.cal_east_asian.specs.LeapRows.{leap_rows};
+ghost use Rattle.cal_east_asian.specs.TableMonths.{AreComputed, IsFirstNumber, table_list};
 
 use crate::chosen_years::row_at;
 use crate::computed_years::computed_months_between;
 use crate::east_asian_table::EastAsianTable;
+use crate::leap_rows::count_leap_rows;
 
 /// The nearest year to one, of those from one on up to another.
 fn nearest_year(year: i32, from: i32, to: i32) -> i32
@@ -25,51 +28,71 @@ fn nearest_year(year: i32, from: i32, to: i32) -> i32
     }
 }
 
-/// Of the years from one on up to another, the first one that may have a row, and the one after the last.
-fn years_with_rows(table: &EastAsianTable<'_>, from: i32, to: i32) -> (i32, i32)
-    requires order { from ≤ℤ to }
-    ensures first { from ≤ℤ result.0 }
-    ensures order { result.0 ≤ℤ result.1 }
-    ensures last { result.1 ≤ℤ to }
-    ensures before { AreComputed table.now from result.0 }
-    ensures after { AreComputed table.now result.1 to }
-{
-    let rows = table.rows();
-    match row_at(rows, 0) {
-        None => (to, to),
-        Some(first) => match row_at(rows, rows.len().saturating_sub(1)) {
-            None => (from, to),
-            Some(last) => {
-                let start = nearest_year(first.related_iso, from, to);
-                (start, nearest_year(last.related_iso + 1, start, to))
-            }
-        },
-    }
-}
-
-/// The first of the years from one on up to another that may have a row. Where none has one it is the other.
-fn first_with_row(table: &EastAsianTable<'_>, from: i32, to: i32) -> i32
-    requires order { from ≤ℤ to }
-    ensures within { IsBetween from to result }
-    ensures before { AreComputed table.now from result }
-{
-    let (start, end) = years_with_rows(table, from, to);
-    if start < end { start } else { to }
-}
-
-/// A year from one up to another that isn't before it, and how many months lie between the first days of the one and
-/// of that year: in closed form, as far as no year may have a row.
-pub(crate) fn months_without_rows(table: &EastAsianTable<'_>, from: i32, to: i32) -> (i32, u32)
+/// How many months lie between the first days of two years, where no year from the one on up to the other has a row.
+fn months_without_rows(table: &EastAsianTable<'_>, from: i32, to: i32) -> u32
     requires from { IsRuleYear from }
     requires to { IsRuleYear to }
     requires order { from ≤ℤ to }
-    ensures within { IsBetween from to result.0 }
-    ensures count { let list = table_list table.now in
-        month_number list result.0 1 ≡ month_number list from 1 +ℤ pos result.1 }
+    requires computed { AreComputed table.now from to }
+    ensures { let list = table_list table.now in month_number list to 1 ≡ month_number list from 1 +ℤ pos result }
 {
-    let there = first_with_row(table, from, to);
-    (
-        there,
-        computed_months_between(table.side(), from, there) as u32,
-    )
+    if from == to {
+        return 0;
+    }
+    computed_months_between(table.side(), from, to) as u32
+}
+
+/// How many of the rows from one place on up to another have a leap month.
+fn leap_rows_between(table: &EastAsianTable<'_>, from: usize, to: usize) -> u32
+    requires order { from ≤ to }
+    requires within { to ≤ length table.now.rows.now }
+    ensures { result ≡ leap_rows (take (to - from) (drop from table.now.rows.now)) }
+{
+    let rows = table.rows();
+    if to - from == rows.len() {
+        return table.leap_rows();
+    }
+    count_leap_rows(&rows[from..to])
+}
+
+/// How many months lie between the first days of two years, where each year from the one on up to the other has a row.
+fn months_of_rows(table: &EastAsianTable<'_>, first: i32, from: i32, to: i32) -> u32
+    requires first { IsFirstNumber table.now first }
+    requires order { from ≤ℤ to }
+    requires places { from <ℤ to → (first ≤ℤ from) × (to ≤ℤ (first +ℤ pos (length table.now.rows.now))) }
+    ensures { let list = table_list table.now in month_number list to 1 ≡ month_number list from 1 +ℤ pos result }
+{
+    if from == to {
+        return 0;
+    }
+    let leaps = leap_rows_between(table, (from - first) as usize, (to - first) as usize);
+    12 * (to - from) as u32 + leaps
+}
+
+/// How many months lie between the first days of two years, where the first row has a number.
+fn months_beside_rows(table: &EastAsianTable<'_>, first: i32, from: i32, to: i32) -> u32
+    requires first { IsFirstNumber table.now first }
+    requires from { IsRuleYear from }
+    requires to { IsRuleYear to }
+    requires order { from ≤ℤ to }
+    ensures { let list = table_list table.now in month_number list to 1 ≡ month_number list from 1 +ℤ pos result }
+{
+    let start = nearest_year(first, from, to);
+    let end = nearest_year(first + table.rows().len() as i32, start, to);
+    months_without_rows(table, from, start)
+        + months_of_rows(table, first, start, end)
+        + months_without_rows(table, end, to)
+}
+
+/// How many months lie between the first days of a year and of another that isn't before it.
+pub(crate) fn months_between(table: &EastAsianTable<'_>, from: i32, to: i32) -> u32
+    requires from { IsRuleYear from }
+    requires to { IsRuleYear to }
+    requires order { from ≤ℤ to }
+    ensures { let list = table_list table.now in month_number list to 1 ≡ month_number list from 1 +ℤ pos result }
+{
+    match row_at(table.rows(), 0) {
+        None => months_without_rows(table, from, to),
+        Some(first) => months_beside_rows(table, first.related_iso, from, to),
+    }
 }

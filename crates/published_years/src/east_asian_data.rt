@@ -19,6 +19,9 @@ pub const FIRST_CHINESE_YEAR: i32 = 1912;
 /// The last published Chinese year.
 pub const LAST_CHINESE_YEAR: i32 = 2099;
 
+/// How many of the published Chinese years have a leap month.
+pub(crate) const CHINESE_LEAP_YEARS: u32 = 69;
+
 /// The Chinese years 1912 to 2099.
 pub(crate) static CHINA: [EastAsianRow; 188] = east_asian_rows![
     1912 0x0b25 0 30, 1913 0x0a4b 0 18, 1914 0x12ab 6 7, 1915 0x0aad 0 26, 1916 0x056a 0 16,
@@ -66,6 +69,9 @@ pub const FIRST_KOREAN_YEAR: i32 = 1912;
 
 /// The last published Korean year.
 pub const LAST_KOREAN_YEAR: i32 = 2097;
+
+/// How many of the published Korean years have a leap month.
+pub(crate) const KOREAN_LEAP_YEARS: u32 = 68;
 
 /// The Korean years 1912 to 2097.
 pub(crate) static KOREA: [EastAsianRow; 186] = east_asian_rows![

@@ -9,7 +9,8 @@ ghost use Rattle.cal_east_asian.specs.declared.sides.Side.TheVariants as side;
 ghost use Rattle.published_years.specs.Published.{numbers_through};
 
 use crate::east_asian_data::{
-    CHINA, FIRST_CHINESE_YEAR, FIRST_KOREAN_YEAR, KOREA, LAST_CHINESE_YEAR, LAST_KOREAN_YEAR,
+    CHINA, CHINESE_LEAP_YEARS, FIRST_CHINESE_YEAR, FIRST_KOREAN_YEAR, KOREA, KOREAN_LEAP_YEARS,
+    LAST_CHINESE_YEAR, LAST_KOREAN_YEAR,
 };
 use cal_east_asian::{ChineseTraditional, EastAsianTable, KoreanTraditional, Side};
 
@@ -25,7 +26,7 @@ pub fn china_table() -> EastAsianTable<'static>
     ensures accepted { IsAccepted (computed_year side.China) (years_of CHINA) }
     ensures years { map number_of (years_of CHINA) ≡ numbers_through FIRST_CHINESE_YEAR LAST_CHINESE_YEAR }
 {
-    EastAsianTable::new(Side::China, &CHINA)
+    EastAsianTable::with_leap_rows(Side::China, &CHINA, CHINESE_LEAP_YEARS)
 }
 
 /// The table of the Korean years from [`FIRST_KOREAN_YEAR`] to [`LAST_KOREAN_YEAR`], 1912 to 2097.
@@ -38,7 +39,7 @@ pub fn korea_table() -> EastAsianTable<'static>
     ensures accepted { IsAccepted (computed_year side.Korea) (years_of KOREA) }
     ensures years { map number_of (years_of KOREA) ≡ numbers_through FIRST_KOREAN_YEAR LAST_KOREAN_YEAR }
 {
-    EastAsianTable::new(Side::Korea, &KOREA)
+    EastAsianTable::with_leap_rows(Side::Korea, &KOREA, KOREAN_LEAP_YEARS)
 }
 
 /// The Chinese calendar with the years that [`china_table`] has.

@@ -15,7 +15,7 @@ use cal_east_asian::{
     EastAsianTraditionalYear, KoreanTraditional, Rules, Side, mean_year, qing_year,
 };
 use cal_types::{
-    DateDifferenceOptions, DateDurationUnit, DateFields, DateFromFieldsError,
+    DateDifferenceOptions, DateDuration, DateDurationUnit, DateFields, DateFromFieldsError,
     DateFromFieldsOptions, LeapStatus, MissingFieldsStrategy, Month, Overflow, TableFault,
     TablePart, YearInput,
 };
@@ -195,24 +195,34 @@ fn days_lie_in_known_computed_years(rt: HostRuntime) {
     }
 }
 
-/// That so many months lie between the first day of a year and that of another, and whether they lead back.
-fn assert_months<R: Rules>(
+/// The difference in months between the first day of a year and that of another.
+fn months_passed<R: Rules>(
     rt: &impl Abort,
     calendar: &EastAsianTraditional<R>,
     (from, to): (i32, i32),
-    months: u32,
-    is_negative: bool,
-) {
+) -> DateDuration {
     let first = calendar.new_date(YearInput::Extended(from), Month::new(1), 1);
     let last = calendar.new_date(YearInput::Extended(to), Month::new(1), 1);
     let options = DateDifferenceOptions {
         largest_unit: Some(DateDurationUnit::Months),
     };
-    let passed = calendar.until(
+    calendar.until(
         &first.expect(rt, "the year has a first day"),
         &last.expect(rt, "the year has a first day"),
         options,
-    );
+    )
+}
+
+/// That so many months lie between the first day of a year and that of another, and whether they lead back.
+fn assert_months<R: Rules>(
+    rt: &impl Abort,
+    calendar: &EastAsianTraditional<R>,
+    years: (i32, i32),
+    months: u32,
+    is_negative: bool,
+) {
+    let from = years.0;
+    let passed = months_passed(rt, calendar, years);
     assert_at(rt, from, passed.months, months);
     assert_at(rt, from, passed.is_negative, is_negative);
 }
@@ -226,6 +236,38 @@ fn months_of_computed_years_are_counted(rt: HostRuntime) {
     assert_months(&rt, &korea, (1912, 1911), 13, true);
     assert_months(&rt, &china, (1899, 1900), 12, false);
     assert_months(&rt, &china, (2024, 2026), 25, false);
+}
+
+/// Rows that are computed years change no count of months, whether all rows lie between the years or some.
+#[test]
+fn months_of_rows_are_those_of_their_years(rt: HostRuntime) {
+    let mut rows = [mean_year(28_800_000, 1912).row(); 100];
+    for place in 0u8..100 {
+        rows[usize::from(place)] = mean_year(28_800_000, 1912 + i32::from(place)).row();
+    }
+    let table = EastAsianTable::try_new(Side::China, &rows);
+    let china = ChineseTraditional::new(table.expect(&rt, "the table is accepted"));
+    let computed = ChineseTraditional::new(EastAsianTable::none(Side::China));
+    for years in [
+        (1850, 2100),
+        (1912, 2012),
+        (1911, 2013),
+        (1850, 1900),
+        (1850, 1950),
+        (1912, 1913),
+        (1950, 1970),
+        (1950, 2012),
+        (2011, 2100),
+        (2012, 2100),
+    ] {
+        let expected = months_passed(&rt, &computed, years).months;
+        assert_at(
+            &rt,
+            years,
+            months_passed(&rt, &china, years).months,
+            expected,
+        );
+    }
 }
 
 /// By the mean years at 8 hours 2025 has the leap month 8 in the place 9, and the month before it is its base.

@@ -1,0 +1,10 @@
+use Rattle.std.proofs.Common.{arith}
+use Rattle.std.proofs.lemmas.List.{length-map}
+use Rattle.cal_east_asian.specs.ComputedLaws.{computed_year}
+use Rattle.cal_east_asian.specs.EastAsianRows.{row_year, years_of}
+use Rattle.cal_east_asian.specs.TableYearLaws.{accepted-few}
+use Rattle.cal_east_asian.proofs.east_asian_table.EastAsianTable.try_new.Goals as goal
+
+pub count_leap_rows-requires : goal.count_leap_rows-requires
+count_leap_rows-requires c =
+    omega (arith, accepted-few (computed_year c.args.side) (years_of c.args.rows.now) c.in-Ok.ensures.first, length-map c.args.rows.now row_year)
