@@ -2,14 +2,14 @@
 
 ghost use Rattle.std.specs.Prelude.{◌≡◌, ◌<◌, ◌+ℤ◌, ℕ, ℤ, pos, IsTrue, Some, ◌<ℤ◌, ◌≤ℤ◌};
 ghost use Rattle.cal_days.specs.Day.{IsValidDay};
-ghost use Rattle.cal_recur.specs.Occurrence.{part_of};
+ghost use Rattle.cal_types.specs.declared.duration.DateDurationUnit.TheVariants.{Years, Months};
 ghost use Rattle.cal_recur.specs.FirstIndex.{AreBefore, constrained};
-ghost use Rattle.cal_recur.specs.Near.{is_whole, IsNear};
+ghost use Rattle.cal_recur.specs.Near.{IsNear};
 
 use crate::rule::Rule;
 use cal_base::Calendar;
 use cal_days::RataDie;
-use cal_types::{DateDifferenceOptions, DateDuration, DateDurationUnit};
+use cal_types::{DateDifferenceOptions, DateDurationUnit};
 
 /// An index near the first occurrence that isn't before a day. The occurrences below it are before the day, and those
 /// above it are after it.
@@ -29,7 +29,7 @@ pub(crate) fn index_near<C: Calendar>(
 }
 
 /// How many of a unit lead near a day: fewer lead before it, and more lead after it. Weeks and days are counted from
-/// the start's day number on, so that they take neither the date of the day nor a difference.
+/// the start's day number on, so that they don't take the date of the day.
 fn units_near<C: Calendar>(
     calendar: &C,
     start: &C::DateInner,
@@ -41,12 +41,48 @@ fn units_near<C: Calendar>(
     ensures { IsNear (C.system calendar.now) (C.date_of calendar.now start.now) unit day result }
 {
     match unit {
-        DateDurationUnit::Years | DateDurationUnit::Months => {
-            difference_near(calendar, start, unit, day)
-        }
+        DateDurationUnit::Years => years_near(calendar, start, day),
+        DateDurationUnit::Months => months_near(calendar, start, day),
         DateDurationUnit::Weeks => days_ahead(calendar.to_rata_die(start), day).div_ceil(7),
         DateDurationUnit::Days => days_ahead(calendar.to_rata_die(start), day),
     }
+}
+
+/// How many years lead near a day: as many as lead from the start's year to the day's, or 0 where that isn't later.
+/// They lead into the day's year, to a day that may come before it.
+fn years_near<C: Calendar>(calendar: &C, start: &C::DateInner, day: RataDie) -> u32
+    requires belongs { IsTrue (C.belongs calendar.now start.now) }
+    requires valid { IsValidDay day }
+    ensures { IsNear (C.system calendar.now) (C.date_of calendar.now start.now) Years day result }
+{
+    let target = calendar.from_rata_die(day);
+    let first = calendar.extended_year(start);
+    let last = calendar.extended_year(&target);
+    if last < first {
+        return 0;
+    }
+    (last - first) as u32
+}
+
+/// How many months lead near a day: those of the difference from the start to the day, and one more where the
+/// difference has days, since its months alone then lead before the day.
+fn months_near<C: Calendar>(calendar: &C, start: &C::DateInner, day: RataDie) -> u32
+    requires belongs { IsTrue (C.belongs calendar.now start.now) }
+    requires valid { IsValidDay day }
+    ensures { IsNear (C.system calendar.now) (C.date_of calendar.now start.now) Months day result }
+{
+    let target = calendar.from_rata_die(day);
+    let options = DateDifferenceOptions {
+        largest_unit: Some(DateDurationUnit::Months),
+    };
+    let difference = calendar.until(start, &target, options);
+    if difference.is_negative {
+        return 0;
+    }
+    if difference.days == 0 {
+        return difference.months;
+    }
+    difference.months + 1
 }
 
 /// How many days a day lies after a start: 0 where it isn't after it.
@@ -60,59 +96,4 @@ fn days_ahead(start: RataDie, day: RataDie) -> u32
         return 0;
     }
     day.since(start) as u32
-}
-
-/// How many of a unit lead near a day: the unit's part of the difference from the start to the day, and one more where
-/// the difference has smaller parts, since that part alone then leads before the day. (In years one more may still
-/// lead before it: a leap month's years are counted by the order of months, and the month that stands in for it may
-/// come earlier.)
-fn difference_near<C: Calendar>(
-    calendar: &C,
-    start: &C::DateInner,
-    unit: DateDurationUnit,
-    day: RataDie,
-) -> u32
-    requires belongs { IsTrue (C.belongs calendar.now start.now) }
-    requires valid { IsValidDay day }
-    ensures { IsNear (C.system calendar.now) (C.date_of calendar.now start.now) unit day result }
-{
-    let target = calendar.from_rata_die(day);
-    let options = DateDifferenceOptions {
-        largest_unit: Some(unit),
-    };
-    let difference = calendar.until(start, &target, options);
-    if difference.is_negative {
-        return 0;
-    }
-    let part = part_in(difference, unit);
-    if is_whole(difference, unit) {
-        return part;
-    }
-    part + 1
-}
-
-/// How many of a unit a duration has.
-fn part_in(duration: DateDuration, unit: DateDurationUnit) -> u32
-    ensures { result ≡ part_of unit duration }
-{
-    match unit {
-        DateDurationUnit::Years => duration.years,
-        DateDurationUnit::Months => duration.months,
-        DateDurationUnit::Weeks => duration.weeks,
-        DateDurationUnit::Days => duration.days,
-    }
-}
-
-/// Whether a duration has no parts smaller than a unit.
-fn is_whole(duration: DateDuration, unit: DateDurationUnit) -> bool
-    ensures { result ≡ is_whole unit duration }
-{
-    match unit {
-        DateDurationUnit::Years => {
-            duration.months == 0 && duration.weeks == 0 && duration.days == 0
-        }
-        DateDurationUnit::Months => duration.weeks == 0 && duration.days == 0,
-        DateDurationUnit::Weeks => duration.days == 0,
-        DateDurationUnit::Days => true,
-    }
 }

@@ -50,9 +50,9 @@ pub struct Recurrence<C: Calendar> {
 /// every month up to April 30 (737910) gives the indices 0, 1, 2 and 3 under [`Missing::Constrain`] (the last days of
 /// the months), and 0 and 2 under [`Missing::Skip`] (January 31 and March 31).
 ///
-/// In years and months the first item takes one difference ([`Calendar::until`]), from the start to the window's first
-/// day. From there on each occurrence takes one sum ([`Calendar::add`]), or two where it is skipped, and at most one
-/// lies before the window. How far it lies from the start doesn't matter, and no memory is taken.
+/// In months the first item takes one difference ([`Calendar::until`]), from the start to the window's first day. From
+/// there on each occurrence takes one sum ([`Calendar::add`]), or two where it is skipped, and at most one lies before
+/// the window. How far it lies from the start doesn't matter, and no memory is taken.
 ///
 /// [`Missing::Constrain`]: crate::Missing::Constrain
 /// [`Missing::Skip`]: crate::Missing::Skip
