@@ -1,16 +1,23 @@
 -- A run of `holidays`: what its book says, the lines of its list, and how it ends.
-use Rattle.std.proofs.Common.{◌≡◌, ◌≢◌, ℕ, ◌+◌, ◌<◌, ◌≤◌, ℤ, Bool, true, false, cond, List, [], ◌∷◌, ◌++◌, map, length, take, Option, Some, None, Result, Ok, Err, codes, ◌⊎◌, inl, inr, refl, sym, ap, ap₂, subst, ◌∙◌, arith}
+use Rattle.std.proofs.Common.{◌≡◌, ℕ, zero, suc, ◌==◌, ◌+◌, ◌<◌, ◌≤◌, ℤ, pos, ◌+ℤ◌, ◌-ℤ◌, Bool, true, false, cond, List, [], ◌∷◌, ◌++◌, map, filter, length, take, Option, Some, None, Result, Ok, Err, codes, ⊎_elim, inl, inr, refl, sym, ap, ap₂, subst, ◌∙◌, arith}
+use Rattle.std.proofs.lemmas.Bool.{false≢true}
+use Rattle.std.proofs.lemmas.Bool.Decides.{eqb_tells}
 use Rattle.std.proofs.lemmas.List.{take_all, length-append}
-use Rattle.std.proofs.KnownBytes.{Consumes-nil}
-use Rattle.std.specs.Io.KnownBytes.{Appends, Consumes, IsAtEnd, Keeps}
+use Rattle.std.specs.Io.KnownBytes.{Appends, IsAtEnd, Keeps}
+use Rattle.csv.specs.Machine.{next_record}
+use Rattle.csv.specs.Reading.{records_from, strip_bom}
 use Rattle.byte_io.specs.Faults.{Rose}
 use Rattle.byte_io.specs.Whole.{AreAll, StopsEarly}
 use Rattle.byte_io.specs.declared.whole.ReadAllError.TheVariants as early
-use Rattle.cal_holidays.specs.BookNames.{holidays_in}
-use Rattle.cal_holidays.specs.Books.{IsFirstBad, book_records}
+use Rattle.cal_days.specs.Sums.{years_up}
+use Rattle.cal_holidays.specs.BookNames.{holidays_in, names_in_book}
+use Rattle.cal_holidays.specs.Books.{IsBookFault, IsFirstBad, book_records}
 use Rattle.cal_holidays.specs.Items.{holiday_of}
 use Rattle.cal_holidays.specs.Listing.{pair_given}
+use Rattle.cal_holidays.specs.Merging.{pairs_in}
 use Rattle.cal_holidays.specs.Rules.{NamedRule, record_read}
+use Rattle.cal_holidays.specs.declared.book.BookError.{BookError}
+use Rattle.cal_holidays.specs.declared.book.BookError.TheVariants as book
 use Rattle.cal_holidays.specs.declared.merged.Holiday.{Holiday}
 use Rattle.cal_tables.specs.Kinds.{no_contents}
 use Rattle.calspan_run.specs.Asked.{HolidaysAsked}
@@ -86,9 +93,41 @@ module _ (asked : HolidaysAsked) (bytes : List ℕ) where
   ends_with_answer result before now faults more x e h =
       inl (subst (λ (y : Result (List ℕ) (List ℕ)). EndsWith result (status_of (is_refused y)) before now faults more (list_text y)) (sym e) h)
 
+-- the first bad record was refused
+pub record_refused : (asked : HolidaysAsked) (bytes : List ℕ) (result : Status) (before now : Option (List ℕ)) (faults more number field shown shown_field : ℕ) (e : BookError) → is_window asked.first asked.last ≡ true
+    → IsBookFault (book_records bytes) e → e ≡ book.Record number field → shown ≡ number → shown_field ≡ field
+    → EndsWith result Refused before now faults more (list_text (Err (record_fault shown shown_field))) → EndsHolidays asked result bytes before now faults more
+record_refused asked bytes result before now faults more number field shown shown_field e window fault is same same_field ends =
+    let first = answer_is_record asked bytes number field window (subst (IsBookFault (book_records bytes)) is fault) in
+    ends_with_answer asked bytes result before now faults more (Err (record_fault shown shown_field)) (first ∙ ap₂ (λ (n f : ℕ). Err (record_fault n f)) (sym same) (sym same_field)) ends
+
+-- an empty text has no records
+no_records : book_records [] ≡ []
+unfolding next_record records_from strip_bom
+no_records = refl
+
+pub empty_bytes : (bytes : List ℕ) → true ≡ (length bytes == 0) → bytes ≡ []
+empty_bytes [] e = refl
+empty_bytes (b ∷ bytes) e =
+    ⊎_elim {C = b ∷ bytes ≡ []}
+    (λ none. absurd (omega (arith, none.1)))
+    (λ some. absurd (false≢true (sym some.0 ∙ sym e)))
+    (eqb_tells (length (b ∷ bytes)) 0)
+
+-- no rule names a day
+no_pairs : (n : ℤ) (days : ℕ) → pairs_in 0 n days ≡ []
+no_pairs n zero = refl
+no_pairs n (suc days) = no_pairs (n +ℤ pos 1) days
+
+no_holidays : (first last : ℤ) → holidays_in no_contents [] first last 0 ≡ []
+no_holidays first last = ap (filter (λ (p : ℤ × ℕ). names_in_book no_contents [] p.1 p.0)) (no_pairs (first +ℤ pos 1) (years_up (last -ℤ first)))
+
 -- nothing comes of an empty book
 pub empty_answer : (asked : HolidaysAsked) (bytes : List ℕ) → bytes ≡ [] → is_window asked.first asked.last ≡ true → holidays_answer asked bytes ≡ Ok []
-empty_answer asked bytes none e = ap (holidays_answer asked) none ∙ answer_is_list asked [] [] e refl
+empty_answer asked bytes none e =
+    ap (holidays_answer asked) none
+    ∙ (answer_is_list asked [] [] e (ap (map record_read) no_records)
+    ∙ ap (λ (pairs : List (ℤ × ℕ)). Ok (lines_text (holiday_line []) pairs)) (no_holidays asked.first asked.last))
 
 -- what `holidays` says lasts, and there is one text and one status
 holidays_last : (asked : HolidaysAsked) → AreLasting (holiday_rules asked)
@@ -98,8 +137,8 @@ holidays_last asked = record {
 }
 
 pub holidays_exist : (asked : HolidaysAsked) → EveryInputHas (SaysHolidays asked)
-holidays_exist asked bytes false = ([], Done, refl, refl)
-holidays_exist asked bytes true = (list_text (holidays_answer asked bytes), status_of (is_refused (holidays_answer asked bytes)), refl, refl)
+holidays_exist asked bytes false = ([], Done, (refl, refl))
+holidays_exist asked bytes true = (list_text (holidays_answer asked bytes), status_of (is_refused (holidays_answer asked bytes)), (refl, refl))
 
 pub holidays_unique : (asked : HolidaysAsked) → IsUnique (SaysHolidays asked)
 holidays_unique asked bytes false a b s t h k = (h.0 ∙ sym k.0, h.1 ∙ sym k.1)
@@ -127,9 +166,6 @@ module _ (asked : HolidaysAsked) (left l t t2 : Option (List ℕ)) (reads reads2
   book_serves bytes result h (inr (e, some, kept)) =
       subst (λ (s : Status). Serves (holiday_rules asked) s (outside left t reads w) (outside l t2 reads2 w2)) (sym e) wanted
     where
-      wrote : Appends t t2 []
-      wrote = keeps_none t t2 kept
-
       keeps_none : (a b : Option (List ℕ)) → Keeps a b → Appends a b []
       keeps_none None b k = tt
       keeps_none (Some x) None k = absurd k
@@ -139,7 +175,7 @@ module _ (asked : HolidaysAsked) (left l t t2 : Option (List ℕ)) (reads reads2
       wanted = record {
         bytes = bytes;
         whole = true;
-        exchanged = record { took = h.took; wrote = wrote };
+        exchanged = record { took = h.took; wrote = keeps_none t t2 kept };
         may = subst (λ (b : List ℕ). 0 < length b) (sym (take_all limit bytes h.within)) some;
         at_end = λ e. (h.at_end, h.within);
       }
@@ -147,7 +183,7 @@ module _ (asked : HolidaysAsked) (left l t t2 : Option (List ℕ)) (reads reads2
 -- the source failed or gave too much, or there was no memory for its bytes
 module _ (asked : HolidaysAsked) (left l t : Option (List ℕ)) (reads reads2 w : ℕ) where
   pub fault_serves : StopsEarly early.Fault limit left l reads reads2 → Serves (holiday_rules asked) ReadFault (outside left t reads w) (outside l t reads2 w)
-  fault_serves (bytes, took, within, rose) = record {
+  fault_serves (bytes, took, (within, rose)) = record {
     bytes = bytes;
     text = [];
     status = Done;
@@ -169,7 +205,7 @@ module _ (asked : HolidaysAsked) (left l t : Option (List ℕ)) (reads reads2 w 
   }
 
   pub memory_serves : StopsEarly early.NoMemory limit left l reads reads2 → Serves (holiday_rules asked) NoMemory (outside left t reads w) (outside l t reads2 w)
-  memory_serves (bytes, took, some, within) = record {
+  memory_serves (bytes, took, (some, within)) = record {
     bytes = bytes;
     whole = false;
     exchanged = record { took = took; wrote = appends_none t };
@@ -214,7 +250,8 @@ module _ (asked : HolidaysAsked) (before now : Outside) where
   never_table bytes text true at_line says = not_table (is_refused (holidays_answer asked (take limit bytes))) says.1
 
   some_came : (n : ℕ) (bytes : List ℕ) → 0 < length (take n bytes) → 0 < length bytes
-  some_came n [] h = h
+  some_came zero [] h = h
+  some_came (suc n) [] h = h
   some_came n (b ∷ bytes) h = omega arith
 
   pub holiday_ends : (status : Status) → Serves (holiday_rules asked) status before now → HolidayEnds asked status before now

@@ -1,16 +1,22 @@
 -- The line of a holiday as it is pushed.
-use Rattle.std.proofs.Common.{◌≡◌, ℕ, ◌<◌, ◌≤◌, ℤ, List, [], ◌∷◌, ◌++◌, length, Option, Some, None, ⊎_elim, sym, ap, ◌∙◌, arith}
+use Rattle.std.proofs.Common.{◌≡◌, ℕ, ◌≤◌, ℤ, pos, Bool, true, ◌&&◌, nat_le, List, [], ◌∷◌, ◌++◌, length, Option, Some, None, Err, codes, ⊎_elim, sym, ap, ◌∙◌, arith}
+use Rattle.std.specs.Fmt.{decimal}
+use Rattle.std.specs.List.{list_all}
 use Rattle.std.specs.Prelude.{option_map, slice_get, unwrap_or}
-use Rattle.std.proofs.lemmas.List.{append_assoc, append-nil}
+use Rattle.std.proofs.lemmas.Bool.{leb-true}
+use Rattle.std.proofs.lemmas.List.{append_assoc}
 use Rattle.std.proofs.lemmas.Option.{slice_get_cases}
-use Rattle.cal_base.specs.IsoSystem.{iso_system}
-use Rattle.cal_holidays.specs.Rules.{NamedRule}
-use Rattle.cal_model.specs.CalendarList.{Date, IsLawful, IsOn}
+use Rattle.cal_base.specs.IsoSystem.{iso_list, iso_system}
+use Rattle.cal_base.specs.OffsetListLaws.{offset_list-lawful}
+use Rattle.cal_holidays.specs.Rules.{NamedRule, is_name}
+use Rattle.cal_model.specs.CalendarList.{Date, IsOn}
 use Rattle.cal_model.specs.DayDates.{date_on}
+use Rattle.cal_model.proofs.DateTests.{and-left, and-right}
 use Rattle.cal_model.proofs.DayDateLemmas.{date_on-on}
 use Rattle.cal_model.proofs.ListLemmas.{on-unique}
 use Rattle.reply_texts.specs.DateTexts.{date_text}
-use Rattle.calspan_run.specs.HolidayLines.{holiday_line, name_of}
+use Rattle.calspan_run.specs.DayLines.{list_text}
+use Rattle.calspan_run.specs.HolidayLines.{holiday_line, name_of, record_fault}
 
 -- the name of a rule that is there, and of one that isn't
 pub name_there : (rules : List NamedRule) (r : ℕ) (name : List ℕ) → option_map (λ (named : NamedRule). named.name) (slice_get rules r) ≡ Some name → name ≡ name_of rules r
@@ -24,14 +30,34 @@ name_lacking rules r past =
     (slice_get_cases rules r).1
 
 -- the line of a day and a rule was pushed, piece by piece
-pub pushed_holiday : (rules : List NamedRule) (n : ℤ) (r : ℕ) (t : Date) (old a b c new name : List ℕ) → IsLawful iso_system.list → IsOn iso_system.list n t → a ≡ old ++ date_text iso_system t → b ≡ a ++ 32 ∷ [] → c ≡ b ++ name → new ≡ c ++ 10 ∷ []
-    → name ≡ name_of rules r → new ≡ old ++ holiday_line rules (n, r)
-pushed_holiday rules n r t old a b c new name law on e f g h named =
-    let day = on-unique iso_system.list n t (date_on iso_system.list n) on (date_on-on iso_system.list law n) in
+pub pushed_holiday : (rules : List NamedRule) (n : ℤ) (r : ℕ) (t : Date) (old a b c new : List ℕ) → IsOn iso_list n t → a ≡ old ++ date_text iso_system t → b ≡ a ++ 32 ∷ [] → c ≡ b ++ name_of rules r → new ≡ c ++ 10 ∷ []
+    → new ≡ old ++ holiday_line rules (n, r)
+pushed_holiday rules n r t old a b c new on e f g h =
+    let day = on-unique iso_list n t (date_on iso_list n) on (date_on-on iso_list (offset_list-lawful (pos 0)) n) in
     let text = date_text iso_system t in
+    let name = name_of rules r in
+    let line : c ≡ old ++ (text ++ (32 ∷ name)) =
+    g ∙ (ap (λ x. x ++ name) (f ∙ ap (λ x. x ++ 32 ∷ []) e) ∙ (append_assoc (old ++ text) (32 ∷ []) name ∙ append_assoc old text (32 ∷ name))) in
     h
-    ∙ (ap (λ x. x ++ 10 ∷ []) (g ∙ (ap (λ x. x ++ name) (f ∙ ap (λ x. x ++ 32 ∷ []) e)))
-    ∙ (append_assoc ((old ++ text) ++ 32 ∷ []) name (10 ∷ [])
-    ∙ (append_assoc (old ++ text) (32 ∷ []) (name ++ 10 ∷ [])
-    ∙ (append_assoc old text (32 ∷ name ++ 10 ∷ [])
-    ∙ (ap (λ x. old ++ text ++ 32 ∷ x ++ 10 ∷ []) named ∙ ap (λ (d : Date). old ++ date_text iso_system d ++ 32 ∷ name_of rules r ++ 10 ∷ []) day)))))
+    ∙ (ap (λ x. x ++ 10 ∷ []) line
+    ∙ (append_assoc old (text ++ (32 ∷ name)) (10 ∷ [])
+    ∙ ap (λ (d : Date). old ++ ((date_text iso_system d ++ (32 ∷ name)) ++ 10 ∷ [])) day))
+
+-- a name takes at most 64 bytes
+pub name_short : (text : List ℕ) → is_name text ≡ true → length text ≤ 64
+name_short text e =
+    let sizes : Bool = nat_le 1 (length text) && nat_le (length text) 64 in
+    let both = and-left sizes (list_all (λ b. nat_le 32 b && nat_le b 126) text) e in
+    let most = and-right (nat_le 1 (length text)) (nat_le (length text) 64) both in
+    leb-true (length text) 64 most
+
+-- the line that refuses a record was pushed, piece by piece
+pub pushed_fault : (number field wide : ℕ) (a b c d e f : List ℕ) → a ≡ [] → b ≡ a ++ codes "err record " → c ≡ b ++ decimal number → d ≡ c ++ codes " field " → e ≡ d ++ decimal wide → wide ≡ field → f ≡ e ++ 10 ∷ []
+    → f ≡ list_text (Err (record_fault number field))
+pushed_fault number field wide a b c d e f none record_word number_text field_word field_text same end =
+    let first : b ≡ codes "err record " = record_word ∙ ap (λ x. x ++ codes "err record ") none in
+    let second : c ≡ codes "err record " ++ decimal number = number_text ∙ ap (λ x. x ++ decimal number) first in
+    let third : d ≡ codes "err record " ++ decimal number ++ codes " field " = field_word ∙ ap (λ x. x ++ codes " field ") second in
+    let fourth : e ≡ codes "err record " ++ ((decimal number ++ codes " field ") ++ decimal field) =
+    field_text ∙ (ap (λ x. x ++ decimal wide) third ∙ ap (λ (n : ℕ). codes "err record " ++ ((decimal number ++ codes " field ") ++ decimal n)) same) in
+    end ∙ ap (λ x. x ++ 10 ∷ []) fourth

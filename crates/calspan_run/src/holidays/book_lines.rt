@@ -1,14 +1,29 @@
 //! The lines of holidays.
+ghost use Rattle.std.specs.Prelude.{◌≡◌, ◌+◌, ◌≤◌, ◌++◌};
+ghost use Rattle.arrayvec.specs.ArrayVec.{array_vec_len};
 ghost use Rattle.cal_days.specs.Day.{IsValidDay};
 ghost use Rattle.cal_holidays.specs.Books.{named_rules};
 ghost use Rattle.cal_holidays.specs.Listing.{pair_given};
-ghost use Rattle.calspan_run.specs.HolidayLines.{holiday_line};
+ghost use Rattle.calspan_run.specs.HolidayLines.{holiday_line, name_of};
 
 use crate::writer::ItemLines;
 use cal_base::Iso;
 use cal_holidays::{Book, Holiday};
 use reply_texts::{Pending, push_all, push_date};
 use request_parts::{DayParts, show_in};
+
+/// Appends the name of a rule, by its number in a book, which takes at most 64 bytes. A number that the book hasn't has no
+/// name.
+fn push_name(text: &mut Pending, book: &Book, rule: usize)
+    requires room { array_vec_len text.old + 64 ≤ 8192 }
+    ensures items { text.new.items ≡ text.old.items ++ name_of (named_rules book.now) rule }
+    ensures len { array_vec_len text.new ≤ array_vec_len text.old + 64 }
+{
+    if rule >= book.len() {
+        return;
+    }
+    push_all(text, book.name(rule));
+}
 
 /// The line of each holiday: the date of its day in the ISO calendar, and its name in the book.
 #[derive(Clone, Copy)]
@@ -29,9 +44,7 @@ impl<'b> ItemLines for BookLines<'b> {
         show_in(&mut parts, &Iso);
         push_date(text, &parts);
         text.push(b' ');
-        if item.rule < self.book.len() {
-            push_all(text, self.book.name(item.rule));
-        }
+        push_name(text, self.book, item.rule);
         text.push(b'\n');
     }
 }
