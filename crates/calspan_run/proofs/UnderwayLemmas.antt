@@ -17,7 +17,7 @@ use Rattle.calspan_run.specs.BehindRows.{OverTables}
 use Rattle.calspan_run.specs.Endings.{EndsWith, MayEnd}
 use Rattle.calspan_run.specs.Progress.{standing_of, answered_status}
 use Rattle.table_rows.specs.RowLines.{AreRows, EndBefore, WithLines, AtFaultyRow, AtRequest}
-use Rattle.table_rows.specs.Gathering.{MetEnd, MetFaulty, MetLast, MetOther, MetRequest, Stops}
+use Rattle.table_rows.specs.Gathering.{with_open_line, MetEnd, MetFaulty, MetLast, MetOther, MetRequest, Stops}
 use Rattle.calspan_run.specs.Rules.{span_rules}
 use Rattle.calspan_run.specs.Run.{Outside, outside, limit}
 use Rattle.calspan_run.specs.Serving.{StoppedReading, StoppedWriting, TookTooMuch, Serves}
