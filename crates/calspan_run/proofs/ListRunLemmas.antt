@@ -30,7 +30,7 @@ use Rattle.calspan_run.proofs.ListLemmas.{list_lasts, list_lasts-done}
 
 module _ (Lists : TableContents → List ℕ → Bool → Type 0) (left l : Option (List ℕ)) where
   -- nothing was written where the source failed or gave too much, or memory was wanted
-  pub stops_serve : (why : Stop) (t : Option (List ℕ)) (faults more w : ℕ) → Stops why left l faults more → Serves (list_rules Lists) (stop_status why) (outside left t faults w) (outside l t more w)
+  stops_serve : (why : Stop) (t : Option (List ℕ)) (faults more w : ℕ) → Stops why left l faults more → Serves (list_rules Lists) (stop_status why) (outside left t faults w) (outside l t more w)
   stops_serve stop.ReadFault t faults more w (bytes, rows, rose, took, are) = record {
     bytes = bytes;
     text = [];
@@ -56,6 +56,9 @@ module _ (Lists : TableContents → List ℕ → Bool → Type 0) (left l : Opti
     says = record { rows = rows; end = WithLines; ends = are; says = (refl, refl) };
     goes_on = (list_lasts-done Lists);
   }
+
+  pub stopped_serves : (status : Status) (why : Stop) (t : Option (List ℕ)) (faults more w : ℕ) → status ≡ stop_status why → Stops why left l faults more → Serves (list_rules Lists) status (outside left t faults w) (outside l t more w)
+  stopped_serves status why t faults more w e h = subst (λ (s : Status). Serves (list_rules Lists) s (outside left t faults w) (outside l t more w)) (sym e) (stops_serve why t faults more w h)
 
   pub faulty_ends : (n : ℕ) (why : RowFault) → MetFaulty left l n why → MayEnd (list_rules Lists) left l (row_refusal n why) TableRefused
   faulty_ends n why h = record {

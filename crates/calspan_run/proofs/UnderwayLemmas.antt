@@ -17,7 +17,7 @@ use Rattle.calspan_run.specs.BehindRows.{OverTables}
 use Rattle.calspan_run.specs.Endings.{EndsWith, MayEnd}
 use Rattle.calspan_run.specs.Progress.{standing_of, answered_status}
 use Rattle.table_rows.specs.RowLines.{AreRows, EndBefore, WithLines, AtFaultyRow, AtRequest}
-use Rattle.table_rows.specs.Gathering.{MetEnd, MetFaulty, MetLast, MetOther, MetRequest, Stops}
+use Rattle.table_rows.specs.Gathering.{with_open_line, MetEnd, MetFaulty, MetLast, MetOther, MetRequest, Stops}
 use Rattle.calspan_run.specs.Rules.{span_rules}
 use Rattle.calspan_run.specs.Run.{Outside, outside, limit}
 use Rattle.calspan_run.specs.Serving.{StoppedReading, StoppedWriting, TookTooMuch, Serves}
@@ -353,7 +353,7 @@ module _ (left l : Option (List ℕ)) (reader : Reader) (line : LineBuffer) (row
       }
 
 -- nothing was written where the source failed or gave too much, or memory was wanted
-pub span_stops : (left l t : Option (List ℕ)) (faults more w : ℕ) (why : Stop) → Stops why left l faults more → Serves span_rules (stop_status why) (outside left t faults w) (outside l t more w)
+span_stops : (left l t : Option (List ℕ)) (faults more w : ℕ) (why : Stop) → Stops why left l faults more → Serves span_rules (stop_status why) (outside left t faults w) (outside l t more w)
 span_stops left l t faults more w stop.ReadFault (bytes, rows, rose, took, are) = record {
   bytes = bytes;
   text = [];
@@ -379,3 +379,6 @@ span_stops left l t faults more w stop.TooLong (bytes, rows, size, took, are) = 
   says = record { rows = rows; end = WithLines; ends = are; says = (refl, refl) };
   goes_on = goes_on false;
 }
+
+pub span_stopped : (left l t : Option (List ℕ)) (faults more w : ℕ) (status : Status) (why : Stop) → status ≡ stop_status why → Stops why left l faults more → Serves span_rules status (outside left t faults w) (outside l t more w)
+span_stopped left l t faults more w status why e h = subst (λ (s : Status). Serves span_rules s (outside left t faults w) (outside l t more w)) (sym e) (span_stops left l t faults more w why h)

@@ -10,11 +10,11 @@ ghost use Rattle.table_rows.specs.TableRows.{AreAccepted, IsFirstRefused, conten
 use crate::row_years::{east_asian_row, hijri_row};
 use crate::table::{RowFault, Table, TableRefusal};
 use cal_east_asian::{EastAsianRow, EastAsianTable, Side};
+use cal_errors::TableFault;
 use cal_gregory::{EraStartDate, JapaneseEras};
 use cal_hijri::{HijriRow, HijriTable};
 use cal_julian::PersianCorrections;
 use cal_tables::Tables;
-use cal_types::TableFault;
 use request_lines::{EraRow, Row, RowDate};
 use std::alloc::Global;
 

@@ -1,12 +1,9 @@
-use Rattle.std.proofs.Common.{arith, ◌+◌, ap, sym, subst}
+use Rattle.std.proofs.Common.{arith, ◌+◌, ap}
 use Rattle.line_reader.specs.Lines.{open_line}
 use Rattle.table_rows.specs.RowsSaid.{rows_said}
 use Rattle.std.proofs.KnownBytes.{Consumes-nil}
-use Rattle.calspan_run.proofs.ListRunLemmas.{other_serves, faulty_serves, end_serves, stops_serve}
+use Rattle.calspan_run.proofs.ListRunLemmas.{other_serves, faulty_serves, end_serves, stopped_serves}
 use Rattle.table_rows.proofs.GatheringLemmas.{gathering_begins, met_line, met_last_line}
-use Rattle.calspan_run.specs.Rules.{list_rules}
-use Rattle.calspan_run.specs.Serving.{Serves}
-use Rattle.calspan_run.specs.declared.status.Status.{Status}
 use Rattle.calspan_run.proofs.lists.serve_list.Goals as goal
 
 pub returns-in-Request : goal.returns-in-Request
@@ -44,5 +41,5 @@ pub returns : goal.returns
 returns g c =
     let left = g.S.Source.left c.args.source.now in
     let start = gathering_begins left _ _ _ c.new-reader.ensures.at c.new-line.ensures c.new-reader.ensures.lines (Consumes-nil left) c.new-rows.ensures in
-    let stops = stops_serve (g.L.TableList.lists c.args.list.now) left _ c.in-Stopped.stop _ _ _ _ (c.in-Stopped.ensures.gathers left (g.S.Source.faults c.args.source.now) (omega arith) start) in
-    subst (λ (s : Status). Serves (list_rules (g.L.TableList.lists c.args.list.now)) s _ _) (sym c.status_of_stop.ensures) stops
+    stopped_serves (g.L.TableList.lists c.args.list.now) left _ c.status_of_stop.result c.in-Stopped.stop _ _ _ _ c.status_of_stop.ensures
+    (c.in-Stopped.ensures.gathers left (g.S.Source.faults c.args.source.now) (omega arith) start)

@@ -1,10 +1,8 @@
-use Rattle.std.proofs.Common.{inr, refl, arith, sym, subst}
+use Rattle.std.proofs.Common.{inr, refl, arith}
 use Rattle.calspan_run.specs.Rules.{span_rules}
-use Rattle.calspan_run.specs.Serving.{Serves}
 use Rattle.calspan_run.specs.TableTexts.{row_refusal}
-use Rattle.calspan_run.specs.declared.status.Status.{Status}
 use Rattle.calspan_run.specs.declared.status.Status.TheVariants.{TableRefused}
-use Rattle.calspan_run.proofs.UnderwayLemmas.{row_refused, span_stops}
+use Rattle.calspan_run.proofs.UnderwayLemmas.{row_refused, span_stopped}
 use Rattle.std.proofs.KnownBytes.{Consumes-nil}
 use Rattle.calspan_run.proofs.EndLemmas.{ends_serve}
 use Rattle.table_rows.proofs.GatheringLemmas.{gathering_begins}
@@ -40,5 +38,4 @@ pub returns : goal.returns
 returns g c =
     let left = g.S.Source.left c.args.source.now in
     let start = gathering_begins left _ _ _ c.new-reader.ensures.at c.new-line.ensures c.new-reader.ensures.lines (Consumes-nil left) c.new-rows.ensures in
-    let stops = span_stops left _ _ _ _ _ c.in-Stopped.stop (c.in-Stopped.ensures.gathers left (g.S.Source.faults c.args.source.now) (omega arith) start) in
-    subst (λ (s : Status). Serves span_rules s _ _) (sym c.status_of_stop.ensures) stops
+    span_stopped left _ _ _ _ _ c.status_of_stop.result c.in-Stopped.stop c.status_of_stop.ensures (c.in-Stopped.ensures.gathers left (g.S.Source.faults c.args.source.now) (omega arith) start)
