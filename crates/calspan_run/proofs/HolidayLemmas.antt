@@ -21,6 +21,7 @@ use Rattle.cal_holidays.specs.declared.book.BookError.TheVariants as book
 use Rattle.cal_holidays.specs.declared.merged.Holiday.{Holiday}
 use Rattle.cal_tables.specs.Kinds.{no_contents}
 use Rattle.calspan_run.specs.Asked.{HolidaysAsked}
+use Rattle.calspan_run.specs.Command.{Asked, Holidays}
 use Rattle.calspan_run.specs.DayLines.{is_refused, is_window, list_text}
 use Rattle.calspan_run.specs.Endings.{EndsWith, MayEnd}
 use Rattle.calspan_run.specs.HolidayEndings.{EndsHolidays}
@@ -263,3 +264,7 @@ module _ (asked : HolidaysAsked) (before now : Outside) where
   holiday_ends NoMemory h = (h.bytes, some_came limit h.bytes h.may, h.exchanged)
   holiday_ends TableRefused h = never_table h.bytes h.text h.whole h.at_line h.says
   holiday_ends TooLong h = (h.bytes, h.more, subst (λ (x : List ℕ). Exchanged before now h.bytes x) h.says.0 h.exchanged)
+
+-- what is read of the words is what they ask for
+pub asked_holidays : (w a : HolidaysAsked) (o : Option Asked) → Some (Holidays w) ≡ o → o ≡ Some (Holidays a) → w ≡ a
+asked_holidays w a o e f = let same : ◌≡◌ {A = Option Asked} (Some (Holidays w)) (Some (Holidays a)) = e ∙ f in cc

@@ -1,6 +1,7 @@
 use Rattle.std.proofs.Common.{Some, sym, ap, subst, ◌∙◌}
-use Rattle.calspan_run.specs.Asked.{AnniversaryAsked, RecurAsked}
-use Rattle.calspan_run.specs.CommandSaid.{anniversary_said, command_said, recur_said}
+use Rattle.calspan_run.specs.Asked.{AnniversaryAsked, HolidaysAsked, RecurAsked}
+use Rattle.calspan_run.specs.CommandSaid.{anniversary_said, command_said, holidays_said, recur_said}
+use Rattle.calspan_run.specs.HolidayRuns.{RunsHolidays}
 use Rattle.calspan_run.specs.ListRuns.{RunsList}
 use Rattle.calspan_run.specs.ListTexts.{ListsAnniversaries, ListsOccurrences}
 use Rattle.calspan_run.specs.Rules.{span_rules}
@@ -8,6 +9,7 @@ use Rattle.calspan_run.specs.Run.{outside}
 use Rattle.calspan_run.specs.declared.command.Command.{Command}
 use Rattle.calspan_run.proofs.ServingLemmas.{headline}
 use Rattle.calspan_run.proofs.AnswerLemmas.{span_lasts}
+use Rattle.calspan_run.proofs.HolidayLemmas.{asked_holidays, runs_holidays}
 use Rattle.calspan_run.proofs.ListTextLemmas.{asked_days, asked_occurrences, runs_list}
 use Rattle.calspan_run.proofs.command_run.run.Goals as goal
 
@@ -31,3 +33,13 @@ returns-in-Some-Recur-clause-recur g c asked is =
     let new = outside (g.S.Source.left new_source) (g.K.Sink.taken new_sink) (g.S.Source.faults new_source) (g.K.Sink.faults new_sink) in
     subst (λ (a : RecurAsked). RunsList (ListsOccurrences a) c.serve_list-in-Some-Recur.result old new) (asked_occurrences w asked _ (sym (ap (λ (x : Command). Some (command_said x)) c.in-Some-Recur.field-0-is) ∙ c.in-Some-Recur.ensures.said) is)
     (runs_list (ListsOccurrences w) c.serve_list-in-Some-Recur.result _ _ _ _ _ _ _ _ c.serve_list-in-Some-Recur.ensures)
+
+pub returns-in-Some-Holidays-clause-holidays : goal.returns-in-Some-Holidays-clause-holidays
+returns-in-Some-Holidays-clause-holidays g c asked is =
+    let w = holidays_said c.in-Some-Holidays.asked in
+    let new_source = c.serve_holidays.new.source in
+    let new_sink = c.serve_holidays.new.sink in
+    let old = outside (g.S.Source.left c.args.source.now) (g.K.Sink.taken c.args.sink.now) (g.S.Source.faults c.args.source.now) (g.K.Sink.faults c.args.sink.now) in
+    let new = outside (g.S.Source.left new_source) (g.K.Sink.taken new_sink) (g.S.Source.faults new_source) (g.K.Sink.faults new_sink) in
+    subst (λ (a : HolidaysAsked). RunsHolidays a c.serve_holidays.result old new) (asked_holidays w asked _ (sym (ap (λ (x : Command). Some (command_said x)) c.in-Some-Holidays.field-0-is) ∙ c.in-Some-Holidays.ensures.said) is)
+    (runs_holidays w c.serve_holidays.result _ _ _ _ _ _ _ _ c.serve_holidays.ensures)
