@@ -1,13 +1,13 @@
 -- Behind row lines there is a text, where there is one over the tables and at another line.
-use Rattle.std.proofs.Common.{◌≡◌, ℕ, Bool, true, false, List, [], ◌∷◌, ◌++◌, ◌⊎◌, inl, inr, refl, ◌∙◌, sym, ap, subst}
-use Rattle.std.proofs.lemmas.List.{append-nil, append_assoc}
+use Rattle.std.proofs.Common.{◌≡◌, ℕ, Bool, true, false, List, [], ◌++◌, ◌⊎◌, inl, inr, refl, ◌∙◌, sym, ap, subst}
+use Rattle.std.proofs.lemmas.List.{append-nil}
 use Rattle.cal_errors.specs.declared.errors.TableFault.{TableFault}
 use Rattle.cal_tables.specs.Kinds.{TableContents}
 use Rattle.line_reader.specs.Lines.{lines_in}
 use Rattle.request_lines.specs.Lines.{RequestLine}
 use Rattle.calspan_run.specs.BehindRows.{Behind, OverTables, RefusesTables, SaysAt, SaysBehindRows}
 use Rattle.calspan_run.specs.Laws.{EveryInputHas, IsUnique, PrefixesHavePrefixes}
-use Rattle.table_rows.specs.RowLines.{EndBefore, RowsEnd, WithLines, AtFaultyRow, AtRequest, EndRows}
+use Rattle.table_rows.specs.RowLines.{RowsEnd, WithLines, AtFaultyRow, AtRequest, EndRows}
 use Rattle.table_rows.specs.TableRows.{TableRows, contents_of, AreAccepted, IsFirstRefused}
 use Rattle.calspan_run.specs.TableTexts.{row_refusal, table_refusal}
 use Rattle.calspan_run.specs.declared.status.Status.{Status}

@@ -6,7 +6,6 @@ use Rattle.std.proofs.lemmas.List.{take_all, length-append}
 use Rattle.std.specs.Io.KnownBytes.{Appends, IsAtEnd, Keeps}
 use Rattle.csv.specs.Machine.{next_record}
 use Rattle.csv.specs.Reading.{records_from, strip_bom}
-use Rattle.byte_io.specs.Faults.{Rose}
 use Rattle.byte_io.specs.Whole.{AreAll, StopsEarly}
 use Rattle.byte_io.specs.declared.whole.ReadAllError.TheVariants as early
 use Rattle.cal_days.specs.Sums.{years_up}
@@ -31,7 +30,7 @@ use Rattle.calspan_run.specs.Laws.{AreLasting, EveryInputHas, IsUnique}
 use Rattle.calspan_run.specs.Refusals.{status_of}
 use Rattle.calspan_run.specs.Rules.{SaysHolidays, holiday_rules}
 use Rattle.calspan_run.specs.Run.{Outside, Exchanged, outside, limit}
-use Rattle.calspan_run.specs.Serving.{Answered, Serves, StoppedReading, TookTooMuch, WantedMemory}
+use Rattle.calspan_run.specs.Serving.{Serves, WantedMemory}
 use Rattle.calspan_run.specs.TextSoFar.{lines_text}
 use Rattle.calspan_run.specs.declared.status.Status.{Status}
 use Rattle.calspan_run.specs.declared.status.Status.TheVariants.{Done, Refused, Words, ReadFault, WriteFault, NoMemory, TableRefused, TooLong}

@@ -1,5 +1,5 @@
 -- Calls in turn, on the bytes that a sink tells.
-use Rattle.std.proofs.Common.{ℕ, ◌+◌, ◌-◌, take, drop, length, subst, List, [], ◌++◌, Option, Some, None, Result, Ok, Err, true≢false, refl, ◌∙◌, sym, ap}
+use Rattle.std.proofs.Common.{ℕ, ◌+◌, ◌-◌, take, drop, length, subst, List, [], ◌++◌, Option, Some, None, Result, Ok, Err, true≢false, ◌∙◌, sym, ap}
 use Rattle.std.proofs.lemmas.List.{append-nil, append_assoc, take_rest, take-append-drop}
 use Rattle.std.proofs.Math.Seq.{take-add}
 use Rattle.std.specs.Result.{IsErr}

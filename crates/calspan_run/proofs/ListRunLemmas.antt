@@ -1,5 +1,5 @@
 -- A run that gathered rows, and then wrote one text.
-use Rattle.std.proofs.Common.{◌≡◌, ℕ, Bool, true, false, cond, nat_lt, codes, List, [], length, Option, inl, inr, refl, ◌∙◌, sym, ap, subst}
+use Rattle.std.proofs.Common.{◌≡◌, ℕ, Bool, true, false, cond, codes, List, [], Option, inl, inr, refl, ◌∙◌, sym, ap, subst}
 use Rattle.std.proofs.lemmas.List.{take_all}
 use Rattle.cal_tables.specs.Kinds.{TableContents}
 use Rattle.line_reader.specs.Buffer.{Holds}
@@ -22,7 +22,7 @@ use Rattle.calspan_run.specs.Status.{stop_status}
 use Rattle.table_rows.specs.declared.gathering.Stop.{Stop}
 use Rattle.table_rows.specs.declared.gathering.Stop.TheVariants as stop
 use Rattle.calspan_run.specs.declared.status.Status.{Status}
-use Rattle.calspan_run.specs.declared.status.Status.TheVariants.{Done, Refused, Words, ReadFault, WriteFault, NoMemory, TableRefused, TooLong}
+use Rattle.calspan_run.specs.declared.status.Status.TheVariants.{Done, Refused, TableRefused}
 use Rattle.table_rows.specs.declared.table.RowFault.{RowFault}
 use Rattle.calspan_run.proofs.EndLemmas.{IsEnd, ends_serve}
 use Rattle.calspan_run.proofs.KnownLemmas.{appends_none}

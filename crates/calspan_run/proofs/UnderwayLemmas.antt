@@ -32,7 +32,7 @@ use Rattle.calspan_run.specs.Status.{stop_status}
 use Rattle.table_rows.specs.declared.gathering.Stop.{Stop}
 use Rattle.table_rows.specs.declared.gathering.Stop.TheVariants as stop
 use Rattle.calspan_run.specs.declared.status.Status.{Status}
-use Rattle.calspan_run.specs.declared.status.Status.TheVariants.{Done, Refused, Words, ReadFault, WriteFault, NoMemory, TableRefused, TooLong}
+use Rattle.calspan_run.specs.declared.status.Status.TheVariants.{Done, TableRefused}
 use Rattle.table_rows.specs.declared.table.RowFault.{RowFault}
 use Rattle.table_rows.specs.declared.table.Table.{Table}
 use Rattle.table_rows.proofs.GatheringLemmas.{open_line_is, not_request}

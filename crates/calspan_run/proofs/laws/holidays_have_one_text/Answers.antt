@@ -1,4 +1,4 @@
-use Rattle.calspan_run.proofs.HolidayLemmas.{holidays_exist, holidays_unique}
+use Rattle.calspan_run.proofs.HolidayLemmas.{holidays_exist}
 use Rattle.calspan_run.proofs.laws.holidays_have_one_text.Goals as goal
 
 pub returns-clause-exists : goal.returns-clause-exists
