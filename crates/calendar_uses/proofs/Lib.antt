@@ -1,2 +1,3 @@
+mod AlmanacLemmas
 pub mod FeastLemmas
 pub mod ComingLemmas
