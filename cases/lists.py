@@ -16,7 +16,7 @@ TOP = Path(__file__).resolve().parent.parent
 # The script refuses words by itself, so that the program's own answer is asked of the program.
 SCRIPT = str(TOP / "calspan")
 PROGRAM = str(TOP / "crates/calspan/out/calspan")
-NOT_BUILT = [b"islamic-type1-friday", b"islamic-type1-thursday"]
+NOT_BUILT = {b"islamic-type1-friday", b"islamic-type1-thursday"}
 WORDS_REFUSED = 2
 ENDS = {0, 1, 6}
 MOST_DAYS = 4000
@@ -43,7 +43,8 @@ def cases_of(path: Path) -> list[Case]:
 
 
 def is_built(case: Case) -> bool:
-    return not any(name in text for name in NOT_BUILT for text in [*case.words, case.source])
+    in_book = case.words[:1] == [b"holidays"] and any(name in case.source for name in NOT_BUILT)
+    return NOT_BUILT.isdisjoint(case.words) and not in_book
 
 
 def run(program: str, words: list[bytes], source: bytes) -> subprocess.CompletedProcess:
