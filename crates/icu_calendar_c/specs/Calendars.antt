@@ -20,6 +20,9 @@ abbrev pub calendar_of : ℕ → ℕ → Result CalendarSystem ℕ
 calendar_of calendar years = system_of (kind_of_code calendar) (contents_of_code years)
 
 -- the calendar that was chosen
+abbrev pub choice_system : Chosen → CalendarSystem
+choice_system c = kind_system (table_contents c.tables) c.kind
+
 abbrev pub chosen_system : Result Chosen ℕ → Result CalendarSystem ℕ
-chosen_system (Ok c) = Ok (kind_system (table_contents c.tables) c.kind)
+chosen_system (Ok c) = Ok (choice_system c)
 chosen_system (Err code) = Err code

@@ -4,7 +4,7 @@ ghost use Rattle.std.specs.Prelude.{◌≡◌};
 ghost use Rattle.cal_hijri.specs.TabularRules.{tabular_system};
 ghost use Rattle.cal_hijri.specs.declared.tabular_algorithm.TabularAlgorithmLeapYears.TheVariants.{TypeII};
 ghost use Rattle.cal_tables.specs.Kinds.{kind_system, table_contents};
-ghost use Rattle.icu_calendar_c.specs.Calendars.{calendar_of, chosen_system};
+ghost use Rattle.icu_calendar_c.specs.Calendars.{calendar_of, choice_system, chosen_system};
 
 use crate::codes::{kind_of, tables_of};
 use crate::outcomes::{UNKNOWN_CALENDAR, UNKNOWN_YEARS};
@@ -26,7 +26,7 @@ pub(crate) struct Chosen {
 }
 
 /// The calendar that two codes stand for, or the code of the fault.
-pub(crate) fn chosen(calendar: u8, years: u8) -> Result<Chosen, u8>
+pub(crate) fn choose(calendar: u8, years: u8) -> Result<Chosen, u8>
     ensures { chosen_system result ≡ calendar_of calendar years }
 {
     let Some(kind) = kind_of(calendar) else {
@@ -100,7 +100,7 @@ fn ask_kind<Q: Question>(question: &Q, kind: AnyCalendarKind, tables: &Tables<'_
 
 /// What a question is answered in the calendar that was chosen.
 pub(crate) fn ask<Q: Question>(question: &Q, chosen: &Chosen) -> Q::Answer
-    ensures { Q.answers question.now (kind_system (table_contents chosen.now.tables) chosen.now.kind) result }
+    ensures { Q.answers question.now (choice_system chosen.now) result }
 {
     ask_kind(question, chosen.kind, &chosen.tables)
 }
