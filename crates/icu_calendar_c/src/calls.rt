@@ -2,8 +2,9 @@
 
 ghost use Rattle.std.specs.Prelude.{◌≡◌, MatchResult};
 ghost use Rattle.cal_types.specs.Bag.{bag_of};
+ghost use Rattle.cal_model.specs.Adding.{add_overflow_of};
 ghost use Rattle.icu_calendar_c.specs.Calendars.{calendar_of, choice_system};
-ghost use Rattle.icu_calendar_c.specs.Calls.{AddsIn, DiffersIn, IsLeft, IsLeftWith, IsTold, NamesDate, NamesIn, ShowsDay, ShowsEra, fields_options};
+ghost use Rattle.icu_calendar_c.specs.Calls.{AddsIn, AddsTo, DiffersIn, IsLeft, IsLeftWith, IsTold, NamesDate, NamesIn, ShowsDay, ShowsEra, fields_options};
 ghost use Rattle.icu_calendar_c.specs.Codes.{overflow_of_code, strategy_of_code, unit_of_code};
 ghost use Rattle.icu_calendar_c.specs.Durations.{duration_given};
 ghost use Rattle.icu_calendar_c.specs.Fields.{bag_given};
@@ -142,6 +143,21 @@ pub extern "C" fn icu_calendar_date_of_fields(
 }
 
 // The date that a duration leads to from a day in a calendar.
+fn add_to(chosen: &Chosen, sum: &Sum, date: &mut CalendarDate, max: &mut u8) -> u8
+    requires { max.old ≡ 0 }
+    ensures { let overflow = add_overflow_of sum.now.options.overflow in
+        AddsTo (choice_system chosen.now) sum.now.day.day sum.now.duration overflow result max.new date.old date.new }
+{
+    match ask(sum, chosen) {
+        Ok(found) => {
+            *date = found;
+            DONE
+        }
+        Err(cause) => refuse(fault_of_sum(cause), max),
+    }
+}
+
+// The same, with the code of the option and the number of the day.
 fn add_in(
     chosen: &Chosen,
     day: i64,
@@ -165,13 +181,7 @@ fn add_in(
         duration: duration_of(duration),
         options: DateAddOptions { overflow },
     };
-    match ask(&sum, chosen) {
-        Ok(found) => {
-            *date = found;
-            DONE
-        }
-        Err(cause) => refuse(fault_of_sum(cause), max),
-    }
+    add_to(chosen, &sum, date, max)
 }
 
 /// Puts into `date` what the date says to which a duration leads from the date of a day in a calendar.

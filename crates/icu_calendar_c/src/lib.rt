@@ -6,8 +6,10 @@
 #![tactic(auto)]
 
 mod calendars;
+mod calls;
 mod codes;
 mod dates;
+mod days;
 mod durations;
 mod eras;
 mod fields;
@@ -15,6 +17,7 @@ mod kept;
 mod outcomes;
 mod program;
 mod questions;
+mod rooms;
 #[cfg(test)]
 mod tests;
 mod words;
