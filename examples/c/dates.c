@@ -75,9 +75,9 @@ int main(void) {
     uint8_t code = named(ICU_CALENDAR_HEBREW, ICU_CALENDAR_COMPUTED, adar_i, &later, &max);
     printf("31 Adar I 5784: %u, max %u\n", code, max);
 
-    /* 738886 is 2024-01-02 and 738914 2024-01-30. */
-    add(738914, (icu_calendar_duration){.months = 1}, ICU_CALENDAR_CONSTRAIN);
-    add(738914, (icu_calendar_duration){.months = 1}, ICU_CALENDAR_REJECT);
+    /* 738886 is 2024-01-01, and 738916 2024-01-31. */
+    add(738916, (icu_calendar_duration){.months = 1}, ICU_CALENDAR_CONSTRAIN);
+    add(738916, (icu_calendar_duration){.months = 1}, ICU_CALENDAR_REJECT);
     if (icu_calendar_until(ICU_CALENDAR_HEBREW, ICU_CALENDAR_COMPUTED, 738779, 739162, ICU_CALENDAR_YEARS, &apart)) {
         return 2;
     }
@@ -86,7 +86,7 @@ int main(void) {
     if (icu_calendar_week_of_year(738886, &year, &week) || icu_calendar_easter(ICU_CALENDAR_EASTER_GREGORIAN, 2024, &easter)) {
         return 3;
     }
-    printf("2024-01-02 is in week %u of %" PRId32 ", and Easter 2024 is day %" PRId64 "\n", week, year, easter);
+    printf("2024-01-01 is in week %u of %" PRId32 ", and Easter 2024 is day %" PRId64 "\n", week, year, easter);
     printf("codes that are none: %u %u %u %u\n", icu_calendar_date_of_day(18, 0, 1, &date), icu_calendar_date_of_day(0, 2, 1, &date),
            icu_calendar_until(0, 0, 1, 1, 5, &apart), icu_calendar_date_of_day(0, 0, INT64_MIN, &date));
     return 0;

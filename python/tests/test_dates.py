@@ -101,7 +101,7 @@ class Arithmetic(unittest.TestCase):
                         self.assertEqual(here.add(here.until(b, unit), Overflow.CONSTRAIN), b)
 
     def test_texts(self):
-        self.assertEqual(str(iso(2024, 1, 1).until(iso(2022, 11, 30), Unit.YEARS)), "-P1Y1M2D")
+        self.assertEqual(str(iso(2024, 1, 1).until(iso(2022, 11, 30), Unit.YEARS)), "-P1Y1M1D")
         self.assertEqual(str(Duration()), "P0D")
         self.assertEqual(repr(iso(-1, 2, 3)), "Date(iso -1-M02-03)")
 
