@@ -23,5 +23,14 @@ if ! command -v python3 >/dev/null; then
   exit 0
 fi
 python3 "$top/cases/compare.py" --program "$room/calspan"
+if command -v parallel >/dev/null; then
+  for name in solar east_asian; do
+    cat "$top"/rows/*.rows "$top/cases/$name.in" | "$room/calspan" span >"$room/wanted" || [ $? -eq 1 ]
+    CALSPAN=$room/calspan BLOCK=50k "$top/examples/parallel.sh" "$top"/rows/*.rows <"$top/cases/$name.in" >"$room/got" || [ $? -eq 1 ]
+    cmp "$room/wanted" "$room/got"
+  done
+else
+  echo "check_c: examples/parallel.sh is not tested, since there is no GNU parallel"
+fi
 ICU_CALENDAR_LIBRARY=$shared PYTHONPATH=$top/python python3 -m unittest discover -s "$top/python/tests" -q
 echo "check_c: the examples in C and the Python module agree with the cases"

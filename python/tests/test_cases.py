@@ -2,6 +2,7 @@
 
 import sys
 import unittest
+from concurrent.futures import ThreadPoolExecutor
 from pathlib import Path
 
 from icu_calendar import Calendar, anniversaries, holidays, recurrences, run, span
@@ -35,6 +36,12 @@ class Cases(unittest.TestCase):
         self.assertGreater(len(cases), 1500)
         for case in cases:
             self.assertEqual(run([word.decode() for word in case.words], case.source), (case.status, case.out), str(case))
+
+    def test_requests_on_several_threads(self):
+        files = sorted(CASES.glob("*.in")) * 2
+        with ThreadPoolExecutor(8) as pool:
+            outputs = list(pool.map(lambda file: run(["span"], file.read_bytes()).output, files))
+        self.assertEqual(outputs, [file.with_suffix(".out").read_bytes() for file in files])
 
     def test_generated_requests(self):
         line = b"gen 1000 ok 822 err 178 sum -108964599 parts 209816 2754229 11825359 157085154\n"
