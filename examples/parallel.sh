@@ -12,5 +12,6 @@ export ROWS=$room/rows
 cat "$@" </dev/null >"$ROWS" || exit 2
 # The first run builds the program where it must.
 "$CALSPAN" span <"$ROWS" || exit
+# shellcheck disable=SC2016
 parallel --will-cite --pipe --keep-order --block "${BLOCK:-1M}" --joblog "$room/log" 'cat "$ROWS" - | "$CALSPAN" span'
 awk 'NR > 1 && $7 > most { most = $7 } END { exit most }' "$room/log"

@@ -4,8 +4,7 @@ ghost use Rattle.std.specs.Prelude.{◌≡◌, ◌≢◌, MatchBool};
 ghost use Rattle.cal_days.specs.Day.{is_valid_day};
 ghost use Rattle.cal_days.specs.Easter.{IsGregorianEaster, IsJulianEaster};
 ghost use Rattle.icu_calendar.specs.Weeks.{IsInWeek};
-ghost use Rattle.icu_calendar_c.specs.Calls.{IsLeft};
-ghost use Rattle.icu_calendar_c.specs.Weeks.{IsWeekTold};
+ghost use Rattle.icu_calendar_c.specs.Weeks.{IsWeekLeft, IsWeekTold};
 
 use crate::days::ValidDay;
 use crate::outcomes::{DONE, INVALID_DAY_NUMBER, UNKNOWN_OPTION};
@@ -45,7 +44,7 @@ fn week_of(day: ValidDay) -> IsoWeekOfYear
 #[unsafe(no_mangle)]
 pub extern "C" fn icu_calendar_week_of_year(day: i64, year: &mut i32, week: &mut u8) -> u8
     ensures { MatchBool (is_valid_day day) (IsWeekTold day result year.new week.new)
-        (IsLeft 4 result (year.old, week.old) (year.new, week.new)) }
+        (IsWeekLeft result year.old week.old year.new week.new) }
 {
     let Some(day) = ValidDay::of(day) else {
         return INVALID_DAY_NUMBER;
