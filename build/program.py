@@ -1,7 +1,7 @@
 #!/usr/bin/env python3
 """Proves and builds the program `calspan`: each crate that it stands on once, crates that don't stand on one another side by side.
-With names of libraries as arguments, it proves these and what they stand on in its place. With `--progress` first, it says on standard
-error how far it is: how many of the crates are proved, and how many minutes have gone.
+With names of libraries as arguments, it proves these and what they stand on in its place; of a static library it builds the archive. With
+`--progress` first, it says on standard error how far it is: how many of the crates are proved, and how many minutes have gone.
 
 A crate is built as soon as the crates below it are. Where one crate has by far the longest chain of others behind it, the chain decides
 when the program is there: so that crate has all processors, and others run beside it with less right to them. The libraries have
@@ -61,10 +61,19 @@ def kit() -> Kit:
     )
 
 
+def lines_of_crates() -> list[tuple[str, str]]:
+    """What stands before and behind the colon in each line of crates.txt: a name, with a word behind it for a static library, and names."""
+    lines = (line.split("#")[0].partition(":") for line in (TOP / "crates.txt").read_text().splitlines())
+    return [(head, names) for head, colon, names in lines if colon]
+
+
+def static_libraries() -> set[str]:
+    return {head.split()[0] for head, _ in lines_of_crates() if head.split()[1:] == ["staticlib"]}
+
+
 def crates_below(tops: list[str]) -> dict[str, list[str]]:
     """Some crates and all that they stand on, each with its libraries; a library stands before those above it."""
-    lines = (line.split("#")[0] for line in (TOP / "crates.txt").read_text().splitlines())
-    listed = {name.strip(): names.split() for name, colon, names in (line.partition(":") for line in lines) if colon}
+    listed = {head.split()[0]: names.split() for head, names in lines_of_crates()}
     if unlisted := set(tops) - set(listed):
         sys.exit(f"crates.txt doesn't list {', '.join(sorted(unlisted))}")
     wanted = set(tops)
@@ -110,19 +119,22 @@ def longest_chains(crates: dict[str, list[str]], seconds: dict[str, int]) -> dic
 
 def command(name: str, crates: dict[str, list[str]], tools: Kit, room: Path, jobs: int) -> list[str]:
     """The words that build a crate, over libraries in the room and in the kit."""
-    is_program = name == PROGRAM
+    is_program, is_static = name == PROGRAM, name in static_libraries()
     words = [tools.rattle, "build", "--crate-name", name, "src/main.rt" if is_program else "src/lib.rt"]
     for it in ["std", *crates[name]]:
         words += ["--extern", f"{it}={room if it in crates else tools.libraries}/{it}.rlib"]
     words += ["-L", f"dependency={tools.libraries}", "-L", f"dependency={room}"]
     words += ["--antt-project", tools.logic, "--logic-built", tools.built_logic]
     words += ["--jobs", str(jobs)]
-    words += ["--toolchain", tools.toolchain, "--backend", "llvm"] if is_program else ["--statements"]
+    words += ["--crate-type", "staticlib"] if is_static else []
+    words += ["--toolchain", tools.toolchain, "--backend", "llvm"] if is_program or is_static else ["--statements"]
     return [str(it) for it in [*words, "-o", made(name, room)]]
 
 
 def made(name: str, room: Path) -> Path:
-    """What the build of a crate makes: a library, or the program before it is linked."""
+    """What the build of a crate makes: a library, an archive, or the program before it is linked."""
+    if name in static_libraries():
+        return room / f"lib{name}.a"
     return room / (f"{name}.o" if name == PROGRAM else f"{name}.rlib")
 
 
@@ -223,6 +235,14 @@ def link(tools: Kit, room: Path) -> int:
     return subprocess.run(words, stdin=subprocess.DEVNULL).returncode
 
 
+def hand_out(room: Path, tops: list[str]) -> None:
+    """Puts archives into the folders where `rt lib` would make them."""
+    for name in static_libraries().intersection(tops):
+        out = TOP / "crates" / name / "out"
+        out.mkdir(parents=True, exist_ok=True)
+        shutil.copy(made(name, room), out)
+
+
 def room_of_checkout() -> Path:
     caches = Path(os.environ.get("XDG_CACHE_HOME") or Path.home() / ".cache")
     return caches / "calspan" / hashlib.sha256(str(TOP).encode()).hexdigest()[:16]
@@ -237,7 +257,10 @@ def main(words: list[str]) -> int:
     with (room / "lock").open("w") as lock:
         fcntl.flock(lock, fcntl.LOCK_EX)
         build = Build(room, tops, shows_progress)
-        return build.whole() or (link(build.tools, room) if PROGRAM in tops else 0)
+        if status := build.whole():
+            return status
+        hand_out(room, tops)
+        return link(build.tools, room) if PROGRAM in tops else 0
 
 
 if __name__ == "__main__":

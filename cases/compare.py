@@ -14,6 +14,7 @@ import sys
 from pathlib import Path
 
 from grammar import FIELDS, REQUEST, WORDS, has_each_key_once
+import lists
 from lists import cases_of, compare_lists, compare_words
 
 HERE = Path(__file__).resolve().parent
@@ -179,9 +180,13 @@ def check_broken_rows(chance: random.Random, inputs: list[bytes]) -> None:
         raise SystemExit(f"status {status} and {tables!r} for {bytes(data)!r}")
 
 
-def compare_all() -> None:
+def compare_cases() -> str:
     count = sum(compare(name) for name in NAMES) + sum(compare_table(name) for name in STATUSES)
-    lists = compare_lists(LISTS)
+    return f"{count} answers and {compare_lists(LISTS)}"
+
+
+def compare_all() -> None:
+    compared = compare_cases()
     chance = random.Random(20260101)
     requests = [line for name in NAMES for line in (HERE / f"{name}.in").read_bytes().split(b"\n")[:-1]]
     for _ in range(BROKEN_INPUTS):
@@ -190,14 +195,19 @@ def compare_all() -> None:
     for _ in range(BROKEN_ROWS):
         check_broken_rows(chance, inputs)
     compare_words(chance, cases_of(LISTS), BROKEN_WORDS)
-    print(f"cases: {count} answers and {lists}; {BROKEN_INPUTS + BROKEN_ROWS} broken inputs and {BROKEN_WORDS} broken command lines are answered")
+    print(f"cases: {compared}; {BROKEN_INPUTS + BROKEN_ROWS} broken inputs and {BROKEN_WORDS} broken command lines are answered")
 
 
 def main() -> int:
     arguments = argparse.ArgumentParser(description=__doc__, formatter_class=argparse.RawDescriptionHelpFormatter)
     arguments.add_argument("--lists", type=Path, metavar="FILE", help="compare the lists of this file, of the form of lists.jsonl, and nothing else")
-    path = arguments.parse_args().lists
-    if path:
+    arguments.add_argument("--program", metavar="FILE", help="compare this program with the cases, in place of the built one, and nothing else")
+    given = arguments.parse_args()
+    path = given.lists
+    if given.program:
+        PROGRAM[0] = lists.PROGRAM = given.program
+        print(f"cases: {compare_cases()}")
+    elif path:
         # The script builds the program where a source is newer; lists are asked of what it built.
         subprocess.run(PROGRAM, stdin=subprocess.DEVNULL, check=False)
         print(f"cases: {compare_lists(path)}")

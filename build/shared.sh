@@ -1,0 +1,23 @@
+#!/usr/bin/env bash
+# Builds the calls from C: the archive crates/icu_calendar_c/out/libicu_calendar_c.a, which is proved first, and by the system's C compiler
+# ($CC or cc) the shared object libicu_calendar.so beside it, which wants the C library alone.
+set -eu
+top=$(cd "$(dirname "${BASH_SOURCE[0]}")/.." && pwd)
+crate=$top/crates/icu_calendar_c
+archive=$crate/out/libicu_calendar_c.a
+shared=$crate/out/libicu_calendar.so
+rt=$(command -v rt) || { echo "the toolchain's command rt is not on the PATH" >&2; exit 1; }
+# The toolchain's three functions over malloc, realloc and free.
+heap=$(dirname "$(dirname "$(readlink -f "$rt")")")/c/liblibc_c.a
+
+if [ ! -f "$archive" ] || [ -n "$(find "$top/crates.txt" "$top"/crates/*/src "$top"/crates/*/specs "$top"/crates/*/proofs -type f -newer "$archive" -print -quit 2>/dev/null)" ]; then
+  if [ -d "$top/crates/calspan_run/out/rlib" ]; then
+    # What `rt ci` or `rt check` proved is there: the crate alone is left to build.
+    (cd "$crate" && rt lib)
+  else
+    python3 "$top/build/program.py" icu_calendar_c
+  fi
+  touch "$archive"
+fi
+"${CC:-cc}" -shared -o "$shared" -Wl,--whole-archive "$archive" -Wl,--no-whole-archive "$heap" -Wl,--exclude-libs,liblibc_c.a
+echo "$shared"

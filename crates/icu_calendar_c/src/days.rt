@@ -1,0 +1,38 @@
+//! Day numbers that are in the valid range.
+
+ghost use Rattle.std.specs.Prelude.{◌≡◌, IfSome};
+ghost use Rattle.std.specs.Option.{is_some};
+ghost use Rattle.cal_days.specs.Day as day;
+ghost use Rattle.cal_days.specs.Day.{IsValidDay};
+
+use cal_days::RataDie;
+use cal_days::ranges::{FIRST_VALID_DAY, LAST_VALID_DAY};
+
+/// A day number from -365242499 to 365242134.
+#[derive(Clone, Copy, Debug)]
+pub(crate) struct ValidDay {
+    day: i64,
+    ghost valid: { IsValidDay day },
+}
+
+impl ValidDay {
+    /// The day of a number, where it is in the range.
+    pub(crate) fn of(number: i64) -> Option<ValidDay>
+        ensures some { is_some result ≡ day.is_valid_day number }
+        ensures day { IfSome result (λ d. d.day ≡ number) }
+    {
+        if FIRST_VALID_DAY <= number && number <= LAST_VALID_DAY {
+            Some(ValidDay { day: number })
+        } else {
+            None
+        }
+    }
+
+    /// The day.
+    pub(crate) fn rata_die(self) -> RataDie
+        ensures is { result ≡ self.day }
+        ensures valid { IsValidDay result }
+    {
+        RataDie::new(self.day)
+    }
+}

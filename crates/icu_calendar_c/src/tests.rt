@@ -1,0 +1,145 @@
+//! Values that come from outside, and codes of refusals.
+
+use crate::calls::{
+    icu_calendar_add, icu_calendar_date_of_day, icu_calendar_date_of_fields,
+    icu_calendar_era_of_day, icu_calendar_until,
+};
+use crate::dates::CalendarDate;
+use crate::durations::CalendarDuration;
+use crate::fields::CalendarFields;
+use crate::program::calspan;
+use crate::years::{icu_calendar_easter, icu_calendar_week_of_year};
+
+const HEBREW: u8 = 7;
+const ISO: u8 = 13;
+
+// What stands in a date before a call.
+fn blank() -> CalendarDate {
+    CalendarDate {
+        day_number: 0,
+        extended_year: 0,
+        era_year: 0,
+        cyclic_year: 0,
+        ordinal_month: 0,
+        month_number: 0,
+        month_is_leap: 0,
+        day: 0,
+    }
+}
+
+// The fields of a leap month Adar I.
+fn adar_i(year: i32, day: u8) -> CalendarFields {
+    CalendarFields {
+        era_year: 0,
+        extended_year: year,
+        has_era_year: 0,
+        has_extended_year: 1,
+        has_month: 1,
+        month_number: 5,
+        month_is_leap: 1,
+        has_ordinal_month: 0,
+        ordinal_month: 0,
+        has_day: 1,
+        day,
+    }
+}
+
+#[test]
+fn days_have_dates(rt: HostRuntime) {
+    let mut date = blank();
+    assert_eq!(rt; icu_calendar_date_of_day(HEBREW, 0, 738939, &mut date), 0);
+    assert!(rt; date.extended_year == 5784 && date.month_number == 5 && date.month_is_leap == 1);
+    assert!(rt; date.ordinal_month == 6 && date.day == 14 && date.day_number == 738939);
+    assert_eq!(rt; icu_calendar_date_of_day(1, 1, 738926, &mut date), 0);
+    assert!(rt; date.extended_year == 2024 && date.cyclic_year == 41 && date.day == 1);
+    assert_eq!(rt; icu_calendar_date_of_day(18, 0, 1, &mut date), 1);
+    assert_eq!(rt; icu_calendar_date_of_day(ISO, 2, 1, &mut date), 2);
+    assert_eq!(rt; icu_calendar_date_of_day(ISO, 0, 365242135, &mut date), 4);
+    assert_eq!(rt; date.day_number, 738926);
+}
+
+#[test]
+fn fields_name_dates(rt: HostRuntime) {
+    let mut date = blank();
+    let mut max = 7;
+    let fields = adar_i(5784, 14);
+    assert_eq!(rt;
+        icu_calendar_date_of_fields(HEBREW, 0, &fields, b"", b"", 0, 0, &mut date, &mut max),
+        0
+    );
+    assert!(rt; date.day_number == 738939 && max == 0);
+    assert_eq!(rt;
+        icu_calendar_date_of_fields(HEBREW, 0, &fields, b"", b"M05L", 0, 0, &mut date, &mut max),
+        11
+    );
+    let fields = adar_i(5785, 14);
+    assert_eq!(rt;
+        icu_calendar_date_of_fields(HEBREW, 0, &fields, b"", b"", 2, 1, &mut date, &mut max),
+        17
+    );
+    let fields = adar_i(5784, 31);
+    assert_eq!(rt;
+        icu_calendar_date_of_fields(HEBREW, 0, &fields, b"", b"", 2, 1, &mut date, &mut max),
+        20
+    );
+    assert!(rt; max == 30 && date.day_number == 738939);
+    assert_eq!(rt;
+        icu_calendar_date_of_fields(HEBREW, 0, &fields, b"", b"", 3, 0, &mut date, &mut max),
+        3
+    );
+    assert_eq!(rt; max, 0);
+}
+
+#[test]
+fn durations_lead_on_and_back(rt: HostRuntime) {
+    let mut date = blank();
+    let mut max = 0;
+    let mut duration = CalendarDuration {
+        years: 0,
+        months: 1,
+        weeks: 0,
+        days: 0,
+        is_negative: 0,
+    };
+    assert_eq!(rt; icu_calendar_add(ISO, 0, 738916, &duration, 1, &mut date, &mut max), 0);
+    assert!(rt; date.month_number == 2 && date.day == 29);
+    assert_eq!(rt; icu_calendar_add(ISO, 0, 738916, &duration, 2, &mut date, &mut max), 20);
+    assert_eq!(rt; max, 29);
+    assert_eq!(rt; icu_calendar_until(HEBREW, 0, 739162, 738779, 1, &mut duration), 0);
+    assert!(rt; duration.is_negative == 1 && duration.years == 1 && duration.days == 0);
+    assert_eq!(rt; icu_calendar_until(HEBREW, 0, 1, 2, 5, &mut duration), 3);
+}
+
+#[test]
+fn eras_weeks_and_easter(rt: HostRuntime) {
+    let mut room = [b'.'; 16];
+    let mut written = 7;
+    assert_eq!(rt; icu_calendar_era_of_day(14, 0, 738886, &mut room, &mut written), 0);
+    assert!(rt; written == 5 && room[4] == b'a' && room[5] == b'.');
+    assert_eq!(rt; icu_calendar_era_of_day(14, 0, 738886, &mut room[..4], &mut written), 8);
+    assert_eq!(rt; icu_calendar_era_of_day(1, 0, 738886, &mut room, &mut written), 0);
+    assert_eq!(rt; written, 0);
+    let mut year = 0;
+    let mut week = 0;
+    assert_eq!(rt; icu_calendar_week_of_year(738885, &mut year, &mut week), 0);
+    assert!(rt; year == 2023 && week == 52);
+    let mut day = 0;
+    assert_eq!(rt; icu_calendar_easter(0, 2024, &mut day), 0);
+    assert_eq!(rt; day, 738976);
+    assert_eq!(rt; icu_calendar_easter(2, 2024, &mut day), 3);
+}
+
+#[test]
+fn the_program_answers_where_there_is_room(rt: HostRuntime) {
+    let mut room = [7u8; 64];
+    let mut written = 0;
+    assert_eq!(rt; calspan(rt.alloc(), b"span", b"spam\n", &mut room[..4], &mut written), 8);
+    assert!(rt; written == 18 && room[0] == 7);
+    assert_eq!(rt; calspan(rt.alloc(), b"span", b"spam\n", &mut room, &mut written), 1);
+    assert!(rt; written == 18 && room[0] == b'e' && room[18] == 7);
+    let words = b"anniversary iso iso exact M01 1 738886 738886";
+    assert_eq!(rt; calspan(rt.alloc(), words, b"", &mut room, &mut written), 8);
+    assert_eq!(rt; calspan(rt.alloc(), b"span  ", b"", &mut room, &mut written), 2);
+    assert_eq!(rt; calspan(rt.alloc(), b"\xff", b"", &mut room, &mut written), 2);
+    assert_eq!(rt; written, 0);
+}

@@ -1,0 +1,96 @@
+"""The program calspan, as a call over bytes."""
+
+from __future__ import annotations
+
+from collections.abc import Sequence
+from ctypes import byref, c_size_t, create_string_buffer
+from typing import NamedTuple
+
+from .codes import Calendar
+from .errors import ProgramError, Refused
+from .library import library
+
+DONE, REFUSED, WORDS, NO_MEMORY_FOR_OUTPUT, NO_MEMORY, TABLE_REFUSED, TOO_LONG, NO_ROOM = 0, 1, 2, 4, 5, 6, 7, 8
+LEAST_ROOM = 1 << 12
+
+
+class Outcome(NamedTuple):
+    """How a run of the program ended: its exit status, and what it wrote."""
+
+    status: int
+    output: bytes
+
+
+def run(words: Sequence[str], source: bytes = b"") -> Outcome:
+    """Runs the program on the words of a command line, with these bytes as its standard input.
+
+    MemoryError is raised where there is no memory, and ValueError for a word that is empty or holds a space."""
+    if any(not it or " " in it for it in words):
+        raise ValueError("a word is empty or holds a space")
+    text = " ".join(words).encode()
+    room, written = max(LEAST_ROOM, 4 * len(source)), c_size_t()
+    while True:
+        output = create_string_buffer(room)
+        status = library.calspan(text, len(text), source, len(source), output, room, byref(written))
+        if status in (NO_MEMORY_FOR_OUTPUT, NO_MEMORY):
+            raise MemoryError
+        if status != NO_ROOM:
+            return Outcome(status, output.raw[: written.value])
+        room = written.value
+
+
+def span(lines: bytes, rows: bytes = b"") -> bytes:
+    """The answers to request lines, a line each, over the tables of row lines. `err` is an answer; a row or a table that is refused raises
+    Refused, and an input that is longer than the program reads ProgramError."""
+    status, output = run(["span"], rows + lines)
+    settle(status, output, refusals=(TABLE_REFUSED,))
+    return output
+
+
+def settle(status: int, output: bytes, refusals: tuple[int, ...]) -> None:
+    if status == WORDS:
+        raise ProgramError("the words are none of a command", status, output)
+    if status == TOO_LONG:
+        raise ProgramError("the input is longer than 16777216 bytes", status, output)
+    if status in refusals:
+        raise Refused(output.splitlines()[-1].decode(errors="replace"), status, output)
+
+
+def lines_of(words: Sequence[str], source: bytes) -> list[str]:
+    """The lines that a list writes. Refused is raised with the line that refuses it."""
+    status, output = run(words, source)
+    settle(status, output, refusals=(REFUSED, TABLE_REFUSED))
+    return output.decode().splitlines()
+
+
+def anniversaries(
+    calendar: Calendar, month_code: str, day: int, first: int, last: int, *, shown: Calendar = Calendar.ISO, exact: bool = True, rows: bytes = b""
+) -> list[str]:
+    """The days from the day number `first` to `last` that a month and a day of a calendar name: for each, its date there and in `shown`.
+    Years that lack the month or the day are passed by, or where `exact` is False have the nearest."""
+    names = calendar.program_name, shown.program_name, "exact" if exact else "constrain"
+    return lines_of(["anniversary", *names, month_code, str(day), str(first), str(last)], rows)
+
+
+def recurrences(
+    calendar: Calendar,
+    unit: str,
+    every: int,
+    first: int,
+    last: int,
+    fields: Sequence[str],
+    *,
+    shown: Calendar = Calendar.ISO,
+    skip: bool = True,
+    rows: bytes = b"",
+) -> list[str]:
+    """The occurrences, from the day number `first` to `last`, of every so many `years`, `months`, `weeks` or `days` from the date that fields
+    such as `year=2024` name: for each, its index, its date there and in `shown`. Months or years that lack the day are skipped, or where
+    `skip` is False have the nearest."""
+    names = calendar.program_name, shown.program_name, unit, str(every), "skip" if skip else "constrain"
+    return lines_of(["recur", *names, str(first), str(last), *fields], rows)
+
+
+def holidays(book: bytes, first: int, last: int) -> list[str]:
+    """The holidays of a book from the day number `first` to `last`: for each, its date in the ISO calendar and its name."""
+    return lines_of(["holidays", str(first), str(last)], book)
