@@ -31,13 +31,7 @@ fn hand_over(status: Status, answers: &[u8], output: &mut [u8], written: &mut us
 }
 
 // What the words of a text ask for, over an input in memory.
-fn answer(
-    alloc: Global,
-    text: &str,
-    input: &[u8],
-    output: &mut [u8],
-    written: &mut usize,
-) -> u8
+fn answer(alloc: Global, text: &str, input: &[u8], output: &mut [u8], written: &mut usize) -> u8
     ensures words { result ≢ 5 → (result ≡ 2) ↔ (command_of (words_in text.now) ≡ None) }
     ensures answered { (asked : Asked) → command_of (words_in text.now) ≡ Some asked → length input.now ≤ limit
         → result ≢ 4 → result ≢ 5 → result ≢ 8

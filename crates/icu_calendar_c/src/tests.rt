@@ -11,6 +11,7 @@ use crate::program::calspan;
 use crate::years::{icu_calendar_easter, icu_calendar_week_of_year};
 
 const HEBREW: u8 = 7;
+
 const ISO: u8 = 13;
 
 // What stands in a date before a call.
@@ -101,11 +102,20 @@ fn durations_lead_on_and_back(rt: HostRuntime) {
         days: 0,
         is_negative: 0,
     };
-    assert_eq!(rt; icu_calendar_add(ISO, 0, 738916, &duration, 1, &mut date, &mut max), 0);
+    assert_eq!(rt;
+        icu_calendar_add(ISO, 0, 738916, &duration, 1, &mut date, &mut max),
+        0
+    );
     assert!(rt; date.month_number == 2 && date.day == 29);
-    assert_eq!(rt; icu_calendar_add(ISO, 0, 738916, &duration, 2, &mut date, &mut max), 20);
+    assert_eq!(rt;
+        icu_calendar_add(ISO, 0, 738916, &duration, 2, &mut date, &mut max),
+        20
+    );
     assert_eq!(rt; max, 29);
-    assert_eq!(rt; icu_calendar_until(HEBREW, 0, 739162, 738779, 1, &mut duration), 0);
+    assert_eq!(rt;
+        icu_calendar_until(HEBREW, 0, 739162, 738779, 1, &mut duration),
+        0
+    );
     assert!(rt; duration.is_negative == 1 && duration.years == 1 && duration.days == 0);
     assert_eq!(rt; icu_calendar_until(HEBREW, 0, 1, 2, 5, &mut duration), 3);
 }
@@ -114,10 +124,19 @@ fn durations_lead_on_and_back(rt: HostRuntime) {
 fn eras_weeks_and_easter(rt: HostRuntime) {
     let mut room = [b'.'; 16];
     let mut written = 7;
-    assert_eq!(rt; icu_calendar_era_of_day(14, 0, 738886, &mut room, &mut written), 0);
+    assert_eq!(rt;
+        icu_calendar_era_of_day(14, 0, 738886, &mut room, &mut written),
+        0
+    );
     assert!(rt; written == 5 && room[4] == b'a' && room[5] == b'.');
-    assert_eq!(rt; icu_calendar_era_of_day(14, 0, 738886, &mut room[..4], &mut written), 8);
-    assert_eq!(rt; icu_calendar_era_of_day(1, 0, 738886, &mut room, &mut written), 0);
+    assert_eq!(rt;
+        icu_calendar_era_of_day(14, 0, 738886, &mut room[..4], &mut written),
+        8
+    );
+    assert_eq!(rt;
+        icu_calendar_era_of_day(1, 0, 738886, &mut room, &mut written),
+        0
+    );
     assert_eq!(rt; written, 0);
     let mut year = 0;
     let mut week = 0;
@@ -133,13 +152,25 @@ fn eras_weeks_and_easter(rt: HostRuntime) {
 fn the_program_answers_where_there_is_room(rt: HostRuntime) {
     let mut room = [7u8; 64];
     let mut written = 0;
-    assert_eq!(rt; calspan(rt.alloc(), b"span", b"spam\n", &mut room[..4], &mut written), 8);
+    assert_eq!(rt;
+        calspan(rt.alloc(), b"span", b"spam\n", &mut room[..4], &mut written),
+        8
+    );
     assert!(rt; written == 18 && room[0] == 7);
-    assert_eq!(rt; calspan(rt.alloc(), b"span", b"spam\n", &mut room, &mut written), 1);
+    assert_eq!(rt;
+        calspan(rt.alloc(), b"span", b"spam\n", &mut room, &mut written),
+        1
+    );
     assert!(rt; written == 18 && room[0] == b'e' && room[18] == 7);
     let words = b"anniversary iso iso exact M01 1 738886 738886";
     assert_eq!(rt; calspan(rt.alloc(), words, b"", &mut room, &mut written), 8);
-    assert_eq!(rt; calspan(rt.alloc(), b"span  ", b"", &mut room, &mut written), 2);
-    assert_eq!(rt; calspan(rt.alloc(), b"\xff", b"", &mut room, &mut written), 2);
+    assert_eq!(rt;
+        calspan(rt.alloc(), b"span  ", b"", &mut room, &mut written),
+        2
+    );
+    assert_eq!(rt;
+        calspan(rt.alloc(), b"\xff", b"", &mut room, &mut written),
+        2
+    );
     assert_eq!(rt; written, 0);
 }

@@ -48,8 +48,8 @@ pub returns-clause-room : goal.returns-clause-room
 returns-clause-room c asked e small full =
     let (longer, stands) = c.hand_over.ensures.longer full in
     let has_text : c.run-status.result ≡ NoMemory → ⊥ = λ lacking.
-        let nothing = no_text _ _ _ _ _ _ _ _ c.new-kept.ensures.bytes (quiet c) (ran c) c.args.input.now _ c.new-source.ensures c.bytes.ensures asked (asked_of c ∙ e) lacking in
-        omega (arith, longer, ap length nothing) in
+    let nothing = no_text _ _ _ _ _ _ _ _ c.new-kept.ensures.bytes (quiet c) (ran c) c.args.input.now _ c.new-source.ensures c.bytes.ensures asked (asked_of c ∙ e) lacking in
+    omega (arith, longer, ap length nothing) in
     record {
       text = c.bytes.result.now;
       status = c.run-status.result;
@@ -96,5 +96,5 @@ returns-clause-untouched c code =
     let (ends, stands) = c.hand_over.ensures.fits (fits_at _ code) in
     let same : c.run-status.result ≡ Words → kept_bytes c.run-status.new.sink ≡ kept_bytes c.new-kept.result = λ e. ap kept_bytes (c.run-status.ensures.untouched e).1 in
     let nothing = untouched_text _ _ _ _ _ _ _ _ c.new-kept.ensures.bytes (quiet c) (ran c) c.args.input.now _ c.new-source.ensures c.bytes.ensures
-        (command_of (map string_bytes c.deref.result.now)) refl same (of_status _ _ ends code) in
+    (command_of (map string_bytes c.deref.result.now)) refl same (of_status _ _ ends code) in
     untouched _ _ _ _ nothing c.hand_over.ensures.count stands
