@@ -62,7 +62,7 @@ class Shorthands(unittest.TestCase):
         self.assertEqual([line.split("@")[-1] for line in lines], ["738542", "738926", "739280"])
 
     def test_recurrences(self):
-        lines = recurrences(Calendar.ISO, "months", 1, 738886, 738975, ["year=2024", "month=M01", "day=31"])
+        lines = recurrences(Calendar.ISO, "months", 1, 738886, 738976, ["year=2024", "month=M01", "day=31"])
         self.assertEqual(len(lines), 2)
 
     def test_holidays(self):
