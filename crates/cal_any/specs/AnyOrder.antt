@@ -10,7 +10,7 @@ use Rattle.cal_hebrew.specs.HebrewSystem.{hebrew_date, has_hebrew_length}
 use Rattle.cal_east_asian.specs.EastAsianSystem as east_asian
 use Rattle.cal_east_asian.specs.PackedYears as packed_east_asian
 use Rattle.cal_east_asian.specs.declared.east_asian_traditional_year.EastAsianTraditionalYear.{EastAsianTraditionalYear}
-use Rattle.cal_east_asian.specs.ComputedLaws.{computed_year}
+use Rattle.cal_east_asian.specs.laws.ComputedLaws.{computed_year}
 use Rattle.cal_east_asian.specs.declared.sides.Side.TheVariants.{China}
 use Rattle.cal_hijri.specs.HijriSystem as hijri
 use Rattle.cal_hijri.specs.PackedYears as packed_hijri

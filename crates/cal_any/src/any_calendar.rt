@@ -2,7 +2,7 @@
 
 ghost use Rattle.std.specs.Prelude.{◌≡◌};
 ghost use Rattle.cal_any.specs.AnyOrder.{any_eq, any_cmp};
-ghost use Rattle.cal_any.specs.AnyOrderLaws.{any_alike, any_equal, any_partial_order};
+ghost use Rattle.cal_any.specs.laws.AnyOrderLaws.{any_alike, any_equal, any_partial_order};
 ghost use Rattle.cal_any.specs.AnySystem.{any_system, any_date, any_belongs, any_compatible};
 ghost use Rattle.cal_any.specs.AnySystem.{any_is_cheap, any_algorithm, any_name};
 
@@ -301,9 +301,9 @@ impl<'t> PartialOrd for AnyDateInner<'t> {
 impl<'t> UnstableSealed for AnyCalendar<'t> {}
 
 impl<'t> Calendar for AnyCalendar<'t> {
-    ghost use Rattle.cal_any.specs.AnyLaws.{any_lawful, any_dated, any_ranged, any_shifted, any_covered, any_named, any_equal_days, any_ordered_days};
-    ghost use Rattle.cal_any.specs.AnyLaws.{any_compatible_itself, any_compatible_back, any_compatible_on};
-    ghost use Rattle.cal_any.specs.AnyLaws.{any_shared, any_shared_day};
+    ghost use Rattle.cal_any.specs.laws.AnyLaws.{any_lawful, any_dated, any_ranged, any_shifted, any_covered, any_named, any_equal_days, any_ordered_days};
+    ghost use Rattle.cal_any.specs.laws.AnyLaws.{any_compatible_itself, any_compatible_back, any_compatible_on};
+    ghost use Rattle.cal_any.specs.laws.AnyLaws.{any_shared, any_shared_day};
 
     type DateInner = AnyDateInner<'t>;
 

@@ -4,10 +4,10 @@ use Rattle.cal_days.specs.Gregorian.{gregorian_leap, gregorian_start, gregorian_
 use Rattle.cal_model.specs.CalendarList.{date, month_length, year_length, start_of_year, day_number, IsDate, IsOn}
 use Rattle.cal_model.proofs.RenumberedLemmas.{start_of_year-renumbered, day_number-renumbered, renumbered-date, on-renumbered}
 use Rattle.cal_base.specs.GregorianList.{gregorian_list, gregorian_month_length}
-use Rattle.cal_base.specs.GregorianMonths.{leap_is, month_length-gregorian, year_length-gregorian}
-use Rattle.cal_base.specs.GregorianLaws.{start_of_year-gregorian}
+use Rattle.cal_base.specs.laws.GregorianMonths.{leap_is, month_length-gregorian, year_length-gregorian}
+use Rattle.cal_base.specs.laws.GregorianLaws.{start_of_year-gregorian}
 use Rattle.cal_base.specs.OffsetList.{offset_list, extended_year_from}
-use Rattle.cal_base.specs.OffsetListLaws.{number-extended, offset_list-months}
+use Rattle.cal_base.specs.laws.OffsetListLaws.{number-extended, offset_list-months}
 use Rattle.cal_base.specs.declared.iso_year.IsoYear.{IsoYear}
 
 module _ (offset : ℤ) (year : IsoYear) where

@@ -1,15 +1,11 @@
 pub mod GregorianList
 pub mod PlainPlaces
-pub mod GregorianMonths
 pub mod MarchMonths
-pub mod GregorianLaws
 pub mod IsoSystem
 pub mod OwnYears
-pub mod OwnYearLaws
 pub mod NumberedYears
 pub mod Compatibility
 pub mod OffsetList
-pub mod OffsetListLaws
 pub mod IsoEra
 pub mod OffsetSystem
-pub mod OffsetSystemLaws
+pub mod laws

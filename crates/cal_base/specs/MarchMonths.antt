@@ -8,7 +8,7 @@ use Rattle.cal_model.specs.CalendarList.{CalendarList, date, day_number, start_o
 use Rattle.cal_model.proofs.ListLemmas.{start_of_year-next}
 use Rattle.cal_model.proofs.MonthCases.{by_month}
 use Rattle.cal_base.specs.GregorianList.{gregorian_days_before, gregorian_month_length, march_month, march_days_before, march_month_most, HasGregorianMonths}
-use Rattle.cal_base.specs.GregorianMonths.{days_before-gregorian, month_length-gregorian, year_length-gregorian, gregorian-plain}
+use Rattle.cal_base.specs.laws.GregorianMonths.{days_before-gregorian, month_length-gregorian, year_length-gregorian, gregorian-plain}
 
 -- what holds of each month from 3 to 14
 by_march : (P : ℕ → Type 0) → P 3 → P 4 → P 5 → P 6 → P 7 → P 8 → P 9 → P 10 → P 11 → P 12 → P 13 → P 14 → (m : ℕ) → 3 ≤ m → m ≤ 14 → P m

@@ -29,9 +29,9 @@ impl<Y: GregorianYears> YearShapes for AbstractGregorian<Y> {
     ghost use Rattle.std.specs.Prelude.{refl};
     ghost use Rattle.cal_model.proofs.RenumberedBoundLemmas.{near-renumbered, ranged-renumbered, apart-renumbered, covered-renumbered};
     ghost use Rattle.cal_base.specs.GregorianList.{gregorian_list};
-    ghost use Rattle.cal_base.specs.GregorianLaws.{gregorian_list-bounded};
+    ghost use Rattle.cal_base.specs.laws.GregorianLaws.{gregorian_list-bounded};
     ghost use Rattle.cal_base.specs.OffsetList.{offset_years};
-    ghost use Rattle.cal_base.specs.OffsetListLaws.{extended_year-iso, number-extended, offset_list-lawful};
+    ghost use Rattle.cal_base.specs.laws.OffsetListLaws.{extended_year-iso, number-extended, offset_list-lawful};
 
     type YearInfo = IsoYear;
 
@@ -136,7 +136,7 @@ impl<Y: GregorianYears> DateFieldsResolver for AbstractGregorian<Y> {
     ghost use Rattle.cal_model.specs.PlainMonths.{is_plain_month};
     ghost use Rattle.cal_model.proofs.YearNameLemmas.{reference_of_known-stands, reference_of_known-tested};
     ghost use Rattle.cal_base.specs.OffsetSystem.{offset_names};
-    ghost use Rattle.cal_base.specs.OffsetListLaws.{offset_list-plain};
+    ghost use Rattle.cal_base.specs.laws.OffsetListLaws.{offset_list-plain};
 
     ghost names = { λ s. offset_names (Y.offset s.0) (Y.reads s.0) };
 
@@ -178,8 +178,8 @@ impl<Y: GregorianYears> Calendar for AbstractGregorian<Y> {
     ghost use Rattle.std.proofs.Common.{ap};
     ghost use Rattle.cal_base.specs.OffsetSystem.{offset_system, offset_date, packed_belongs};
     ghost use Rattle.cal_base.specs.Compatibility.{never_refused};
-    ghost use Rattle.cal_base.specs.OffsetListLaws.{offset_list-lawful, offset_list-ranged, offset_list-shifted, offset_list-covered};
-    ghost use Rattle.cal_base.specs.OffsetSystemLaws.{packed-dated, packed-equal, packed-ordered, packed-shared};
+    ghost use Rattle.cal_base.specs.laws.OffsetListLaws.{offset_list-lawful, offset_list-ranged, offset_list-shifted, offset_list-covered};
+    ghost use Rattle.cal_base.specs.laws.OffsetSystemLaws.{packed-dated, packed-equal, packed-ordered, packed-shared};
 
     type DateInner = ArithmeticDate<AbstractGregorian<Y>>;
 

@@ -51,7 +51,7 @@ impl<C: NamedYears> Calendar for Arithmetic<C> {
     ghost use Rattle.std.proofs.Common.{ap, sym, ◌∙◌};
     ghost use Rattle.cal_arith.specs.Dates.{date_of as date_in};
     ghost use Rattle.cal_base.specs.OwnYears.{own_system};
-    ghost use Rattle.cal_base.specs.OwnYearLaws.{own_dated, own_year, own_shared, shared_day, days_equal, days_ordered};
+    ghost use Rattle.cal_base.specs.laws.OwnYearLaws.{own_dated, own_year, own_shared, shared_day, days_equal, days_ordered};
 
     type DateInner = ArithmeticDate<C>;
 

@@ -43,7 +43,7 @@ impl GregorianYears for IsoYears {
     ghost use Rattle.cal_model.specs.Eras.{only_era_reads};
     ghost use Rattle.cal_model.proofs.EraLemmas.{only_era_reads-in_range, only_era_reads-covered};
     ghost use Rattle.cal_base.specs.IsoEra.{iso_era_year};
-    ghost use Rattle.cal_base.specs.OffsetListLaws.{true-offset};
+    ghost use Rattle.cal_base.specs.laws.OffsetListLaws.{true-offset};
 
     ghost offset = { λ _. pos 0 };
 
@@ -97,8 +97,8 @@ impl Calendar for Iso {
     ghost use Rattle.std.proofs.Common.{ap};
     ghost use Rattle.cal_base.specs.IsoSystem.{iso_system, iso_date, iso_belongs};
     ghost use Rattle.cal_base.specs.Compatibility.{never_refused};
-    ghost use Rattle.cal_base.specs.OffsetListLaws.{offset_list-lawful, offset_list-ranged, offset_list-shifted, offset_list-covered, true-offset};
-    ghost use Rattle.cal_base.specs.OffsetSystemLaws.{packed-dated, packed-equal, packed-ordered};
+    ghost use Rattle.cal_base.specs.laws.OffsetListLaws.{offset_list-lawful, offset_list-ranged, offset_list-shifted, offset_list-covered, true-offset};
+    ghost use Rattle.cal_base.specs.laws.OffsetSystemLaws.{packed-dated, packed-equal, packed-ordered};
 
     type DateInner = IsoDateInner;
 

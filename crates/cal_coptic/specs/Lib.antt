@@ -1,13 +1,10 @@
 pub mod CopticList
 pub mod CopticEra
 pub mod CopticNames
-pub mod CopticLaws
 pub mod CopticSystem
-pub mod CopticSystemLaws
 pub mod EthiopianList
 pub mod EthiopianEra
 pub mod EthiopianNames
-pub mod EthiopianLaws
 pub mod EthiopianSystem
-pub mod EthiopianSystemLaws
 pub mod StyleOrder
+pub mod laws

@@ -32,7 +32,7 @@ pub struct CopticDateInner(ArithmeticDate<Coptic>);
 impl YearShapes for Coptic {
     ghost use Rattle.std.specs.Prelude.{refl};
     ghost use Rattle.cal_coptic.specs.CopticList.{coptic_years};
-    ghost use Rattle.cal_coptic.specs.CopticLaws.{coptic_list-bounded, coptic_list-lawful, stored-extended, day_number-near, years-ranged, days-covered};
+    ghost use Rattle.cal_coptic.specs.laws.CopticLaws.{coptic_list-bounded, coptic_list-lawful, stored-extended, day_number-near, years-ranged, days-covered};
 
     type YearInfo = CopticYear;
 
@@ -132,7 +132,7 @@ impl DateFieldsResolver for Coptic {
     ghost use Rattle.cal_model.specs.PlainMonths.{is_plain_month};
     ghost use Rattle.cal_model.proofs.EraLemmas.{only_era_reads-in_range, only_era_reads-covered};
     ghost use Rattle.cal_model.proofs.YearNameLemmas.{reference_of_known-stands, reference_of_known-tested};
-    ghost use Rattle.cal_coptic.specs.CopticLaws.{coptic_list-plain};
+    ghost use Rattle.cal_coptic.specs.laws.CopticLaws.{coptic_list-plain};
     ghost use Rattle.cal_coptic.specs.CopticNames.{coptic_names, coptic_reference_year};
 
     ghost names = { λ _. coptic_names };
@@ -234,8 +234,8 @@ impl Calendar for Coptic {
     ghost use Rattle.cal_base.specs.NumberedYears.{numbered_equal, numbered_ordered};
     ghost use Rattle.cal_coptic.specs.CopticList.{coptic_list};
     ghost use Rattle.cal_coptic.specs.CopticSystem.{coptic_system, coptic_date, coptic_belongs};
-    ghost use Rattle.cal_coptic.specs.CopticLaws.{coptic_list-lawful, years-ranged, days-covered};
-    ghost use Rattle.cal_coptic.specs.CopticSystemLaws.{coptic_belongs-dated};
+    ghost use Rattle.cal_coptic.specs.laws.CopticLaws.{coptic_list-lawful, years-ranged, days-covered};
+    ghost use Rattle.cal_coptic.specs.laws.CopticSystemLaws.{coptic_belongs-dated};
 
     type DateInner = CopticDateInner;
 

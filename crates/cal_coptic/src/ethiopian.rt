@@ -107,10 +107,10 @@ impl YearShapes for Ethiopian {
     ghost use Rattle.std.specs.Prelude.{refl};
     ghost use Rattle.cal_model.proofs.RenumberedBoundLemmas.{near-renumbered, ranged-renumbered, apart-renumbered, covered-renumbered};
     ghost use Rattle.cal_coptic.specs.CopticList.{coptic_list};
-    ghost use Rattle.cal_coptic.specs.CopticLaws.{coptic_list-bounded};
+    ghost use Rattle.cal_coptic.specs.laws.CopticLaws.{coptic_list-bounded};
     ghost use Rattle.cal_model.proofs.CountedDateLemmas.{counted_year, stored_year};
     ghost use Rattle.cal_coptic.specs.EthiopianList.{coptic_offset, ethiopian_years};
-    ghost use Rattle.cal_coptic.specs.EthiopianLaws.{coptic_offset-small, ethiopian_list-lawful};
+    ghost use Rattle.cal_coptic.specs.laws.EthiopianLaws.{coptic_offset-small, ethiopian_list-lawful};
 
     type YearInfo = CopticYear;
 
@@ -230,7 +230,7 @@ impl DateFieldsResolver for Ethiopian {
     ghost use Rattle.cal_coptic.specs.CopticNames.{coptic_reference_year};
     ghost use Rattle.cal_coptic.specs.EthiopianList.{coptic_offset};
     ghost use Rattle.cal_coptic.specs.EthiopianNames.{ethiopian_names};
-    ghost use Rattle.cal_coptic.specs.EthiopianLaws.{ethiopian_list-plain, ethiopian_reads-covered, ethiopian_reads-in_range};
+    ghost use Rattle.cal_coptic.specs.laws.EthiopianLaws.{ethiopian_list-plain, ethiopian_reads-covered, ethiopian_reads-in_range};
 
     ghost names = { λ s. ethiopian_names s.era_style };
 
@@ -306,7 +306,7 @@ impl NamedYears for Ethiopian {
     ghost use Rattle.cal_days.specs.Coptic.{coptic_leap};
     ghost use Rattle.cal_coptic.specs.EthiopianEra.{ethiopian_era_year};
     ghost use Rattle.cal_coptic.specs.EthiopianList.{coptic_offset, is_same_style};
-    ghost use Rattle.cal_coptic.specs.EthiopianLaws.{ethiopian_year-named, is_year-of_both, style_years-shared, styles_alike};
+    ghost use Rattle.cal_coptic.specs.laws.EthiopianLaws.{ethiopian_year-named, is_year-of_both, style_years-shared, styles_alike};
 
     type Year = EraYear;
 
@@ -361,12 +361,12 @@ impl Calendar for Ethiopian {
     ghost use Rattle.std.specs.Prelude.{false, true, refl, Some};
     ghost use Rattle.cal_base.specs.Compatibility.{never_refused};
     ghost use Rattle.cal_coptic.specs.EthiopianList.{coptic_offset};
-    ghost use Rattle.cal_coptic.specs.EthiopianLaws.{ethiopian_list-lawful, ethiopian_year-named, coptic_offset-small};
+    ghost use Rattle.cal_coptic.specs.laws.EthiopianLaws.{ethiopian_list-lawful, ethiopian_year-named, coptic_offset-small};
     ghost use Rattle.cal_coptic.specs.EthiopianSystem.{ethiopian_algorithm, ethiopian_belongs, ethiopian_date, ethiopian_name, ethiopian_system};
-    ghost use Rattle.cal_coptic.specs.EthiopianSystemLaws.{ethiopian_belongs-dated, ethiopian_belongs-shared, ethiopian_dates-equal, ethiopian_dates-ordered, ethiopian_day-shared};
+    ghost use Rattle.cal_coptic.specs.laws.EthiopianSystemLaws.{ethiopian_belongs-dated, ethiopian_belongs-shared, ethiopian_dates-equal, ethiopian_dates-ordered, ethiopian_day-shared};
     ghost use Rattle.cal_model.proofs.RenumberedBoundLemmas.{ranged-renumbered, covered-renumbered};
     ghost use Rattle.cal_coptic.specs.CopticList.{coptic_list};
-    ghost use Rattle.cal_coptic.specs.CopticLaws.{coptic_list-bounded};
+    ghost use Rattle.cal_coptic.specs.laws.CopticLaws.{coptic_list-bounded};
 
     type DateInner = EthiopianDateInner;
 

@@ -5,7 +5,7 @@ use Rattle.cal_days.specs.Gregorian.{gregorian_start}
 use Rattle.cal_days.proofs.GregorianLemmas.{gregorian_start-bounds, gregorian_start-next, gregorian_year_length-parts}
 use Rattle.cal_days.proofs.Signed.{signed}
 use Rattle.cal_east_asian.specs.EastAsianYears.{AreYears, end_day}
-use Rattle.cal_east_asian.specs.EastAsianStartLaws.{new_year-near}
+use Rattle.cal_east_asian.specs.laws.EastAsianStartLaws.{new_year-near}
 use Rattle.cal_east_asian.specs.declared.east_asian_traditional_year.EastAsianTraditionalYear.{EastAsianTraditionalYear}
 
 -- an ISO year has more days than lie between January 1 and the last day on which a year may start

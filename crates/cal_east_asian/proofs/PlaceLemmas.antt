@@ -7,10 +7,10 @@ use Rattle.cal_days.proofs.DivisionLemmas.{floor_parts}
 use Rattle.cal_days.proofs.Signed.{signed, by_lt, by_bool}
 use Rattle.cal_east_asian.specs.EastAsianYear.{months_of_year}
 use Rattle.cal_east_asian.specs.MeanYears.{day, moon, term, last_moon, solstice_moon, month_start, lacks_term, least, leap_month, first_month, mean_entry, entries_from, mean_months}
-use Rattle.cal_east_asian.specs.MoonLaws.{term-more}
-use Rattle.cal_east_asian.specs.LeapMonthLaws.{nth_moon, nth_moon-next, starts_after, lacks_term-true, lacks_term-false, least-none, least-some, by_leap_month, first_month-is}
-use Rattle.cal_east_asian.specs.MeanYearLaws.{month-days}
-use Rattle.cal_east_asian.specs.MeanMonthLaws.{bits, leap_place, place-months}
+use Rattle.cal_east_asian.specs.laws.MoonLaws.{term-more}
+use Rattle.cal_east_asian.specs.laws.LeapMonthLaws.{nth_moon, nth_moon-next, starts_after, lacks_term-true, lacks_term-false, least-none, least-some, by_leap_month, first_month-is}
+use Rattle.cal_east_asian.specs.laws.MeanYearLaws.{month-days}
+use Rattle.cal_east_asian.specs.laws.MeanMonthLaws.{bits, leap_place, place-months}
 use Rattle.cal_east_asian.specs.MeanPlaces.{ends_by_term, place_of, place_from, month_bit, month_bits}
 use Rattle.cal_east_asian.proofs.MoonLemmas.{least-here, least-next, leap_month-begin}
 

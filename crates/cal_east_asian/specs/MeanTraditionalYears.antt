@@ -5,9 +5,9 @@ use Rattle.std.proofs.lemmas.Bool.Decides.{nat_tests}
 use Rattle.cal_days.proofs.Signed.{signed, by_bool}
 use Rattle.cal_model.specs.CalendarList.{days_of}
 use Rattle.cal_east_asian.specs.MeanYears.{IsOffset, leap_month, first_month, end_month, mean_months, new_year, month_total}
-use Rattle.cal_east_asian.specs.MeanYearLaws.{entries-count, years-join, three-years}
-use Rattle.cal_east_asian.specs.MeanStartLaws.{new_year-near}
-use Rattle.cal_east_asian.specs.MeanMonthLaws.{bits, leap_place, place-months, mean_months-parts}
+use Rattle.cal_east_asian.specs.laws.MeanYearLaws.{entries-count, years-join, three-years}
+use Rattle.cal_east_asian.specs.laws.MeanStartLaws.{new_year-near}
+use Rattle.cal_east_asian.specs.laws.MeanMonthLaws.{bits, leap_place, place-months, mean_months-parts}
 use Rattle.cal_east_asian.specs.EastAsianYear.{IsNewYear, months_of_year}
 use Rattle.cal_east_asian.specs.EastAsianMonths.{year_entries}
 use Rattle.cal_east_asian.specs.EastAsianYears.{YearParts, end_of, has_leap, leap_in_three, AreYears, AreValid, year_from, years-from}

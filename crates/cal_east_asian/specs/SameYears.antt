@@ -7,7 +7,7 @@ use Rattle.cal_days.proofs.Signed.{signed}
 use Rattle.cal_east_asian.specs.EastAsianYear.{IsEastAsianYear, months_of_year}
 use Rattle.cal_east_asian.specs.EastAsianPlaces.{month_days}
 use Rattle.cal_east_asian.specs.MonthStarts.{HaveLengthsOf}
-use Rattle.cal_east_asian.specs.MonthDayLaws.{bits-once}
+use Rattle.cal_east_asian.specs.laws.MonthDayLaws.{bits-once}
 use Rattle.cal_east_asian.specs.declared.east_asian_traditional_year.EastAsianTraditionalYear.{EastAsianTraditionalYear}
 
 -- the same number, first day, month lengths and leap month

@@ -2,7 +2,7 @@
 use Rattle.std.specs.Prelude.{◌≡◌, ℤ, ◌≤ℤ◌, ◌<ℤ◌}
 use Rattle.cal_model.specs.CalendarList.{CalendarList}
 use Rattle.cal_east_asian.specs.EastAsianList.{east_asian_list}
-use Rattle.cal_east_asian.specs.ComputedLaws.{computed_year}
+use Rattle.cal_east_asian.specs.laws.ComputedLaws.{computed_year}
 use Rattle.cal_east_asian.specs.TableYears.{IsRow}
 use Rattle.cal_east_asian.specs.TableRules.{table_rows, table_year}
 use Rattle.cal_east_asian.specs.declared.east_asian_table.EastAsianTable.{EastAsianTable}

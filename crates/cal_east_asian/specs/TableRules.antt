@@ -15,11 +15,11 @@ use Rattle.cal_east_asian.specs.EastAsianYears.{AreYears}
 use Rattle.cal_east_asian.specs.EastAsianPlaces.{is_east_asian_month}
 use Rattle.cal_east_asian.specs.EastAsianReferences.{ReferenceRow, both, short, third_month_30, plain_row, leap_row, month_row, year_for_day, side_reference}
 use Rattle.cal_east_asian.specs.SameYears.{same_year}
-use Rattle.cal_east_asian.specs.SameYearLaws.{same_year-same, same_year-own}
-use Rattle.cal_east_asian.specs.ComputedLaws.{computed_year, computed-years}
+use Rattle.cal_east_asian.specs.laws.SameYearLaws.{same_year-same, same_year-own}
+use Rattle.cal_east_asian.specs.laws.ComputedLaws.{computed_year, computed-years}
 use Rattle.cal_east_asian.specs.TableYears.{number_of, chosen_year}
 use Rattle.cal_east_asian.specs.TableAccepted.{start_of}
-use Rattle.cal_east_asian.specs.TableYearLaws.{chosen-years}
+use Rattle.cal_east_asian.specs.laws.TableYearLaws.{chosen-years}
 use Rattle.cal_east_asian.specs.declared.east_asian_traditional_year.EastAsianTraditionalYear.{EastAsianTraditionalYear}
 use Rattle.cal_east_asian.specs.declared.east_asian_table.EastAsianTable.{EastAsianTable}
 use Rattle.cal_east_asian.specs.declared.sides.Side.{Side}

@@ -2,7 +2,7 @@
 
 ghost use Rattle.std.specs.Prelude.{◌≡◌, slice_get};
 ghost use Rattle.cal_days.specs.Day.{IsRuleYear};
-ghost use Rattle.cal_east_asian.specs.ComputedLaws as computed;
+ghost use Rattle.cal_east_asian.specs.laws.ComputedLaws as computed;
 ghost use Rattle.cal_east_asian.specs.EastAsianRows.{years_of};
 ghost use Rattle.cal_east_asian.specs.TableYears as table;
 

@@ -3,7 +3,7 @@
 ghost use Rattle.std.specs.Prelude.{◌≡◌, pos, neg_ℤ, ◌≤ℤ◌, ◌<ℤ◌};
 ghost use Rattle.cal_days.specs.Day.{IsBetween, IsRuleYear, IsValidDay};
 ghost use Rattle.cal_days.specs.Sums.{span};
-ghost use Rattle.cal_east_asian.specs.ComputedLaws as computed;
+ghost use Rattle.cal_east_asian.specs.laws.ComputedLaws as computed;
 ghost use Rattle.cal_east_asian.specs.ComputedYears as years;
 ghost use Rattle.cal_east_asian.specs.ComputedYears.{beijing_offset, computed_month_count, computed_parts};
 ghost use Rattle.cal_east_asian.specs.EastAsianYears.{end_day, parts_of};

@@ -2,7 +2,7 @@
 
 ghost use Rattle.std.specs.Prelude.{◌≡◌, ◌↔◌, [], IsOk, MatchResult};
 ghost use Rattle.cal_days.specs.Day.{IsRuleYear};
-ghost use Rattle.cal_east_asian.specs.ComputedLaws.{computed_year};
+ghost use Rattle.cal_east_asian.specs.laws.ComputedLaws.{computed_year};
 ghost use Rattle.cal_east_asian.specs.EastAsianRows.{years_of};
 ghost use Rattle.cal_east_asian.specs.LeapRows.{leap_rows as leap_rows_of};
 ghost use Rattle.cal_east_asian.specs.TableAccepted.{IsAccepted, IsFirstFault};

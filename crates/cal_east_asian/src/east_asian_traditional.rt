@@ -45,8 +45,8 @@ pub struct ChineseDateInner<R: Rules>(ArithmeticDate<EastAsianTraditional<R>>);
 impl<R: Rules> YearShapes for EastAsianTraditional<R> {
     ghost use Rattle.std.specs.Prelude.{refl};
     ghost use Rattle.cal_east_asian.specs.EastAsianList.{east_asian_years};
-    ghost use Rattle.cal_east_asian.specs.EastAsianListLaws.{east_asian_list-lawful};
-    ghost use Rattle.cal_east_asian.specs.EastAsianStartLaws.{stored-extended, day_number-near, years-ranged, months-apart, days-covered};
+    ghost use Rattle.cal_east_asian.specs.laws.EastAsianListLaws.{east_asian_list-lawful};
+    ghost use Rattle.cal_east_asian.specs.laws.EastAsianStartLaws.{stored-extended, day_number-near, years-ranged, months-apart, days-covered};
 
     type YearInfo = EastAsianTraditionalYear;
 
@@ -137,7 +137,7 @@ impl<R: Rules> DateFieldsResolver for EastAsianTraditional<R> {
     ghost use Rattle.cal_model.proofs.YearNameLemmas.{no_era-some};
     ghost use Rattle.cal_days.specs.Day.{IsCoveredYear, IsRuleYear};
     ghost use Rattle.cal_east_asian.specs.EastAsianSystem.{east_asian_names};
-    ghost use Rattle.cal_east_asian.specs.EastAsianNameLaws.{reference-of_kind, reference-of_leap_month};
+    ghost use Rattle.cal_east_asian.specs.laws.EastAsianNameLaws.{reference-of_kind, reference-of_leap_month};
 
     ghost names = { λ s. east_asian_names (R.reference s.0) };
 
@@ -192,8 +192,8 @@ impl<R: Rules> NamedYears for EastAsianTraditional<R> {
     ghost use Rattle.cal_types.specs.declared.year.YearInfo.TheVariants.{Cyclic};
     ghost use Rattle.cal_east_asian.specs.EastAsianSystem.{cyclic_year as year_of_cycle, east_asian_leap, east_asian_leap_status};
     ghost use Rattle.cal_east_asian.specs.SameYears.{same_year};
-    ghost use Rattle.cal_east_asian.specs.SameYearLaws.{same_year-tested};
-    ghost use Rattle.cal_east_asian.specs.EastAsianGivenLaws.{shared-given};
+    ghost use Rattle.cal_east_asian.specs.laws.SameYearLaws.{same_year-tested};
+    ghost use Rattle.cal_east_asian.specs.laws.EastAsianGivenLaws.{shared-given};
 
     type Year = CyclicYear;
 
@@ -253,10 +253,10 @@ impl<R: Rules> Calendar for EastAsianTraditional<R> {
     ghost use Rattle.std.proofs.Common.{sym, ◌∙◌};
     ghost use Rattle.cal_base.specs.NumberedYears.{numbered_equal, numbered_ordered};
     ghost use Rattle.cal_east_asian.specs.EastAsianList.{east_asian_list};
-    ghost use Rattle.cal_east_asian.specs.EastAsianListLaws.{east_asian_list-lawful};
+    ghost use Rattle.cal_east_asian.specs.laws.EastAsianListLaws.{east_asian_list-lawful};
     ghost use Rattle.cal_east_asian.specs.EastAsianSystem.{east_asian_system, packed_date, east_asian_belongs};
-    ghost use Rattle.cal_east_asian.specs.EastAsianGivenLaws.{belongs-valid, belongs-dated, belongs-shared, day-shared};
-    ghost use Rattle.cal_east_asian.specs.EastAsianStartLaws.{years-ranged, days-covered};
+    ghost use Rattle.cal_east_asian.specs.laws.EastAsianGivenLaws.{belongs-valid, belongs-dated, belongs-shared, day-shared};
+    ghost use Rattle.cal_east_asian.specs.laws.EastAsianStartLaws.{years-ranged, days-covered};
 
     type DateInner = ChineseDateInner<R>;
 

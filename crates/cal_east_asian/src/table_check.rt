@@ -2,7 +2,7 @@
 
 ghost use Rattle.std.specs.Prelude.{◌≡◌, ◌↔◌, ◌<◌, ◌+◌, ◌&&◌, ◌||◌, nat_lt, int_le, length, IsTrue, IfSome, IsNone, IsOk, MatchOption, MatchResult, pos};
 ghost use Rattle.cal_days.specs.Day.{IsBetween};
-ghost use Rattle.cal_east_asian.specs.ComputedLaws as computed;
+ghost use Rattle.cal_east_asian.specs.laws.ComputedLaws as computed;
 ghost use Rattle.cal_east_asian.specs.EastAsianYears as years;
 ghost use Rattle.cal_east_asian.specs.EastAsianRows.{years_of};
 ghost use Rattle.cal_east_asian.specs.TableYears as table;

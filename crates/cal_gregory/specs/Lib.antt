@@ -1,14 +1,12 @@
 pub mod CommonEra
-pub mod CommonEraLaws
 pub mod GregorianSystem
 pub mod BuddhistEra
 pub mod BuddhistSystem
 pub mod RocEra
-pub mod RocEraLaws
 pub mod RocSystem
 pub mod JapaneseEraList
 pub mod LastEra
 pub mod JapaneseEras
 pub mod JapaneseErasLeft
-pub mod JapaneseLaws
 pub mod JapaneseSystem
+pub mod laws

@@ -72,8 +72,8 @@ impl GregorianYears for CommonEraYears {
     ghost use Rattle.cal_algorithms.specs.declared.algorithm.CalendarAlgorithm.TheVariants.{Gregory};
     ghost use Rattle.cal_model.specs.Eras.{common_era_reads};
     ghost use Rattle.cal_model.proofs.EraLemmas.{common_era_reads-in_range, common_era_reads-covered};
-    ghost use Rattle.cal_base.specs.OffsetListLaws.{true-offset};
-    ghost use Rattle.cal_gregory.specs.CommonEraLaws.{common_era-named};
+    ghost use Rattle.cal_base.specs.laws.OffsetListLaws.{true-offset};
+    ghost use Rattle.cal_gregory.specs.laws.CommonEraLaws.{common_era-named};
 
     ghost offset = { λ _. pos 0 };
 
@@ -121,10 +121,10 @@ impl Calendar for Gregorian {
     ghost use Rattle.std.proofs.Common.{ap};
     ghost use Rattle.cal_algorithms.specs.declared.algorithm.CalendarAlgorithm.TheVariants.{Gregory};
     ghost use Rattle.cal_base.specs.Compatibility.{never_refused};
-    ghost use Rattle.cal_base.specs.OffsetListLaws.{offset_list-lawful, offset_list-ranged, offset_list-shifted, offset_list-covered, true-offset};
-    ghost use Rattle.cal_base.specs.OffsetSystemLaws.{packed-dated, packed-equal, packed-ordered};
+    ghost use Rattle.cal_base.specs.laws.OffsetListLaws.{offset_list-lawful, offset_list-ranged, offset_list-shifted, offset_list-covered, true-offset};
+    ghost use Rattle.cal_base.specs.laws.OffsetSystemLaws.{packed-dated, packed-equal, packed-ordered};
     ghost use Rattle.cal_gregory.specs.GregorianSystem.{gregorian_system, gregorian_date, gregorian_belongs};
-    ghost use Rattle.cal_gregory.specs.CommonEraLaws.{common_era-named};
+    ghost use Rattle.cal_gregory.specs.laws.CommonEraLaws.{common_era-named};
 
     type DateInner = GregorianDateInner;
 

@@ -88,10 +88,10 @@ fn year_in_era(era: ListedEra, year: i32) -> EraYear
 impl GregorianYears for JapaneseEras {
     ghost use Rattle.std.specs.Prelude.{codes, pos, refl, Some};
     ghost use Rattle.cal_algorithms.specs.declared.algorithm.CalendarAlgorithm.TheVariants as algorithms;
-    ghost use Rattle.cal_base.specs.OffsetListLaws.{true-offset};
+    ghost use Rattle.cal_base.specs.laws.OffsetListLaws.{true-offset};
     ghost use Rattle.cal_gregory.specs.JapaneseEraList.{japanese_era_year, japanese_reads};
     ghost use Rattle.cal_gregory.specs.JapaneseEras.{listed_eras};
-    ghost use Rattle.cal_gregory.specs.JapaneseLaws.{japanese_era-named, japanese_reads-in_range, japanese_reads-covered};
+    ghost use Rattle.cal_gregory.specs.laws.JapaneseLaws.{japanese_era-named, japanese_reads-in_range, japanese_reads-covered};
 
     ghost offset = { λ _. pos 0 };
 
@@ -153,10 +153,10 @@ impl Calendar for Japanese {
     ghost use Rattle.std.proofs.Common.{ap};
     ghost use Rattle.cal_algorithms.specs.declared.algorithm.CalendarAlgorithm.TheVariants as algorithms;
     ghost use Rattle.cal_base.specs.Compatibility.{never_refused};
-    ghost use Rattle.cal_base.specs.OffsetListLaws.{offset_list-lawful, offset_list-ranged, offset_list-shifted, offset_list-covered, true-offset};
-    ghost use Rattle.cal_base.specs.OffsetSystemLaws.{packed-dated, packed-equal, packed-ordered};
+    ghost use Rattle.cal_base.specs.laws.OffsetListLaws.{offset_list-lawful, offset_list-ranged, offset_list-shifted, offset_list-covered, true-offset};
+    ghost use Rattle.cal_base.specs.laws.OffsetSystemLaws.{packed-dated, packed-equal, packed-ordered};
     ghost use Rattle.cal_gregory.specs.JapaneseSystem.{japanese_system, japanese_date, japanese_belongs};
-    ghost use Rattle.cal_gregory.specs.JapaneseLaws.{japanese_era-named};
+    ghost use Rattle.cal_gregory.specs.laws.JapaneseLaws.{japanese_era-named};
 
     type DateInner = JapaneseDateInner;
 

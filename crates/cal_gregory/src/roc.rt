@@ -77,9 +77,9 @@ pub struct MinguoYears;
 impl GregorianYears for MinguoYears {
     ghost use Rattle.std.specs.Prelude.{codes, refl, Some};
     ghost use Rattle.cal_algorithms.specs.declared.algorithm.CalendarAlgorithm.TheVariants as algorithms;
-    ghost use Rattle.cal_base.specs.OffsetListLaws.{true-offset};
+    ghost use Rattle.cal_base.specs.laws.OffsetListLaws.{true-offset};
     ghost use Rattle.cal_gregory.specs.RocEra.{roc_offset, roc_era_year, roc_reads};
-    ghost use Rattle.cal_gregory.specs.RocEraLaws.{roc_era-named, roc_reads-in_range, roc_reads-covered};
+    ghost use Rattle.cal_gregory.specs.laws.RocEraLaws.{roc_era-named, roc_reads-in_range, roc_reads-covered};
 
     ghost offset = { λ _. roc_offset };
 
@@ -127,11 +127,11 @@ impl Calendar for Roc {
     ghost use Rattle.std.proofs.Common.{ap};
     ghost use Rattle.cal_algorithms.specs.declared.algorithm.CalendarAlgorithm.TheVariants as algorithms;
     ghost use Rattle.cal_base.specs.Compatibility.{never_refused};
-    ghost use Rattle.cal_base.specs.OffsetListLaws.{offset_list-lawful, offset_list-ranged, offset_list-shifted, offset_list-covered, true-offset};
-    ghost use Rattle.cal_base.specs.OffsetSystemLaws.{packed-dated, packed-equal, packed-ordered};
+    ghost use Rattle.cal_base.specs.laws.OffsetListLaws.{offset_list-lawful, offset_list-ranged, offset_list-shifted, offset_list-covered, true-offset};
+    ghost use Rattle.cal_base.specs.laws.OffsetSystemLaws.{packed-dated, packed-equal, packed-ordered};
     ghost use Rattle.cal_gregory.specs.RocSystem.{roc_system, roc_date, roc_belongs};
     ghost use Rattle.cal_gregory.specs.RocEra.{roc_offset};
-    ghost use Rattle.cal_gregory.specs.RocEraLaws.{roc_era-named};
+    ghost use Rattle.cal_gregory.specs.laws.RocEraLaws.{roc_era-named};
 
     type DateInner = RocDateInner;
 

@@ -6,7 +6,7 @@ use Rattle.cal_days.proofs.HebrewLemmas.{hebrew_year_length-is}
 use Rattle.cal_model.specs.CalendarList.{HasPlace, IsOn, date, start_of_year}
 use Rattle.cal_arith.specs.Given.{IsGiven}
 use Rattle.cal_hebrew.specs.HebrewList.{hebrew_list, hebrew_years}
-use Rattle.cal_hebrew.specs.HebrewMonths.{days_before-hebrew, hebrew_leap-length, month_count-hebrew, month_length-hebrew}
+use Rattle.cal_hebrew.specs.laws.HebrewMonths.{days_before-hebrew, hebrew_leap-length, month_count-hebrew, month_length-hebrew}
 use Rattle.cal_hebrew.specs.HebrewPlaces.{IsYearLength, days_before_place, is_leap_length, place_count, place_length}
 use Rattle.cal_hebrew.specs.declared.hebrew_year.HebrewYear.{HebrewYear}
 

@@ -12,7 +12,7 @@ use Rattle.cal_model.specs.CalendarList.{spot, place_of, first_of_two}
 use Rattle.cal_model.proofs.MonthCases.{by_month}
 use Rattle.cal_arith.specs.Places.{ordinal_month}
 use Rattle.cal_hebrew.specs.HebrewList.{hebrew_months, hebrew_list, hebrew_stand_in, is_hebrew_month, fifth_leap_month}
-use Rattle.cal_hebrew.specs.HebrewMonths.{month_of, place_in, is_of_kind-hebrew}
+use Rattle.cal_hebrew.specs.laws.HebrewMonths.{month_of, place_in, is_of_kind-hebrew}
 use Rattle.cal_hebrew.specs.HebrewPlaces.{hebrew_place, leap_month_place, plain_month_place}
 
 abbrev spot_in : Bool → ℕ → MonthParts → Overflow → Option ℕ

@@ -62,8 +62,8 @@ fn year_of(extended_year: i32) -> HebrewYear
 
 impl YearShapes for Hebrew {
     ghost use Rattle.std.specs.Prelude.{refl};
-    ghost use Rattle.cal_hebrew.specs.HebrewMonths.{hebrew_list-lawful};
-    ghost use Rattle.cal_hebrew.specs.HebrewLaws.{stored-extended, day_number-near, years-ranged, months-apart, days-covered};
+    ghost use Rattle.cal_hebrew.specs.laws.HebrewMonths.{hebrew_list-lawful};
+    ghost use Rattle.cal_hebrew.specs.laws.HebrewLaws.{stored-extended, day_number-near, years-ranged, months-apart, days-covered};
 
     type YearInfo = HebrewYear;
 
@@ -188,7 +188,7 @@ impl DateFieldsResolver for Hebrew {
     ghost use Rattle.cal_model.proofs.EraLemmas.{only_era_reads-in_range, only_era_reads-covered};
     ghost use Rattle.cal_model.proofs.YearNameLemmas.{reference_of_known-stands, reference_of_known-tested};
     ghost use Rattle.cal_hebrew.specs.HebrewList.{is_hebrew_month};
-    ghost use Rattle.cal_hebrew.specs.HebrewMonths.{is_of_kind-hebrew};
+    ghost use Rattle.cal_hebrew.specs.laws.HebrewMonths.{is_of_kind-hebrew};
     ghost use Rattle.cal_hebrew.specs.HebrewNames.{hebrew_names, hebrew_reference_year};
 
     ghost names = { λ _. hebrew_names };
@@ -244,7 +244,7 @@ impl NamedYears for Hebrew {
     ghost use Rattle.cal_days.specs.Hebrew.{hebrew_leap};
     ghost use Rattle.cal_hebrew.specs.HebrewEra.{hebrew_era_year};
     ghost use Rattle.cal_hebrew.specs.HebrewSystem.{has_hebrew_length, hebrew_leap_status, hebrew_formatted_month};
-    ghost use Rattle.cal_hebrew.specs.HebrewSystemLaws.{has_hebrew_length-tested};
+    ghost use Rattle.cal_hebrew.specs.laws.HebrewSystemLaws.{has_hebrew_length-tested};
 
     type Year = EraYear;
 
@@ -308,9 +308,9 @@ impl Calendar for Hebrew {
     ghost use Rattle.cal_base.specs.NumberedYears.{numbered_equal, numbered_ordered};
     ghost use Rattle.cal_hebrew.specs.HebrewList.{hebrew_list};
     ghost use Rattle.cal_hebrew.specs.HebrewSystem.{hebrew_system, hebrew_date, hebrew_belongs};
-    ghost use Rattle.cal_hebrew.specs.HebrewMonths.{hebrew_list-lawful};
-    ghost use Rattle.cal_hebrew.specs.HebrewSystemLaws.{hebrew_belongs-dated, hebrew_belongs-valid};
-    ghost use Rattle.cal_hebrew.specs.HebrewLaws.{years-ranged, days-covered};
+    ghost use Rattle.cal_hebrew.specs.laws.HebrewMonths.{hebrew_list-lawful};
+    ghost use Rattle.cal_hebrew.specs.laws.HebrewSystemLaws.{hebrew_belongs-dated, hebrew_belongs-valid};
+    ghost use Rattle.cal_hebrew.specs.laws.HebrewLaws.{years-ranged, days-covered};
 
     type DateInner = HebrewDateInner;
 

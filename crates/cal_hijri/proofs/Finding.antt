@@ -4,7 +4,7 @@ use Rattle.cal_days.specs.Day.{IsBetween, IsFieldYear, IsRuleYear}
 use Rattle.cal_days.proofs.Signed.{signed}
 use Rattle.cal_hijri.specs.HijriMonths.{days_of_months-within}
 use Rattle.cal_hijri.specs.HijriList.{Joins, Numbered, hijri_days}
-use Rattle.cal_hijri.specs.HijriBounds.{first-near}
+use Rattle.cal_hijri.specs.laws.HijriBounds.{first-near}
 use Rattle.cal_days.specs.Islamic.{islamic_mean_start}
 use Rattle.cal_days.proofs.IslamicLemmas.{mean_start-bounds}
 use Rattle.cal_hijri.specs.declared.hijri_year.HijriYear.{HijriYear}

@@ -22,7 +22,7 @@ use Rattle.cal_hijri.specs.TabularRules.{known-references, tabular_reference_yea
 use Rattle.cal_hijri.specs.TableFriday.{friday_year, friday-numbered, friday-joins}
 use Rattle.cal_hijri.specs.TableYears.{chosen}
 use Rattle.cal_hijri.specs.TableAccepted.{IsAccepted}
-use Rattle.cal_hijri.specs.TableLaws.{chosen-numbered, chosen-joins}
+use Rattle.cal_hijri.specs.laws.TableLaws.{chosen-numbered, chosen-joins}
 use Rattle.cal_hijri.specs.declared.hijri_year.HijriYear.{HijriYear}
 use Rattle.cal_hijri.specs.declared.tabular_algorithm.TabularAlgorithmEpoch.TheVariants.{Friday}
 

@@ -3,7 +3,7 @@ use Rattle.std.proofs.Common.{◌≡◌, ◌<◌, ◌≤◌, ℕ, Bool, true, fa
 use Rattle.std.specs.Prelude.{int_lt, int_le, nat_eq, MatchOption}
 use Rattle.std.proofs.lemmas.Bool.Decides.{nat_tests}
 use Rattle.std.proofs.lemmas.Int.{by_lt_z, ints}
-use Rattle.cal_base.specs.OffsetListLaws.{offset_list-lawful}
+use Rattle.cal_base.specs.laws.OffsetListLaws.{offset_list-lawful}
 use Rattle.cal_base.proofs.OffsetYears.{start_of_year-offset}
 use Rattle.cal_days.specs.Day.{IsBetween}
 use Rattle.cal_days.specs.Division.{floor_mod}
@@ -13,7 +13,7 @@ use Rattle.cal_days.proofs.DivisionLemmas.{floor_parts}
 use Rattle.cal_days.proofs.GregorianLemmas.{gregorian_start-next, gregorian_year_length-parts}
 use Rattle.cal_days.proofs.JulianLemmas.{julian_start-next, julian_year_length-parts}
 use Rattle.cal_days.proofs.Signed.{by_bool, signed}
-use Rattle.cal_julian.specs.JulianLaws.{julian_list-lawful, start_of_year-julian}
+use Rattle.cal_julian.specs.laws.JulianLaws.{julian_list-lawful, start_of_year-julian}
 use Rattle.cal_model.specs.CalendarList.{IsLawful, start_of_year}
 use Rattle.cal_model.proofs.DateTests.{and-left, and-right, true-and, not_true}
 use Rattle.cal_model.proofs.ListLemmas.{date-in_year, start_of_year-later, start_of_year-next}

@@ -9,7 +9,7 @@ use Rattle.cal_model.specs.CalendarList.{date, day_number, start_of_year, HasPla
 use Rattle.cal_model.proofs.ListLemmas.{days_before-first}
 use Rattle.cal_model.proofs.MonthCases.{by_month, by_thirteen}
 use Rattle.cal_julian.specs.IndianList.{indian_days_before, indian_leap, indian_list, indian_month_length, vaisakha_days_before, vaisakha_month}
-use Rattle.cal_julian.specs.IndianLaws.{days_before-indian, indian_list-plain, month_length-indian, start_of_year-indian}
+use Rattle.cal_julian.specs.laws.IndianLaws.{days_before-indian, indian_list-plain, month_length-indian, start_of_year-indian}
 
 -- the days before a month, in closed form
 pub vaisakha_days_before-closed : (m : ℕ) → 2 ≤ m → m ≤ 13 → 30 * (m - 2) + min (m - 2) 5 ≡ vaisakha_days_before m

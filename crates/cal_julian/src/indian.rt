@@ -240,7 +240,7 @@ fn leap_days(gregorian_year: i32) -> u8
 impl YearShapes for Indian {
     ghost use Rattle.std.specs.Prelude.{refl};
     ghost use Rattle.cal_julian.specs.IndianList.{indian_years};
-    ghost use Rattle.cal_julian.specs.IndianLaws.{indian_list-lawful, stored-extended, day_number-near, years-ranged, months-apart, days-covered};
+    ghost use Rattle.cal_julian.specs.laws.IndianLaws.{indian_list-lawful, stored-extended, day_number-near, years-ranged, months-apart, days-covered};
 
     type YearInfo = IndianYear;
 
@@ -352,7 +352,7 @@ impl DateFieldsResolver for Indian {
     ghost use Rattle.cal_model.specs.PlainMonths.{is_plain_month};
     ghost use Rattle.cal_model.proofs.EraLemmas.{only_era_reads-in_range, only_era_reads-covered};
     ghost use Rattle.cal_model.proofs.YearNameLemmas.{reference_of_known-stands, reference_of_known-tested};
-    ghost use Rattle.cal_julian.specs.IndianLaws.{indian_list-plain};
+    ghost use Rattle.cal_julian.specs.laws.IndianLaws.{indian_list-plain};
     ghost use Rattle.cal_julian.specs.IndianNames.{indian_names, indian_reference_year};
 
     ghost names = { λ _. indian_names };
@@ -456,8 +456,8 @@ impl Calendar for Indian {
     ghost use Rattle.cal_base.specs.NumberedYears.{numbered_equal, numbered_ordered};
     ghost use Rattle.cal_julian.specs.IndianList.{indian_list};
     ghost use Rattle.cal_julian.specs.IndianSystem.{indian_system, indian_date, indian_belongs};
-    ghost use Rattle.cal_julian.specs.IndianLaws.{indian_list-lawful, years-ranged, days-covered};
-    ghost use Rattle.cal_julian.specs.IndianSystemLaws.{indian_belongs-dated};
+    ghost use Rattle.cal_julian.specs.laws.IndianLaws.{indian_list-lawful, years-ranged, days-covered};
+    ghost use Rattle.cal_julian.specs.laws.IndianSystemLaws.{indian_belongs-dated};
 
     type DateInner = IndianDateInner;
 

@@ -149,7 +149,7 @@ fn date_on(rd: RataDie) -> (i32, u8, u8)
 impl YearShapes for Julian {
     ghost use Rattle.std.specs.Prelude.{refl};
     ghost use Rattle.cal_julian.specs.JulianList.{julian_years};
-    ghost use Rattle.cal_julian.specs.JulianLaws.{julian_list-lawful, stored-extended, day_number-near, years-ranged, months-apart, days-covered};
+    ghost use Rattle.cal_julian.specs.laws.JulianLaws.{julian_list-lawful, stored-extended, day_number-near, years-ranged, months-apart, days-covered};
 
     type YearInfo = JulianYear;
 
@@ -256,7 +256,7 @@ impl DateFieldsResolver for Julian {
     ghost use Rattle.cal_model.specs.PlainMonths.{is_plain_month};
     ghost use Rattle.cal_model.proofs.EraLemmas.{common_era_reads-in_range, common_era_reads-covered};
     ghost use Rattle.cal_model.proofs.YearNameLemmas.{reference_of_known-stands, reference_of_known-tested};
-    ghost use Rattle.cal_julian.specs.JulianLaws.{julian_list-plain};
+    ghost use Rattle.cal_julian.specs.laws.JulianLaws.{julian_list-plain};
     ghost use Rattle.cal_julian.specs.JulianNames.{julian_names, julian_reference_year};
 
     ghost names = { λ _. julian_names };
@@ -324,7 +324,7 @@ impl NamedYears for Julian {
     ghost use Rattle.cal_base.specs.Compatibility.{all_alike};
     ghost use Rattle.cal_days.specs.Julian.{julian_leap};
     ghost use Rattle.cal_julian.specs.JulianEra.{julian_era_year};
-    ghost use Rattle.cal_julian.specs.JulianLaws.{julian_year-named};
+    ghost use Rattle.cal_julian.specs.laws.JulianLaws.{julian_year-named};
 
     type Year = EraYear;
 
@@ -378,8 +378,8 @@ impl Calendar for Julian {
     ghost use Rattle.cal_base.specs.NumberedYears.{numbered_equal, numbered_ordered};
     ghost use Rattle.cal_julian.specs.JulianList.{julian_list};
     ghost use Rattle.cal_julian.specs.JulianSystem.{julian_system, julian_date, julian_belongs};
-    ghost use Rattle.cal_julian.specs.JulianLaws.{julian_list-lawful, years-ranged, days-covered};
-    ghost use Rattle.cal_julian.specs.JulianSystemLaws.{julian_belongs-dated, julian_year_info-named};
+    ghost use Rattle.cal_julian.specs.laws.JulianLaws.{julian_list-lawful, years-ranged, days-covered};
+    ghost use Rattle.cal_julian.specs.laws.JulianSystemLaws.{julian_belongs-dated, julian_year_info-named};
 
     type DateInner = JulianDateInner;
 

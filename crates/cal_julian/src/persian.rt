@@ -103,7 +103,7 @@ impl<'t> YearShapes for Persian<'t> {
     ghost use Rattle.std.specs.Prelude.{refl};
     ghost use Rattle.cal_julian.specs.PersianList.{persian_years};
     ghost use Rattle.cal_julian.specs.PersianCorrected.{corrected_years};
-    ghost use Rattle.cal_julian.specs.PersianLaws.{persian_list-lawful, stored-extended, day_number-near, years-ranged, months-apart, days-covered};
+    ghost use Rattle.cal_julian.specs.laws.PersianLaws.{persian_list-lawful, stored-extended, day_number-near, years-ranged, months-apart, days-covered};
 
     type YearInfo = PersianYear;
 
@@ -224,7 +224,7 @@ impl<'t> DateFieldsResolver for Persian<'t> {
     ghost use Rattle.cal_model.proofs.EraLemmas.{only_era_reads-in_range, only_era_reads-covered};
     ghost use Rattle.cal_model.proofs.YearNameLemmas.{reference_of_known-stands, reference_of_known-tested};
     ghost use Rattle.cal_julian.specs.PersianCorrected.{corrected_years};
-    ghost use Rattle.cal_julian.specs.PersianLaws.{persian_list-plain};
+    ghost use Rattle.cal_julian.specs.laws.PersianLaws.{persian_list-plain};
     ghost use Rattle.cal_julian.specs.PersianNames.{persian_names, persian_reference_year};
 
     ghost names = { λ _. persian_names };
@@ -268,7 +268,7 @@ impl<'t> NamedYears for Persian<'t> {
     ghost use Rattle.std.specs.Cmp.Lexicographic.{lists_equiv};
     ghost use Rattle.cal_types.specs.declared.year.YearInfo.TheVariants.{Era};
     ghost use Rattle.cal_julian.specs.PersianCorrected.{are_corrected_alike, corrected_years};
-    ghost use Rattle.cal_julian.specs.PersianLaws.{years-shared};
+    ghost use Rattle.cal_julian.specs.laws.PersianLaws.{years-shared};
     ghost use Rattle.cal_julian.specs.PersianNames.{persian_era_year};
     ghost use Rattle.cal_julian.specs.PersianRule.{is_persian_leap};
 
@@ -335,8 +335,8 @@ impl<'t> Calendar for Persian<'t> {
     ghost use Rattle.cal_julian.specs.PersianCorrected.{are_corrected_alike, corrected_years};
     ghost use Rattle.cal_julian.specs.PersianList.{persian_list};
     ghost use Rattle.cal_julian.specs.PersianSystem.{persian_system, persian_date, persian_belongs};
-    ghost use Rattle.cal_julian.specs.PersianLaws.{persian_list-lawful, years-ranged, days-covered};
-    ghost use Rattle.cal_julian.specs.PersianSystemLaws.{persian_belongs-dated, persian_alike-back, persian_alike-on, persian_belongs-shared, persian_day-shared};
+    ghost use Rattle.cal_julian.specs.laws.PersianLaws.{persian_list-lawful, years-ranged, days-covered};
+    ghost use Rattle.cal_julian.specs.laws.PersianSystemLaws.{persian_belongs-dated, persian_alike-back, persian_alike-on, persian_belongs-shared, persian_day-shared};
 
     type DateInner = PersianDateInner<'t>;
 

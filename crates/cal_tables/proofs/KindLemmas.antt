@@ -1,26 +1,26 @@
 -- The list of each kind of calendar is lawful.
 use Rattle.std.proofs.Common.{[], pos}
 use Rattle.cal_model.specs.CalendarList.{IsLawful}
-use Rattle.cal_base.specs.OffsetListLaws.{offset_list-lawful}
-use Rattle.cal_coptic.specs.CopticLaws.{coptic_list-lawful}
+use Rattle.cal_base.specs.laws.OffsetListLaws.{offset_list-lawful}
+use Rattle.cal_coptic.specs.laws.CopticLaws.{coptic_list-lawful}
 use Rattle.cal_coptic.specs.EthiopianList.{coptic_offset}
-use Rattle.cal_coptic.specs.EthiopianLaws.{ethiopian_list-lawful}
+use Rattle.cal_coptic.specs.laws.EthiopianLaws.{ethiopian_list-lawful}
 use Rattle.cal_coptic.specs.declared.ethiopian.EthiopianEraStyle.TheVariants.{AmeteMihret, AmeteAlem}
-use Rattle.cal_east_asian.specs.ComputedLaws.{computed_year}
-use Rattle.cal_east_asian.specs.EastAsianListLaws.{east_asian_list-lawful}
+use Rattle.cal_east_asian.specs.laws.ComputedLaws.{computed_year}
+use Rattle.cal_east_asian.specs.laws.EastAsianListLaws.{east_asian_list-lawful}
 use Rattle.cal_east_asian.specs.TableYears.{chosen_year}
 use Rattle.cal_east_asian.specs.declared.sides.Side.TheVariants.{China, Korea}
 use Rattle.cal_gregory.specs.BuddhistEra.{buddhist_offset}
 use Rattle.cal_gregory.specs.RocEra.{roc_offset}
-use Rattle.cal_hebrew.specs.HebrewMonths.{hebrew_list-lawful}
-use Rattle.cal_hijri.specs.HijriShapes.{hijri_list-lawful}
+use Rattle.cal_hebrew.specs.laws.HebrewMonths.{hebrew_list-lawful}
+use Rattle.cal_hijri.specs.laws.HijriShapes.{hijri_list-lawful}
 use Rattle.cal_hijri.specs.TableRules.{table_year}
 use Rattle.cal_hijri.specs.TabularRules.{tabular_year}
 use Rattle.cal_hijri.specs.declared.tabular_algorithm.TabularAlgorithmEpoch.TheVariants.{Friday, Thursday}
 use Rattle.cal_hijri.specs.declared.tabular_algorithm.TabularAlgorithmLeapYears.TheVariants.{TypeII}
-use Rattle.cal_julian.specs.IndianLaws.{indian_list-lawful}
-use Rattle.cal_julian.specs.JulianLaws.{julian_list-lawful}
-use Rattle.cal_julian.specs.PersianLaws.{persian_list-lawful}
+use Rattle.cal_julian.specs.laws.IndianLaws.{indian_list-lawful}
+use Rattle.cal_julian.specs.laws.JulianLaws.{julian_list-lawful}
+use Rattle.cal_julian.specs.laws.PersianLaws.{persian_list-lawful}
 use Rattle.cal_tables.specs.Kinds.{TableContents, kind_system}
 use Rattle.cal_kinds.specs.declared.any_calendar_kind.AnyCalendarKind.{AnyCalendarKind}
 use Rattle.cal_kinds.specs.declared.any_calendar_kind.AnyCalendarKind.TheVariants as kind

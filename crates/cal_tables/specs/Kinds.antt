@@ -6,7 +6,7 @@ use Rattle.cal_base.specs.OffsetSystem.{offset_system}
 use Rattle.cal_coptic.specs.CopticSystem.{coptic_system}
 use Rattle.cal_coptic.specs.EthiopianSystem.{ethiopian_system}
 use Rattle.cal_coptic.specs.declared.ethiopian.EthiopianEraStyle.TheVariants.{AmeteMihret, AmeteAlem}
-use Rattle.cal_east_asian.specs.ComputedLaws.{computed_year}
+use Rattle.cal_east_asian.specs.laws.ComputedLaws.{computed_year}
 use Rattle.cal_east_asian.specs.EastAsianReferences.{side_reference}
 use Rattle.cal_east_asian.specs.EastAsianRows as east_asian
 use Rattle.cal_east_asian.specs.EastAsianSystem.{east_asian_system}

@@ -7,7 +7,7 @@ use Rattle.std.proofs.lemmas.Bool.{leb-true}
 use Rattle.std.proofs.lemmas.List.{append_assoc}
 use Rattle.std.proofs.lemmas.Option.{slice_get_cases}
 use Rattle.cal_base.specs.IsoSystem.{iso_list, iso_system}
-use Rattle.cal_base.specs.OffsetListLaws.{offset_list-lawful}
+use Rattle.cal_base.specs.laws.OffsetListLaws.{offset_list-lawful}
 use Rattle.cal_holidays.specs.Rules.{NamedRule, is_name}
 use Rattle.cal_model.specs.CalendarList.{Date, IsOn}
 use Rattle.cal_model.specs.DayDates.{date_on}

@@ -1,28 +1,28 @@
 -- The valid dates of each kind of calendar are near enough for the limits of adding, where the tables are accepted.
 use Rattle.std.proofs.Common.{ℕ, List, [], refl, pos}
 use Rattle.cal_base.specs.GregorianList.{gregorian_list}
-use Rattle.cal_base.specs.GregorianLaws.{gregorian_list-bounded}
-use Rattle.cal_base.specs.OffsetListLaws.{true-offset}
+use Rattle.cal_base.specs.laws.GregorianLaws.{gregorian_list-bounded}
+use Rattle.cal_base.specs.laws.OffsetListLaws.{true-offset}
 use Rattle.cal_coptic.specs.CopticList.{coptic_list}
-use Rattle.cal_coptic.specs.CopticLaws as coptic_bounds
-use Rattle.cal_coptic.specs.CopticLaws.{coptic_list-bounded}
+use Rattle.cal_coptic.specs.laws.CopticLaws as coptic_bounds
+use Rattle.cal_coptic.specs.laws.CopticLaws.{coptic_list-bounded}
 use Rattle.cal_coptic.specs.EthiopianList.{coptic_offset}
-use Rattle.cal_coptic.specs.EthiopianLaws.{coptic_offset-small}
+use Rattle.cal_coptic.specs.laws.EthiopianLaws.{coptic_offset-small}
 use Rattle.cal_coptic.specs.EthiopianSystem.{ethiopian_system}
 use Rattle.cal_coptic.specs.declared.ethiopian.EthiopianEraStyle.{EthiopianEraStyle}
 use Rattle.cal_coptic.specs.declared.ethiopian.EthiopianEraStyle.TheVariants.{AmeteMihret, AmeteAlem}
-use Rattle.cal_east_asian.specs.ComputedLaws.{computed_year, computed-years}
-use Rattle.cal_east_asian.specs.EastAsianStartLaws as east_asian_bounds
+use Rattle.cal_east_asian.specs.laws.ComputedLaws.{computed_year, computed-years}
+use Rattle.cal_east_asian.specs.laws.EastAsianStartLaws as east_asian_bounds
 use Rattle.cal_east_asian.specs.TableAccepted as lunisolar
 use Rattle.cal_east_asian.specs.TableYears.{chosen_year}
-use Rattle.cal_east_asian.specs.TableYearLaws.{chosen-years}
+use Rattle.cal_east_asian.specs.laws.TableYearLaws.{chosen-years}
 use Rattle.cal_east_asian.specs.declared.east_asian_traditional_year.EastAsianTraditionalYear.{EastAsianTraditionalYear}
 use Rattle.cal_east_asian.specs.declared.sides.Side.{Side}
 use Rattle.cal_east_asian.specs.declared.sides.Side.TheVariants as side
 use Rattle.cal_gregory.specs.BuddhistEra.{buddhist_offset}
 use Rattle.cal_gregory.specs.RocEra.{roc_offset}
-use Rattle.cal_hebrew.specs.HebrewLaws as hebrew_bounds
-use Rattle.cal_hijri.specs.HijriBounds as hijri_bounds
+use Rattle.cal_hebrew.specs.laws.HebrewLaws as hebrew_bounds
+use Rattle.cal_hijri.specs.laws.HijriBounds as hijri_bounds
 use Rattle.cal_hijri.specs.TableAccepted as hijri
 use Rattle.cal_hijri.specs.TableFriday.{friday_year}
 use Rattle.cal_hijri.specs.TableRules.{table_year, table_system, table-numbered, table-joins}
@@ -32,9 +32,9 @@ use Rattle.cal_hijri.specs.declared.tabular_algorithm.TabularAlgorithm.{TabularA
 use Rattle.cal_hijri.specs.declared.tabular_algorithm.TabularAlgorithmEpoch.TheVariants.{Friday, Thursday}
 use Rattle.cal_hijri.specs.declared.tabular_algorithm.TabularAlgorithmLeapYears.TheVariants.{TypeII}
 use Rattle.cal_julian.proofs.CorrectionLemmas.{accepted-correctable}
-use Rattle.cal_julian.specs.IndianLaws as indian_bounds
-use Rattle.cal_julian.specs.JulianLaws as julian_bounds
-use Rattle.cal_julian.specs.PersianLaws as persian_bounds
+use Rattle.cal_julian.specs.laws.IndianLaws as indian_bounds
+use Rattle.cal_julian.specs.laws.JulianLaws as julian_bounds
+use Rattle.cal_julian.specs.laws.PersianLaws as persian_bounds
 use Rattle.cal_kinds.specs.declared.any_calendar_kind.AnyCalendarKind.{AnyCalendarKind}
 use Rattle.cal_kinds.specs.declared.any_calendar_kind.AnyCalendarKind.TheVariants as kind
 use Rattle.cal_model.proofs.RenumberedBoundLemmas.{ranged-renumbered, apart-renumbered}

@@ -5,7 +5,7 @@ use Rattle.std.specs.Option.{option_map, option_and_then}
 use Rattle.cal_algorithms.specs.declared.algorithm.CalendarAlgorithm.{CalendarAlgorithm}
 use Rattle.cal_model.specs.CalendarList.{CalendarList, Date, IsDate, date}
 use Rattle.cal_base.specs.IsoSystem.{iso_list}
-use Rattle.cal_base.specs.OffsetListLaws.{offset_list-lawful}
+use Rattle.cal_base.specs.laws.OffsetListLaws.{offset_list-lawful}
 use Rattle.icu_calendar.specs.DateText.{two_digits, year_text, annotation, IsDateText}
 use Rattle.icu_calendar.specs.RecordDates.{RecordParts, ParseFault, NotOfForm, AnswersText, IsShownIn, numbered_date, record_date}
 use Rattle.icu_calendar.specs.DateTextReading.{Read, year_read, part_read, existing, date_read, annotation_read, text_read}

@@ -55,13 +55,13 @@ pub use Rattle.cal_arith.specs.Ticks
 pub use Rattle.cal_base.specs.Compatibility
 pub use Rattle.cal_base.specs.GregorianList
 pub use Rattle.cal_base.specs.OffsetList
-pub use Rattle.cal_base.specs.OffsetListLaws
+pub use Rattle.cal_base.specs.laws.OffsetListLaws
 pub use Rattle.cal_base.specs.OffsetSystem
-pub use Rattle.cal_base.specs.OffsetSystemLaws
+pub use Rattle.cal_base.specs.laws.OffsetSystemLaws
 pub use Rattle.cal_base.specs.IsoEra
 pub use Rattle.cal_base.specs.IsoSystem
 pub use Rattle.cal_gregory.specs.CommonEra
-pub use Rattle.cal_gregory.specs.CommonEraLaws
+pub use Rattle.cal_gregory.specs.laws.CommonEraLaws
 pub use Rattle.cal_gregory.specs.GregorianSystem
 pub use Rattle.cal_julian.specs.JulianList
 pub use Rattle.cal_julian.specs.JulianSystem
@@ -99,7 +99,7 @@ pub use Rattle.cal_east_asian.specs.EastAsianSystem
 pub use Rattle.cal_east_asian.specs.EastAsianReferences
 pub use Rattle.cal_east_asian.specs.MeanYears
 pub use Rattle.cal_east_asian.specs.MeanTraditionalYears
-pub use Rattle.cal_east_asian.specs.RuleLaws
+pub use Rattle.cal_east_asian.specs.laws.RuleLaws
 pub use Rattle.cal_east_asian.specs.QingYears
 pub use Rattle.cal_east_asian.specs.ComputedYears
 pub use Rattle.cal_east_asian.specs.TableYears
@@ -107,7 +107,7 @@ pub use Rattle.cal_anniversary.specs.Asking
 pub use Rattle.cal_anniversary.specs.Listing
 pub use Rattle.cal_any.specs.AnySystem
 pub use Rattle.cal_any.specs.AnyOrder
-pub use Rattle.cal_any.specs.AnyLaws
+pub use Rattle.cal_any.specs.laws.AnyLaws
 pub use Rattle.cal_tables.specs.Kinds
 pub use Rattle.cal_spans.specs.Spans
 pub use Rattle.cal_kinds.specs.KindNames

@@ -36,7 +36,7 @@ impl Rules for MeanRules {
     ghost use Rattle.std.specs.Ordering.{int_eq};
     ghost use Rattle.std.specs.Cmp.{on_equiv, int_eq_equiv};
     ghost use Rattle.cal_east_asian.specs.MeanTraditionalYears.{mean_traditional_year, mean-years};
-    ghost use Rattle.cal_east_asian.specs.RuleLaws.{mean-shared, unimplemented-year, unimplemented-kind, unimplemented-leap_month};
+    ghost use Rattle.cal_east_asian.specs.laws.RuleLaws.{mean-shared, unimplemented-year, unimplemented-kind, unimplemented-leap_month};
 
     type DateCompatibilityError = OtherOffset;
 

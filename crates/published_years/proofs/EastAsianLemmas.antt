@@ -3,7 +3,7 @@ use Rattle.std.proofs.Common.{◌≡◌, refl}
 use Rattle.std.specs.Prelude.{map}
 use Rattle.cal_days.specs.Division.{floor_div, floor_mod}
 use Rattle.cal_days.specs.Gregorian.{gregorian_start, leap_days_through}
-use Rattle.cal_east_asian.specs.ComputedLaws.{computed_year}
+use Rattle.cal_east_asian.specs.laws.ComputedLaws.{computed_year}
 use Rattle.cal_east_asian.specs.MeanYears.{moon, term, last_moon, solstice_moon, month_start, lacks_term, leap_month, mean_months, new_year}
 use Rattle.cal_east_asian.specs.TableAccepted.{IsAccepted, meets}
 use Rattle.cal_east_asian.specs.TableYears.{number_of}

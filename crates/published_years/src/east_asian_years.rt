@@ -1,7 +1,7 @@
 //! The published years of China and of Korea.
 
 ghost use Rattle.std.specs.Prelude.{◌≡◌, map};
-ghost use Rattle.cal_east_asian.specs.ComputedLaws.{computed_year};
+ghost use Rattle.cal_east_asian.specs.laws.ComputedLaws.{computed_year};
 ghost use Rattle.cal_east_asian.specs.EastAsianRows.{years_of};
 ghost use Rattle.cal_east_asian.specs.TableAccepted.{IsAccepted};
 ghost use Rattle.cal_east_asian.specs.TableYears.{number_of};

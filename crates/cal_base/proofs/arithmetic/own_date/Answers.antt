@@ -1,4 +1,4 @@
-use Rattle.cal_base.specs.OwnYearLaws.{own_year, own_belongs}
+use Rattle.cal_base.specs.laws.OwnYearLaws.{own_year, own_belongs}
 use Rattle.cal_base.proofs.arithmetic.own_date.Goals as goal
 
 pub returns-clause-belongs : goal.returns-clause-belongs

@@ -2,7 +2,7 @@ use Rattle.std.proofs.Common.{◌≡◌, pos, ◌+ℤ◌, to_z, of_z, w32, ap, a
 use Rattle.cal_days.specs.Gregorian.{gregorian_leap, first_of_march}
 use Rattle.cal_days.proofs.Signed.{signed}
 use Rattle.cal_base.specs.GregorianList.{gregorian_list}
-use Rattle.cal_base.specs.GregorianLaws.{gregorian_list-months, start_of_year-gregorian}
+use Rattle.cal_base.specs.laws.GregorianLaws.{gregorian_list-months, start_of_year-gregorian}
 use Rattle.cal_base.specs.MarchMonths.{on-march, on-next}
 use Rattle.cal_base.proofs.iso_year.iso_date.Goals as goal
 

@@ -1,7 +1,7 @@
 use Rattle.std.proofs.Common.{◌≡◌, ◌∙◌, ap, arith, ℤ, to_z, of_z, w32}
 use Rattle.cal_days.specs.Day.{IsRuleYear}
 use Rattle.cal_days.proofs.Signed.{signed}
-use Rattle.cal_east_asian.specs.ComputedLaws.{computed_first_moon, computed_first_moon-span}
+use Rattle.cal_east_asian.specs.laws.ComputedLaws.{computed_first_moon, computed_first_moon-span}
 use Rattle.cal_east_asian.proofs.computed_years.computed_months_between.Goals as goal
 
 year_back : (y : ℤ) → IsRuleYear y → to_z w32 (of_z w32 y) ≡ y

@@ -4,7 +4,7 @@ use Rattle.cal_days.proofs.Signed.{signed}
 use Rattle.cal_east_asian.specs.MeanYears.{IsOffset}
 use Rattle.cal_east_asian.specs.QingYears.{IsQingNumber, qing_parts}
 use Rattle.cal_east_asian.specs.ComputedYears.{standard_offset, beijing_offset, computed_parts}
-use Rattle.cal_east_asian.specs.ComputedLaws.{computed-valid, computed-late, computed-qing, computed-early, by_times}
+use Rattle.cal_east_asian.specs.laws.ComputedLaws.{computed-valid, computed-late, computed-qing, computed-early, by_times}
 use Rattle.cal_east_asian.proofs.PartLemmas.{year-from, mean-parts-by}
 use Rattle.cal_east_asian.proofs.computed_years.computed_year.Goals as goal
 

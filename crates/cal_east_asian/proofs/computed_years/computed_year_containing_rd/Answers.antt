@@ -1,6 +1,6 @@
 use Rattle.std.proofs.Common.{◌≡◌, pos, ◌-ℤ◌, ◌≤ℤ◌, ◌<ℤ◌, to_z, of_z, w32, arith}
 use Rattle.cal_days.proofs.Signed.{signed}
-use Rattle.cal_east_asian.specs.ComputedLaws.{computed_year, computed-years}
+use Rattle.cal_east_asian.specs.laws.ComputedLaws.{computed_year, computed-years}
 use Rattle.cal_east_asian.proofs.Finding.{IsFound, earlier, itself, new_year-small}
 use Rattle.cal_east_asian.proofs.computed_years.computed_year_containing_rd.Goals as goal
 

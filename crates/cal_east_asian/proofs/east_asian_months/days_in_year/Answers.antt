@@ -1,6 +1,6 @@
 use Rattle.std.proofs.Common.{◌≡◌, ◌∙◌, ℕ, suc, ◌+◌, ◌-◌, ◌≤◌, ap, sym, arith}
 use Rattle.cal_east_asian.specs.EastAsianPlaces.{month_days, days_of_months}
-use Rattle.cal_east_asian.specs.MonthDayLaws.{year-days}
+use Rattle.cal_east_asian.specs.laws.MonthDayLaws.{year-days}
 use Rattle.cal_east_asian.proofs.east_asian_months.days_in_year.Goals as goal
 
 -- the days before the last month, and those of that month

@@ -3,8 +3,8 @@ use Rattle.cal_days.proofs.Signed.{signed}
 use Rattle.cal_days.specs.Day.{IsRuleYear}
 use Rattle.cal_east_asian.specs.MeanYears as mean
 use Rattle.cal_east_asian.specs.MeanYears.{day, IsOffset, IsLastMoon}
-use Rattle.cal_east_asian.specs.MoonLaws.{last_moon-greatest}
-use Rattle.cal_east_asian.specs.MeanYearLaws.{first_moon-is, first_moon-next}
+use Rattle.cal_east_asian.specs.laws.MoonLaws.{last_moon-greatest}
+use Rattle.cal_east_asian.specs.laws.MeanYearLaws.{first_moon-is, first_moon-next}
 use Rattle.cal_east_asian.proofs.MoonLemmas.{term-by, first-by}
 use Rattle.cal_east_asian.proofs.mean_moons.first_moon.Goals as goal
 

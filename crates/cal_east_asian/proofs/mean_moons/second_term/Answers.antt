@@ -3,7 +3,7 @@ use Rattle.cal_days.proofs.Signed.{signed}
 use Rattle.cal_days.specs.Day.{IsRuleYear}
 use Rattle.cal_east_asian.specs.MeanYears as mean
 use Rattle.cal_east_asian.specs.MeanYears.{IsOffset}
-use Rattle.cal_east_asian.specs.MoonLaws.{term-more}
+use Rattle.cal_east_asian.specs.laws.MoonLaws.{term-more}
 use Rattle.cal_east_asian.proofs.MoonLemmas.{term-by}
 use Rattle.cal_east_asian.proofs.mean_moons.second_term.Goals as goal
 

@@ -5,17 +5,17 @@ use Rattle.cal_days.specs.Division.{floor_mod}
 use Rattle.cal_days.proofs.DivisionLemmas.{floor_parts}
 use Rattle.cal_days.proofs.Signed.{signed}
 use Rattle.cal_east_asian.specs.MeanYears.{IsOffset, day, term, moon, last_moon, leap_month, mean_months, new_year, solstice_moon, IsLastMoon}
-use Rattle.cal_east_asian.specs.MoonLaws.{moon-more, day-near, day-later, last_moon-within, last_moon-most, last_moon-greatest}
-use Rattle.cal_east_asian.specs.LeapMonthLaws.{new_year-is}
-use Rattle.cal_east_asian.specs.MeanYearLaws.{three-years, months-are}
+use Rattle.cal_east_asian.specs.laws.MoonLaws.{moon-more, day-near, day-later, last_moon-within, last_moon-most, last_moon-greatest}
+use Rattle.cal_east_asian.specs.laws.LeapMonthLaws.{new_year-is}
+use Rattle.cal_east_asian.specs.laws.MeanYearLaws.{three-years, months-are}
 use Rattle.cal_east_asian.specs.EastAsianYear.{IsNewYear, is_leap_place, months_of_year}
 use Rattle.cal_east_asian.specs.EastAsianMonths.{year_entries}
 use Rattle.cal_east_asian.specs.EastAsianYears.{YearParts, parts_of, end_of, rule_year-same}
 use Rattle.cal_east_asian.specs.MeanPlaces.{place_from, month_bits}
-use Rattle.cal_east_asian.specs.MeanMonthLaws.{bits, leap_place, place-months, mean_months-parts}
+use Rattle.cal_east_asian.specs.laws.MeanMonthLaws.{bits, leap_place, place-months, mean_months-parts}
 use Rattle.cal_east_asian.specs.MeanTraditionalYears.{mean_traditional_year, mean_parts, new_year-is_new_year, mean-end}
 use Rattle.cal_east_asian.specs.declared.east_asian_traditional_year.EastAsianTraditionalYear.{EastAsianTraditionalYear}
-use Rattle.cal_east_asian.specs.SameYearLaws.{same_parts}
+use Rattle.cal_east_asian.specs.laws.SameYearLaws.{same_parts}
 use Rattle.cal_east_asian.proofs.MoonLemmas.{term-by, first-by, moon-by}
 use Rattle.cal_east_asian.proofs.PlaceLemmas.{place-mean, bits-mean}
 use Rattle.cal_east_asian.proofs.mean_years.mean_year.Goals as goal

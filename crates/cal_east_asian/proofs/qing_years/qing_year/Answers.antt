@@ -5,8 +5,8 @@ use Rattle.cal_days.proofs.GregorianLemmas.{gregorian_start-bounds}
 use Rattle.cal_east_asian.specs.EastAsianYear.{IsNewYear}
 use Rattle.cal_east_asian.specs.EastAsianYears.{YearParts, parts_of, end_of}
 use Rattle.cal_east_asian.specs.QingYears.{IsQingNumber, qing_parts, row_by_parts}
-use Rattle.cal_east_asian.specs.QingLaws.{qing-valid, qing-joins, qing-end, qing-row}
-use Rattle.cal_east_asian.specs.ComputedLaws.{new_year-1912, new_year-1900}
+use Rattle.cal_east_asian.specs.laws.QingLaws.{qing-valid, qing-joins, qing-end, qing-row}
+use Rattle.cal_east_asian.specs.laws.ComputedLaws.{new_year-1912, new_year-1900}
 use Rattle.cal_east_asian.proofs.PartLemmas.{parts-same}
 use Rattle.cal_east_asian.proofs.qing_years.qing_year.Goals as goal
 

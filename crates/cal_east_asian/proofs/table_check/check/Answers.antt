@@ -1,12 +1,12 @@
 use Rattle.std.proofs.Common.{◌≡◌, ◌∙◌, ℕ, ◌<◌, ◌≤◌, ⊎_elim, refl, sym, arith, length, List, slice_get, None}
 use Rattle.std.proofs.lemmas.List.{length-map}
 use Rattle.std.proofs.lemmas.Option.{slice_get_within, slice_get_cases}
-use Rattle.cal_rows.specs.FaultLaws.{fault_refuses}
-use Rattle.cal_rows.specs.RowLaws.{rows_before_next}
+use Rattle.cal_rows.specs.laws.FaultLaws.{fault_refuses}
+use Rattle.cal_rows.specs.laws.RowLaws.{rows_before_next}
 use Rattle.cal_east_asian.specs.EastAsianRows.{row_year, years_of}
 use Rattle.cal_east_asian.specs.TableYears.{IsRow}
 use Rattle.cal_east_asian.specs.TableAccepted.{IsTableYear, meets, MeetsAll}
-use Rattle.cal_east_asian.specs.ComputedLaws.{computed_year}
+use Rattle.cal_east_asian.specs.laws.ComputedLaws.{computed_year}
 use Rattle.cal_east_asian.specs.declared.east_asian_traditional_year.EastAsianTraditionalYear.{EastAsianTraditionalYear}
 use Rattle.cal_east_asian.proofs.table_check.check.Goals as goal
 

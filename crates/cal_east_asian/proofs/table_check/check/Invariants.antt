@@ -2,7 +2,7 @@ use Rattle.std.proofs.Common.{ℕ, ◌<◌, ◌-◌, length}
 use Rattle.cal_east_asian.specs.EastAsianRows.{years_of}
 use Rattle.cal_east_asian.specs.TableYears.{IsRow}
 use Rattle.cal_east_asian.specs.TableAccepted.{IsTableYear, MeetsAll}
-use Rattle.cal_east_asian.specs.ComputedLaws.{computed_year}
+use Rattle.cal_east_asian.specs.laws.ComputedLaws.{computed_year}
 use Rattle.cal_east_asian.specs.declared.east_asian_traditional_year.EastAsianTraditionalYear.{EastAsianTraditionalYear}
 use Rattle.cal_east_asian.proofs.table_check.check.Given as goal
 

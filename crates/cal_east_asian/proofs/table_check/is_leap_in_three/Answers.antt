@@ -1,7 +1,7 @@
 use Rattle.std.proofs.Common.{◌≡◌, ◌∙◌, refl, arith, ℤ, pos, ◌-ℤ◌, ◌||◌}
 use Rattle.cal_days.proofs.Signed.{signed}
 use Rattle.cal_rows.specs.YearArguments.{IsAsked, year_same, year_before}
-use Rattle.cal_east_asian.specs.ComputedLaws.{computed_year}
+use Rattle.cal_east_asian.specs.laws.ComputedLaws.{computed_year}
 use Rattle.cal_east_asian.specs.EastAsianYears.{has_leap_month}
 use Rattle.cal_east_asian.specs.TableYears as table
 use Rattle.cal_east_asian.specs.declared.east_asian_traditional_year.EastAsianTraditionalYear.{EastAsianTraditionalYear}

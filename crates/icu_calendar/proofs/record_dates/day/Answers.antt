@@ -3,7 +3,7 @@ use Rattle.cal_days.specs.Day.{IsValidDay}
 use Rattle.cal_days.proofs.Signed.{signed}
 use Rattle.cal_model.specs.CalendarList.{IsDate, date}
 use Rattle.cal_base.specs.IsoSystem.{iso_list}
-use Rattle.cal_base.specs.OffsetListLaws.{iso_year-extended}
+use Rattle.cal_base.specs.laws.OffsetListLaws.{iso_year-extended}
 use Rattle.icu_calendar.specs.RecordDates.{date_numbers}
 use Rattle.icu_calendar.proofs.RecordLemmas.{numbered-is, numbered-valid}
 use Rattle.icu_calendar.proofs.record_dates.day.Goals as goal

@@ -1,4 +1,4 @@
-use Rattle.cal_base.specs.OffsetSystemLaws.{packed-belongs}
+use Rattle.cal_base.specs.laws.OffsetSystemLaws.{packed-belongs}
 use Rattle.cal_base.proofs.OffsetAnswers.{ok-belongs}
 use Rattle.cal_base.proofs.abstract_gregorian.AbstractGregorianCalendar.add.Goals as goal
 

@@ -1,4 +1,4 @@
-use Rattle.cal_base.specs.OffsetSystemLaws.{packed-belongs}
+use Rattle.cal_base.specs.laws.OffsetSystemLaws.{packed-belongs}
 use Rattle.cal_base.proofs.abstract_gregorian.AbstractGregorianCalendar.day_of_year.Goals as goal
 
 pub day_of_year-requires : goal.day_of_year-requires

@@ -1,4 +1,4 @@
-use Rattle.cal_base.specs.OffsetSystemLaws.{packed-belongs}
+use Rattle.cal_base.specs.laws.OffsetSystemLaws.{packed-belongs}
 use Rattle.cal_base.proofs.abstract_gregorian.AbstractGregorianCalendar.days_in_month.Goals as goal
 
 pub days_in_month-requires : goal.days_in_month-requires

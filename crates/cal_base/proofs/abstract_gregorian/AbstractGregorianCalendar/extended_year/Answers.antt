@@ -1,4 +1,4 @@
-use Rattle.cal_base.specs.OffsetSystemLaws.{packed-belongs}
+use Rattle.cal_base.specs.laws.OffsetSystemLaws.{packed-belongs}
 use Rattle.cal_base.proofs.abstract_gregorian.AbstractGregorianCalendar.extended_year.Goals as goal
 
 pub extended_year-requires : goal.extended_year-requires

@@ -1,4 +1,4 @@
-use Rattle.cal_base.specs.OffsetSystemLaws.{belongs-packed}
+use Rattle.cal_base.specs.laws.OffsetSystemLaws.{belongs-packed}
 use Rattle.cal_base.proofs.abstract_gregorian.AbstractGregorianCalendar.from_rata_die.Goals as goal
 
 pub returns-clause-belongs : goal.returns-clause-belongs

@@ -1,4 +1,4 @@
-use Rattle.cal_base.specs.OffsetSystemLaws.{packed-belongs}
+use Rattle.cal_base.specs.laws.OffsetSystemLaws.{packed-belongs}
 use Rattle.cal_base.proofs.abstract_gregorian.AbstractGregorianCalendar.months_in_year.Goals as goal
 
 pub months_in_year-requires : goal.months_in_year-requires

@@ -1,6 +1,6 @@
 use Rattle.std.proofs.Common.{sym, ap, ◌∙◌}
 use Rattle.cal_days.specs.Day.{is_field_year}
-use Rattle.cal_base.specs.OffsetSystemLaws.{field_year-needed, given-named, belongs-offset}
+use Rattle.cal_base.specs.laws.OffsetSystemLaws.{field_year-needed, given-named, belongs-offset}
 use Rattle.cal_base.specs.declared.iso_year.IsoYear.{IsoYear}
 use Rattle.cal_base.proofs.abstract_gregorian.AbstractGregorianCalendar.owns.Goals as goal
 

@@ -1,4 +1,4 @@
-use Rattle.cal_base.specs.OffsetSystemLaws.{packed-belongs}
+use Rattle.cal_base.specs.laws.OffsetSystemLaws.{packed-belongs}
 use Rattle.cal_base.proofs.abstract_gregorian.AbstractGregorianCalendar.until_counted.Goals as goal
 
 pub until_counted-requires-clause-from : goal.until_counted-requires-clause-from

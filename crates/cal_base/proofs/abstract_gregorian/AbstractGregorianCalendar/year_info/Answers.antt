@@ -4,7 +4,7 @@ use Rattle.cal_model.specs.CalendarList.{date}
 use Rattle.cal_types.specs.declared.year.EraYear.{EraYear}
 use Rattle.cal_types.specs.declared.year.YearInfo.TheVariants.{Era}
 use Rattle.cal_base.specs.OffsetSystem.{offset_date}
-use Rattle.cal_base.specs.OffsetSystemLaws.{packed-belongs, packed-dated}
+use Rattle.cal_base.specs.laws.OffsetSystemLaws.{packed-belongs, packed-dated}
 use Rattle.cal_base.proofs.abstract_gregorian.AbstractGregorianCalendar.year_info.Goals as goal
 
 pub extended_year-requires : goal.extended_year-requires

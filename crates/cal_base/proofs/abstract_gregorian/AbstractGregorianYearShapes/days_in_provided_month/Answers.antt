@@ -2,7 +2,7 @@ use Rattle.std.proofs.Common.{◌∙◌, sym}
 use Rattle.cal_days.specs.Gregorian.{gregorian_leap}
 use Rattle.cal_model.proofs.PlainMonthLemmas.{plain-place}
 use Rattle.cal_base.specs.OffsetList.{offset_list, extended_year_from}
-use Rattle.cal_base.specs.OffsetListLaws.{offset_list-plain}
+use Rattle.cal_base.specs.laws.OffsetListLaws.{offset_list-plain}
 use Rattle.cal_base.proofs.OffsetYears.{month_length-offset}
 use Rattle.cal_base.proofs.abstract_gregorian.AbstractGregorianYearShapes.days_in_provided_month.Goals as goal
 

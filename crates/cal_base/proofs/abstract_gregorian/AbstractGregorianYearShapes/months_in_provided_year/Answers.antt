@@ -1,6 +1,6 @@
 use Rattle.std.proofs.Common.{sym}
 use Rattle.cal_base.specs.OffsetList.{extended_year_from}
-use Rattle.cal_base.specs.OffsetListLaws.{offset_list-plain}
+use Rattle.cal_base.specs.laws.OffsetListLaws.{offset_list-plain}
 use Rattle.cal_base.proofs.abstract_gregorian.AbstractGregorianYearShapes.months_in_provided_year.Goals as goal
 
 pub returns : goal.returns

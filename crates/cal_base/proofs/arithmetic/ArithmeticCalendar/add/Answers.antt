@@ -1,4 +1,4 @@
-use Rattle.cal_base.specs.OwnYearLaws.{belongs_own, offset_field}
+use Rattle.cal_base.specs.laws.OwnYearLaws.{belongs_own, offset_field}
 use Rattle.cal_base.proofs.OwnAnswers.{field_argument, ok_leads}
 use Rattle.cal_base.proofs.arithmetic.ArithmeticCalendar.add.Goals as goal
 

@@ -1,4 +1,4 @@
-use Rattle.cal_base.specs.OwnYearLaws.{belongs_own}
+use Rattle.cal_base.specs.laws.OwnYearLaws.{belongs_own}
 use Rattle.cal_base.proofs.arithmetic.ArithmeticCalendar.from_rata_die.Goals as goal
 
 pub returns-clause-belongs : goal.returns-clause-belongs

@@ -1,4 +1,4 @@
-use Rattle.cal_base.specs.OwnYearLaws.{belongs_own}
+use Rattle.cal_base.specs.laws.OwnYearLaws.{belongs_own}
 use Rattle.cal_base.proofs.OwnAnswers.{ok_leads}
 use Rattle.cal_base.proofs.arithmetic.ArithmeticCalendar.new_date.Goals as goal
 

@@ -1,6 +1,6 @@
 use Rattle.std.proofs.Common.{◌≡◌, ◌&&◌, refl, sym}
 use Rattle.cal_days.specs.Day.{is_field_year}
-use Rattle.cal_base.specs.OwnYearLaws.{not_own}
+use Rattle.cal_base.specs.laws.OwnYearLaws.{not_own}
 use Rattle.cal_base.proofs.arithmetic.ArithmeticCalendar.owns.Goals as goal
 
 pub returns-else-owns_year : goal.returns-else-owns_year

@@ -1,6 +1,6 @@
 use Rattle.std.proofs.Common.{subst, sym, ℤ, pos}
 use Rattle.cal_days.specs.Day.{IsValidDay}
-use Rattle.cal_base.specs.OffsetSystemLaws.{packed-dated}
+use Rattle.cal_base.specs.laws.OffsetSystemLaws.{packed-dated}
 use Rattle.cal_base.proofs.calendar.Calendar.from_iso.Goals as goal
 
 pub from_rata_die-requires : goal.from_rata_die-requires

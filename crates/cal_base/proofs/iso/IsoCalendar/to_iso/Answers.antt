@@ -1,5 +1,5 @@
 use Rattle.std.proofs.Common.{pos}
-use Rattle.cal_base.specs.OffsetSystemLaws.{packed-on}
+use Rattle.cal_base.specs.laws.OffsetSystemLaws.{packed-on}
 use Rattle.cal_base.proofs.iso.IsoCalendar.to_iso.Goals as goal
 
 pub returns-clause-on : goal.returns-clause-on

@@ -1,6 +1,6 @@
 use Rattle.cal_model.proofs.PlainMonthLemmas.{plain-place}
 use Rattle.cal_coptic.specs.CopticList.{coptic_list}
-use Rattle.cal_coptic.specs.CopticLaws.{coptic_list-plain}
+use Rattle.cal_coptic.specs.laws.CopticLaws.{coptic_list-plain}
 use Rattle.cal_coptic.proofs.coptic.CopticYearShapes.days_in_provided_month.Goals as goal
 
 pub days_in_month-requires : goal.days_in_month-requires

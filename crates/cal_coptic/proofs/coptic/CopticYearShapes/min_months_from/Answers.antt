@@ -2,7 +2,7 @@ use Rattle.std.proofs.Common.{◌≡◌, pos, ◌*ℤ◌, to_z, of_z, w32, unsig
 use Rattle.cal_days.proofs.Signed.{signed}
 use Rattle.cal_model.proofs.PlainMonthLemmas.{total-plain}
 use Rattle.cal_coptic.specs.CopticList.{coptic_list}
-use Rattle.cal_coptic.specs.CopticLaws.{coptic_list-plain}
+use Rattle.cal_coptic.specs.laws.CopticLaws.{coptic_list-plain}
 use Rattle.cal_coptic.proofs.coptic.CopticYearShapes.min_months_from.Goals as goal
 
 pub returns-clause-least : goal.returns-clause-least

@@ -1,5 +1,5 @@
 use Rattle.std.proofs.Common.{arith}
-use Rattle.cal_coptic.specs.CopticLaws.{day_found, year_length-most}
+use Rattle.cal_coptic.specs.laws.CopticLaws.{day_found, year_length-most}
 use Rattle.cal_coptic.proofs.coptic.CopticYears.month_and_day.Goals as goal
 
 pub month_and_day-requires : goal.month_and_day-requires

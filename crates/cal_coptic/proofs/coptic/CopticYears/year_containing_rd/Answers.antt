@@ -1,7 +1,7 @@
 use Rattle.std.proofs.Common.{◌≡◌, to_z, of_z, w32, arith}
 use Rattle.cal_days.proofs.Signed.{signed}
 use Rattle.cal_days.proofs.CopticLemmas.{coptic_start-next}
-use Rattle.cal_coptic.specs.CopticLaws.{start_of_year-coptic, year_length-coptic}
+use Rattle.cal_coptic.specs.laws.CopticLaws.{start_of_year-coptic, year_length-coptic}
 use Rattle.cal_coptic.proofs.coptic.CopticYears.year_containing_rd.Goals as goal
 
 pub returns-clause-first : goal.returns-clause-first

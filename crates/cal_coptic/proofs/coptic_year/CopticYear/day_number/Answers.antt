@@ -6,7 +6,7 @@ use Rattle.cal_days.proofs.CopticLemmas.{coptic_start-bounds}
 use Rattle.cal_model.specs.CalendarList.{date, IsDate}
 use Rattle.cal_model.proofs.PlainMonthLemmas.{plain-place}
 use Rattle.cal_coptic.specs.CopticList.{coptic_list}
-use Rattle.cal_coptic.specs.CopticLaws.{coptic_list-plain, days_before-coptic, start_of_year-coptic}
+use Rattle.cal_coptic.specs.laws.CopticLaws.{coptic_list-plain, days_before-coptic, start_of_year-coptic}
 use Rattle.cal_coptic.proofs.coptic_year.CopticYear.day_number.Goals as goal
 
 -- what the calls say of the year's first day

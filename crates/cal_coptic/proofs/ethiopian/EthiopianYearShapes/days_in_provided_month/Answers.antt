@@ -5,7 +5,7 @@ use Rattle.cal_model.proofs.RenumberedLemmas.{month_length-renumbered}
 use Rattle.cal_coptic.specs.CopticList.{coptic_list}
 use Rattle.cal_model.proofs.CountedDateLemmas.{shifted_year}
 use Rattle.cal_coptic.specs.EthiopianList.{coptic_offset, ethiopian_list}
-use Rattle.cal_coptic.specs.EthiopianLaws.{ethiopian_list-plain}
+use Rattle.cal_coptic.specs.laws.EthiopianLaws.{ethiopian_list-plain}
 use Rattle.cal_coptic.proofs.ethiopian.EthiopianYearShapes.days_in_provided_month.Goals as goal
 
 pub days_in_month-requires : goal.days_in_month-requires

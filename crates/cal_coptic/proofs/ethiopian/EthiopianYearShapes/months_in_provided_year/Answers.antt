@@ -1,6 +1,6 @@
 use Rattle.std.proofs.Common.{◌-ℤ◌, sym}
 use Rattle.cal_coptic.specs.EthiopianList.{coptic_offset}
-use Rattle.cal_coptic.specs.EthiopianLaws.{ethiopian_list-plain}
+use Rattle.cal_coptic.specs.laws.EthiopianLaws.{ethiopian_list-plain}
 use Rattle.cal_coptic.proofs.ethiopian.EthiopianYearShapes.months_in_provided_year.Goals as goal
 
 pub returns : goal.returns

@@ -3,7 +3,7 @@ use Rattle.cal_model.specs.CalendarList.{date}
 use Rattle.cal_coptic.specs.CopticList.{coptic_list}
 use Rattle.cal_model.proofs.CountedDateLemmas.{date-counted, day_number-counted}
 use Rattle.cal_coptic.specs.EthiopianList.{coptic_offset}
-use Rattle.cal_coptic.specs.EthiopianLaws.{given-coptic}
+use Rattle.cal_coptic.specs.laws.EthiopianLaws.{given-coptic}
 use Rattle.cal_coptic.proofs.ethiopian.EthiopianYearShapes.to_rata_die_inner.Goals as goal
 
 pub day_number-requires-clause-year : goal.day_number-requires-clause-year

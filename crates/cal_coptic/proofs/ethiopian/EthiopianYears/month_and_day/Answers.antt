@@ -1,9 +1,9 @@
 use Rattle.std.proofs.Common.{◌<◌, arith}
 use Rattle.cal_model.specs.CalendarList.{year_length}
 use Rattle.cal_coptic.specs.CopticList.{coptic_list}
-use Rattle.cal_coptic.specs.CopticLaws.{day_found, year_length-most}
+use Rattle.cal_coptic.specs.laws.CopticLaws.{day_found, year_length-most}
 use Rattle.cal_coptic.specs.EthiopianList.{coptic_offset}
-use Rattle.cal_coptic.specs.EthiopianLaws.{year_days-ethiopian, day_of_year-ethiopian}
+use Rattle.cal_coptic.specs.laws.EthiopianLaws.{year_days-ethiopian, day_of_year-ethiopian}
 use Rattle.cal_coptic.proofs.ethiopian.EthiopianYears.month_and_day.Goals as goal
 
 pub month_and_day-requires : goal.month_and_day-requires

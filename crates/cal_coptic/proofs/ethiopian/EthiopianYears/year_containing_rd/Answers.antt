@@ -2,7 +2,7 @@ use Rattle.std.proofs.Common.{◌≡◌, to_z, of_z, w32, arith}
 use Rattle.cal_days.proofs.Signed.{signed}
 use Rattle.cal_days.proofs.CopticLemmas.{coptic_start-next}
 use Rattle.cal_coptic.specs.EthiopianList.{coptic_offset}
-use Rattle.cal_coptic.specs.EthiopianLaws.{start_of_year-ethiopian, year_length-ethiopian}
+use Rattle.cal_coptic.specs.laws.EthiopianLaws.{start_of_year-ethiopian, year_length-ethiopian}
 use Rattle.cal_coptic.proofs.ethiopian.EthiopianYears.year_containing_rd.Goals as goal
 
 pub returns-clause-first : goal.returns-clause-first

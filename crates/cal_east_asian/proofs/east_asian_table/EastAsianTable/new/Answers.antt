@@ -1,8 +1,8 @@
 use Rattle.std.proofs.Common.{arith}
 use Rattle.std.proofs.lemmas.List.{length-map}
-use Rattle.cal_east_asian.specs.ComputedLaws.{computed_year}
+use Rattle.cal_east_asian.specs.laws.ComputedLaws.{computed_year}
 use Rattle.cal_east_asian.specs.EastAsianRows.{row_year, years_of}
-use Rattle.cal_east_asian.specs.TableYearLaws.{accepted-few}
+use Rattle.cal_east_asian.specs.laws.TableYearLaws.{accepted-few}
 use Rattle.cal_east_asian.proofs.east_asian_table.EastAsianTable.new.Goals as goal
 
 pub count_leap_rows-requires : goal.count_leap_rows-requires

@@ -1,10 +1,10 @@
 use Rattle.std.proofs.Common.{◌≡◌, ◌∙◌, ap, subst, arith, ℤ, to_z, of_z, w32}
 use Rattle.cal_days.specs.Day.{IsRuleYear}
 use Rattle.cal_days.proofs.Signed.{signed}
-use Rattle.cal_rows.specs.RowPlaces.{chosen-row, chosen-other}
-use Rattle.cal_east_asian.specs.ComputedLaws.{computed_year, computed-years}
+use Rattle.cal_rows.specs.laws.RowPlaces.{chosen-row, chosen-other}
+use Rattle.cal_east_asian.specs.laws.ComputedLaws.{computed_year, computed-years}
 use Rattle.cal_east_asian.specs.TableYears.{number_of, chosen_year}
-use Rattle.cal_east_asian.specs.TableYearLaws.{accepted-consecutive, chosen-years}
+use Rattle.cal_east_asian.specs.laws.TableYearLaws.{accepted-consecutive, chosen-years}
 use Rattle.cal_east_asian.specs.declared.east_asian_traditional_year.EastAsianTraditionalYear.{EastAsianTraditionalYear}
 use Rattle.cal_east_asian.specs.EastAsianRows.{years_of}
 use Rattle.cal_east_asian.proofs.east_asian_table.EastAsianTable.year.Goals as goal

@@ -6,7 +6,7 @@ use Rattle.cal_errors.specs.declared.errors.EcmaReferenceYearError.{EcmaReferenc
 use Rattle.cal_arith.proofs.GivenLemmas.{given_by}
 use Rattle.cal_east_asian.specs.EastAsianPlaces.{is_east_asian_month}
 use Rattle.cal_east_asian.specs.EastAsianList.{east_asian_years}
-use Rattle.cal_east_asian.specs.EastAsianNameLaws.{reference_by}
+use Rattle.cal_east_asian.specs.laws.EastAsianNameLaws.{reference_by}
 use Rattle.cal_east_asian.proofs.east_asian_traditional.EastAsianTraditionalDateFieldsResolver.reference_year_from_month_day.Goals as goal
 
 number : (y : ℤ) → IsFieldYear y → to_z w32 (of_z w32 y) ≡ y

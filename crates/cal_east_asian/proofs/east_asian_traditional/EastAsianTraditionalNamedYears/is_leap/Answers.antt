@@ -4,8 +4,8 @@ use Rattle.std.proofs.lemmas.Bool.Decides.{nat_tests}
 use Rattle.cal_model.specs.CalendarList.{month_count}
 use Rattle.cal_east_asian.specs.EastAsianYear.{months_of_year}
 use Rattle.cal_east_asian.specs.EastAsianList.{east_asian_list}
-use Rattle.cal_east_asian.specs.EastAsianListLaws.{month_count-east_asian}
-use Rattle.cal_east_asian.specs.EastAsianGivenLaws.{leap-given}
+use Rattle.cal_east_asian.specs.laws.EastAsianListLaws.{month_count-east_asian}
+use Rattle.cal_east_asian.specs.laws.EastAsianGivenLaws.{leap-given}
 use Rattle.cal_east_asian.proofs.east_asian_traditional.EastAsianTraditionalNamedYears.is_leap.Goals as goal
 
 thirteen : (p : ℕ) → IsTrue (not (nat_eq p 0)) ↔ IsTrue (nat_eq (months_of_year p) 13)

@@ -1,7 +1,7 @@
 use Rattle.std.proofs.Common.{◌∙◌, ℕ, ap, sym, arith}
 use Rattle.cal_east_asian.specs.EastAsianPlaces.{leap_status_of_place}
-use Rattle.cal_east_asian.specs.EastAsianListLaws.{count-small}
-use Rattle.cal_east_asian.specs.EastAsianGivenLaws.{leap-given}
+use Rattle.cal_east_asian.specs.laws.EastAsianListLaws.{count-small}
+use Rattle.cal_east_asian.specs.laws.EastAsianGivenLaws.{leap-given}
 use Rattle.cal_east_asian.proofs.east_asian_traditional.EastAsianTraditionalNamedYears.shown_month.Goals as goal
 
 pub leap_status-requires : goal.leap_status-requires

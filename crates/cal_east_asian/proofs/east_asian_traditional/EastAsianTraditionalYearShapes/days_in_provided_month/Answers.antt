@@ -1,7 +1,7 @@
 use Rattle.std.proofs.Common.{◌∙◌, ℕ, ap, sym, arith}
 use Rattle.cal_east_asian.specs.EastAsianPlaces.{month_days}
-use Rattle.cal_east_asian.specs.EastAsianListLaws.{count-small, month_length-east_asian}
-use Rattle.cal_east_asian.specs.EastAsianGivenLaws.{long-given}
+use Rattle.cal_east_asian.specs.laws.EastAsianListLaws.{count-small, month_length-east_asian}
+use Rattle.cal_east_asian.specs.laws.EastAsianGivenLaws.{long-given}
 use Rattle.cal_east_asian.proofs.east_asian_traditional.EastAsianTraditionalYearShapes.days_in_provided_month.Goals as goal
 
 pub days_in_month-requires : goal.days_in_month-requires

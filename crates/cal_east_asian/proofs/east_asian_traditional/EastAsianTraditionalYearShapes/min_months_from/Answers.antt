@@ -2,7 +2,7 @@ use Rattle.std.proofs.Common.{◌≡◌, ◌+◌, ◌*◌, ◌/◌, refl, ap, �
 use Rattle.std.specs.Int.Signed.{quot_z}
 use Rattle.cal_days.specs.Day.{IsRuleYear}
 use Rattle.cal_days.proofs.Signed.{signed}
-use Rattle.cal_east_asian.specs.EastAsianStartLaws.{total-least}
+use Rattle.cal_east_asian.specs.laws.EastAsianStartLaws.{total-least}
 use Rattle.cal_east_asian.proofs.east_asian_traditional.EastAsianTraditionalYearShapes.min_months_from.Goals as goal
 
 -- a third of a number, rounded toward 0, with its sign

@@ -1,7 +1,7 @@
 use Rattle.std.proofs.Common.{◌∙◌, ℕ, ap, sym, arith}
 use Rattle.cal_east_asian.specs.EastAsianMonths.{month_in_place}
-use Rattle.cal_east_asian.specs.EastAsianListLaws.{count-small, month_at-east_asian}
-use Rattle.cal_east_asian.specs.EastAsianGivenLaws.{leap-given}
+use Rattle.cal_east_asian.specs.laws.EastAsianListLaws.{count-small, month_at-east_asian}
+use Rattle.cal_east_asian.specs.laws.EastAsianGivenLaws.{leap-given}
 use Rattle.cal_east_asian.proofs.east_asian_traditional.EastAsianTraditionalYearShapes.month_from_ordinal.Goals as goal
 
 pub month_in_place-requires : goal.month_in_place-requires

@@ -1,7 +1,7 @@
 use Rattle.std.proofs.Common.{◌∙◌, ap, sym}
 use Rattle.cal_east_asian.specs.EastAsianYear.{months_of_year}
-use Rattle.cal_east_asian.specs.EastAsianListLaws.{month_count-east_asian}
-use Rattle.cal_east_asian.specs.EastAsianGivenLaws.{leap-given}
+use Rattle.cal_east_asian.specs.laws.EastAsianListLaws.{month_count-east_asian}
+use Rattle.cal_east_asian.specs.laws.EastAsianGivenLaws.{leap-given}
 use Rattle.cal_east_asian.proofs.east_asian_traditional.EastAsianTraditionalYearShapes.months_in_provided_year.Goals as goal
 
 pub returns : goal.returns

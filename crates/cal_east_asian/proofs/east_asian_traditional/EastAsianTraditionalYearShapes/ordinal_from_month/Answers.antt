@@ -1,8 +1,8 @@
 use Rattle.std.proofs.Common.{◌∙◌, ℕ, ap, sym}
 use Rattle.cal_types.specs.MonthParts.{month_parts}
 use Rattle.cal_east_asian.specs.EastAsianPlaces.{east_asian_place}
-use Rattle.cal_east_asian.specs.EastAsianListLaws.{ordinal_month-east_asian}
-use Rattle.cal_east_asian.specs.EastAsianGivenLaws.{leap-given}
+use Rattle.cal_east_asian.specs.laws.EastAsianListLaws.{ordinal_month-east_asian}
+use Rattle.cal_east_asian.specs.laws.EastAsianGivenLaws.{leap-given}
 use Rattle.cal_east_asian.proofs.east_asian_traditional.EastAsianTraditionalYearShapes.ordinal_from_month.Goals as goal
 
 pub returns : goal.returns

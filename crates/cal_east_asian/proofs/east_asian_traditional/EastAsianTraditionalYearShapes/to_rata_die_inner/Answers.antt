@@ -6,8 +6,8 @@ use Rattle.cal_model.specs.CalendarList.{HasPlace, days_before, start_of_year}
 use Rattle.cal_east_asian.specs.EastAsianYears.{AreYears}
 use Rattle.cal_east_asian.specs.EastAsianPlaces.{days_of_months}
 use Rattle.cal_east_asian.specs.EastAsianList.{east_asian_list, east_asian_years}
-use Rattle.cal_east_asian.specs.EastAsianListLaws.{count-small, days_before-east_asian}
-use Rattle.cal_east_asian.specs.EastAsianGivenLaws.{long-given, start-given}
+use Rattle.cal_east_asian.specs.laws.EastAsianListLaws.{count-small, days_before-east_asian}
+use Rattle.cal_east_asian.specs.laws.EastAsianGivenLaws.{long-given, start-given}
 use Rattle.cal_east_asian.specs.declared.east_asian_traditional_year.EastAsianTraditionalYear.{EastAsianTraditionalYear}
 use Rattle.cal_east_asian.proofs.Finding.{new_year-small}
 use Rattle.cal_east_asian.proofs.east_asian_traditional.EastAsianTraditionalYearShapes.to_rata_die_inner.Goals as goal

@@ -4,8 +4,8 @@ use Rattle.cal_days.proofs.Signed.{signed}
 use Rattle.cal_arith.specs.Given.{IsGiven}
 use Rattle.cal_model.specs.CalendarList.{days_of, start_of_year, year_length}
 use Rattle.cal_east_asian.specs.EastAsianList.{east_asian_list, east_asian_years, entries_of}
-use Rattle.cal_east_asian.specs.EastAsianStartLaws.{length-rule}
-use Rattle.cal_east_asian.specs.EastAsianGivenLaws.{start-given}
+use Rattle.cal_east_asian.specs.laws.EastAsianStartLaws.{length-rule}
+use Rattle.cal_east_asian.specs.laws.EastAsianGivenLaws.{start-given}
 use Rattle.cal_east_asian.specs.declared.east_asian_traditional_year.EastAsianTraditionalYear.{EastAsianTraditionalYear}
 use Rattle.cal_east_asian.proofs.east_asian_traditional.EastAsianTraditionalYears.year_containing_rd.Given.{Over}
 use Rattle.cal_east_asian.proofs.east_asian_traditional.EastAsianTraditionalYears.year_containing_rd.Goals as goal

@@ -4,9 +4,9 @@ use Rattle.cal_days.proofs.Signed.{signed}
 use Rattle.cal_model.specs.CalendarList.{date, IsValidDate}
 use Rattle.cal_model.proofs.RenumberedBoundLemmas.{ranged-renumbered}
 use Rattle.cal_base.specs.GregorianList.{gregorian_list}
-use Rattle.cal_base.specs.GregorianLaws.{gregorian_list-bounded}
+use Rattle.cal_base.specs.laws.GregorianLaws.{gregorian_list-bounded}
 use Rattle.cal_base.specs.OffsetList.{offset_list}
-use Rattle.cal_base.specs.OffsetListLaws.{true-offset}
+use Rattle.cal_base.specs.laws.OffsetListLaws.{true-offset}
 use Rattle.cal_gregory.proofs.japanese.JapaneseErasGregorianYears.era_year_from_extended.Goals as goal
 
 -- the year of a valid day is a field year

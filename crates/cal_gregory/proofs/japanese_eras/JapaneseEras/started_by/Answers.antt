@@ -5,7 +5,7 @@ use Rattle.std.specs.declared.cmp.Ordering.TheVariants.{Less, Equal, Greater}
 use Rattle.cal_model.specs.CalendarList.{date}
 use Rattle.cal_gregory.specs.JapaneseEraList.{ListedEra, last_era, has_started}
 use Rattle.cal_gregory.specs.JapaneseEras.{listed_eras}
-use Rattle.cal_gregory.specs.JapaneseLaws.{FoundNear, listed-near}
+use Rattle.cal_gregory.specs.laws.JapaneseLaws.{FoundNear, listed-near}
 use Rattle.cal_gregory.proofs.JapaneseEraLemmas.{last_era-passes, last_era-past}
 use Rattle.cal_gregory.proofs.japanese_eras.JapaneseEras.started_by.Goals as goal
 

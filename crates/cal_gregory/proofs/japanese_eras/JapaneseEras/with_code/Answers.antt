@@ -2,7 +2,7 @@ use Rattle.std.proofs.Common.{◌≡◌, Some, Bool, List, ℕ, sym, ap, subst, 
 use Rattle.cal_model.specs.YearNames.{is_code}
 use Rattle.cal_gregory.specs.JapaneseEraList.{ListedEra, last_era}
 use Rattle.cal_gregory.specs.JapaneseEras.{listed_eras}
-use Rattle.cal_gregory.specs.JapaneseLaws.{FoundNear, listed-near}
+use Rattle.cal_gregory.specs.laws.JapaneseLaws.{FoundNear, listed-near}
 use Rattle.cal_gregory.proofs.JapaneseEraLemmas.{last_era-passes, last_era-past}
 use Rattle.cal_gregory.proofs.japanese_eras.JapaneseEras.with_code.Goals as goal
 

@@ -3,8 +3,8 @@ use Rattle.cal_days.proofs.Signed.{signed}
 use Rattle.cal_model.specs.CalendarList.{date}
 use Rattle.cal_model.proofs.RenumberedBoundLemmas.{ranged-renumbered}
 use Rattle.cal_base.specs.GregorianList.{gregorian_list}
-use Rattle.cal_base.specs.GregorianLaws.{gregorian_list-bounded}
-use Rattle.cal_base.specs.OffsetListLaws.{true-offset}
+use Rattle.cal_base.specs.laws.GregorianLaws.{gregorian_list-bounded}
+use Rattle.cal_base.specs.laws.OffsetListLaws.{true-offset}
 use Rattle.cal_gregory.specs.RocEra.{roc_offset}
 use Rattle.cal_gregory.proofs.roc.MinguoYearsGregorianYears.era_year_from_extended.Goals as goal
 

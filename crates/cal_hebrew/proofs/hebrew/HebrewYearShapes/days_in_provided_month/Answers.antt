@@ -1,5 +1,5 @@
 use Rattle.std.proofs.Common.{◌∙◌, ℕ, sym, ap}
-use Rattle.cal_hebrew.specs.HebrewMonths.{month_length-hebrew, place-small}
+use Rattle.cal_hebrew.specs.laws.HebrewMonths.{month_length-hebrew, place-small}
 use Rattle.cal_hebrew.specs.HebrewPlaces.{place_length}
 use Rattle.cal_hebrew.proofs.HebrewGiven.{given-length}
 use Rattle.cal_hebrew.proofs.hebrew.HebrewYearShapes.days_in_provided_month.Goals as goal

@@ -1,6 +1,6 @@
 use Rattle.std.proofs.Common.{◌≡◌, pos, ◌*ℤ◌, to_z, of_z, w32, unsigned_abs, arith}
 use Rattle.cal_days.proofs.Signed.{signed}
-use Rattle.cal_hebrew.specs.HebrewLaws.{total-least}
+use Rattle.cal_hebrew.specs.laws.HebrewLaws.{total-least}
 use Rattle.cal_hebrew.proofs.hebrew.HebrewYearShapes.min_months_from.Goals as goal
 
 pub returns-clause-least : goal.returns-clause-least

@@ -1,5 +1,5 @@
 use Rattle.std.proofs.Common.{◌∙◌, Bool, sym, ap}
-use Rattle.cal_hebrew.specs.HebrewMonths.{month_at-hebrew, place-small}
+use Rattle.cal_hebrew.specs.laws.HebrewMonths.{month_at-hebrew, place-small}
 use Rattle.cal_hebrew.specs.HebrewPlaces.{month_of_place}
 use Rattle.cal_hebrew.proofs.HebrewGiven.{given-leap}
 use Rattle.cal_hebrew.proofs.hebrew.HebrewYearShapes.month_from_ordinal.Goals as goal

@@ -1,5 +1,5 @@
 use Rattle.std.proofs.Common.{◌∙◌, sym, ap}
-use Rattle.cal_hebrew.specs.HebrewMonths.{month_count-hebrew}
+use Rattle.cal_hebrew.specs.laws.HebrewMonths.{month_count-hebrew}
 use Rattle.cal_hebrew.specs.HebrewPlaces.{place_count}
 use Rattle.cal_hebrew.proofs.HebrewGiven.{given-length}
 use Rattle.cal_hebrew.proofs.hebrew.HebrewYearShapes.months_in_provided_year.Goals as goal

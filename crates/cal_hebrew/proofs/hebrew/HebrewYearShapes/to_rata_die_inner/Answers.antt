@@ -3,7 +3,7 @@ use Rattle.cal_days.specs.Day.{IsRuleYear}
 use Rattle.cal_days.specs.Hebrew.{hebrew_start}
 use Rattle.cal_days.proofs.Signed.{signed}
 use Rattle.cal_days.proofs.HebrewLemmas.{hebrew_start-bounds}
-use Rattle.cal_hebrew.specs.HebrewMonths.{days_before-hebrew, place-small, start_of_year-hebrew}
+use Rattle.cal_hebrew.specs.laws.HebrewMonths.{days_before-hebrew, place-small, start_of_year-hebrew}
 use Rattle.cal_hebrew.specs.HebrewPlaces.{days_before_place}
 use Rattle.cal_hebrew.proofs.HebrewGiven.{given-length, one_of_six}
 use Rattle.cal_hebrew.proofs.hebrew.HebrewYearShapes.to_rata_die_inner.Goals as goal

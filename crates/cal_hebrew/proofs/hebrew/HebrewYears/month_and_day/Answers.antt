@@ -1,5 +1,5 @@
 use Rattle.std.proofs.Common.{arith}
-use Rattle.cal_hebrew.specs.HebrewMonths.{year_length-hebrew}
+use Rattle.cal_hebrew.specs.laws.HebrewMonths.{year_length-hebrew}
 use Rattle.cal_hebrew.proofs.HebrewGiven.{given-length, on-place, one_of_six}
 use Rattle.cal_hebrew.proofs.hebrew.HebrewYears.month_and_day.Goals as goal
 

@@ -1,6 +1,6 @@
 use Rattle.std.proofs.Common.{◌≡◌, to_z, of_z, w32, arith}
 use Rattle.cal_days.proofs.Signed.{signed}
-use Rattle.cal_hebrew.specs.HebrewMonths.{start_of_year-hebrew, year_length-hebrew}
+use Rattle.cal_hebrew.specs.laws.HebrewMonths.{start_of_year-hebrew, year_length-hebrew}
 use Rattle.cal_hebrew.proofs.hebrew.HebrewYears.year_containing_rd.Goals as goal
 
 pub returns-clause-first : goal.returns-clause-first

@@ -2,7 +2,7 @@ use Rattle.std.proofs.Common.{◌≡◌, ℤ, sym, subst, ap, ◌∙◌, pos, �
 use Rattle.cal_days.proofs.Signed.{signed}
 use Rattle.cal_model.specs.CalendarList.{IsOn, date, start_of_year}
 use Rattle.cal_hebrew.specs.HebrewList.{hebrew_list}
-use Rattle.cal_hebrew.specs.HebrewMonths.{start_of_year-hebrew}
+use Rattle.cal_hebrew.specs.laws.HebrewMonths.{start_of_year-hebrew}
 use Rattle.cal_hebrew.proofs.HebrewGiven.{on-place, one_of_six}
 use Rattle.cal_hebrew.proofs.hebrew.HebrewYears.year_month_day.Goals as goal
 

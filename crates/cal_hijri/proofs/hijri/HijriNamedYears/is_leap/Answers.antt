@@ -2,7 +2,7 @@ use Rattle.std.proofs.Common.{◌≡◌, ◌∙◌, ◌↔◌, ◌==◌, ℕ, Is
 use Rattle.cal_model.specs.CalendarList.{year_length}
 use Rattle.cal_hijri.specs.HijriList.{hijri_list}
 use Rattle.cal_hijri.specs.HijriMonths.{prior_days}
-use Rattle.cal_hijri.specs.GivenYears.{length-given}
+use Rattle.cal_hijri.specs.laws.GivenYears.{length-given}
 use Rattle.cal_hijri.proofs.hijri.HijriNamedYears.is_leap.Goals as goal
 
 pub returns : goal.returns

@@ -2,8 +2,8 @@ use Rattle.std.proofs.Common.{◌∙◌, ℕ, ap, sym}
 use Rattle.cal_model.proofs.PlainMonthLemmas.{plain-place}
 use Rattle.cal_hijri.specs.HijriList.{hijri_list}
 use Rattle.cal_hijri.specs.HijriMonths.{month_days}
-use Rattle.cal_hijri.specs.HijriShapes.{hijri_list-plain, month_length-hijri}
-use Rattle.cal_hijri.specs.GivenYears.{long-given}
+use Rattle.cal_hijri.specs.laws.HijriShapes.{hijri_list-plain, month_length-hijri}
+use Rattle.cal_hijri.specs.laws.GivenYears.{long-given}
 use Rattle.cal_hijri.proofs.hijri.HijriYearShapes.days_in_provided_month.Goals as goal
 
 pub days_in_month-requires : goal.days_in_month-requires

@@ -1,5 +1,5 @@
 use Rattle.std.proofs.Common.{sym}
-use Rattle.cal_hijri.specs.HijriShapes.{hijri_list-plain}
+use Rattle.cal_hijri.specs.laws.HijriShapes.{hijri_list-plain}
 use Rattle.cal_hijri.proofs.hijri.HijriYearShapes.months_in_provided_year.Goals as goal
 
 pub returns : goal.returns

@@ -5,9 +5,9 @@ use Rattle.cal_arith.specs.Given.{IsGiven}
 use Rattle.cal_model.specs.CalendarList.{days_before, start_of_year}
 use Rattle.cal_hijri.specs.HijriList.{hijri_list, hijri_years, Joins, Numbered}
 use Rattle.cal_hijri.specs.HijriMonths.{prior_days}
-use Rattle.cal_hijri.specs.HijriShapes.{hijri_list-plain, days_before-hijri}
+use Rattle.cal_hijri.specs.laws.HijriShapes.{hijri_list-plain, days_before-hijri}
 use Rattle.cal_model.proofs.PlainMonthLemmas.{plain-place}
-use Rattle.cal_hijri.specs.GivenYears.{long-given, start-given}
+use Rattle.cal_hijri.specs.laws.GivenYears.{long-given, start-given}
 use Rattle.cal_hijri.specs.declared.hijri_year.HijriYear.{HijriYear}
 use Rattle.cal_hijri.proofs.Finding.{first_day-small}
 use Rattle.cal_hijri.proofs.hijri.HijriYearShapes.to_rata_die_inner.Goals as goal

@@ -1,5 +1,5 @@
 use Rattle.std.proofs.Common.{◌∙◌, ◌≤◌, Bool, refl, sym, ap, arith}
-use Rattle.cal_base.specs.GregorianMonths.{leap_is}
+use Rattle.cal_base.specs.laws.GregorianMonths.{leap_is}
 use Rattle.cal_julian.specs.IndianList.{indian_leap, indian_month_length}
 use Rattle.cal_julian.proofs.IndianMonthLemmas.{month_length-others}
 use Rattle.cal_julian.proofs.indian.IndianYear.days_in_month.Goals as goal

@@ -1,9 +1,9 @@
 use Rattle.std.proofs.Common.{◌∙◌, sym}
 use Rattle.cal_days.specs.Julian.{julian_leap}
 use Rattle.cal_model.proofs.PlainMonthLemmas.{plain-place}
-use Rattle.cal_base.specs.GregorianMonths.{month_length-gregorian}
+use Rattle.cal_base.specs.laws.GregorianMonths.{month_length-gregorian}
 use Rattle.cal_julian.specs.JulianList.{julian_list}
-use Rattle.cal_julian.specs.JulianLaws.{julian_list-months, julian_list-plain}
+use Rattle.cal_julian.specs.laws.JulianLaws.{julian_list-months, julian_list-plain}
 use Rattle.cal_julian.proofs.julian.JulianYearShapes.days_in_provided_month.Goals as goal
 
 pub days_in_month-requires-clause-month : goal.days_in_month-requires-clause-month

@@ -2,7 +2,7 @@ use Rattle.std.proofs.Common.{◌≡◌, pos, ◌*ℤ◌, to_z, of_z, w32, unsig
 use Rattle.cal_days.proofs.Signed.{signed}
 use Rattle.cal_model.proofs.PlainMonthLemmas.{total-plain}
 use Rattle.cal_julian.specs.JulianList.{julian_list}
-use Rattle.cal_julian.specs.JulianLaws.{julian_list-plain}
+use Rattle.cal_julian.specs.laws.JulianLaws.{julian_list-plain}
 use Rattle.cal_julian.proofs.julian.JulianYearShapes.min_months_from.Goals as goal
 
 pub returns-clause-least : goal.returns-clause-least

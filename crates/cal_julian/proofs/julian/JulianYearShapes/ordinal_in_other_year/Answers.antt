@@ -1,7 +1,7 @@
 use Rattle.std.proofs.Common.{sym}
 use Rattle.cal_base.specs.PlainPlaces.{spot-plain}
 use Rattle.cal_julian.specs.JulianList.{julian_list}
-use Rattle.cal_julian.specs.JulianLaws.{julian_list-plain}
+use Rattle.cal_julian.specs.laws.JulianLaws.{julian_list-plain}
 use Rattle.cal_julian.proofs.julian.JulianYearShapes.ordinal_in_other_year.Goals as goal
 
 pub returns : goal.returns

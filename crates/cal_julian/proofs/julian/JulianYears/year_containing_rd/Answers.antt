@@ -1,7 +1,7 @@
 use Rattle.std.proofs.Common.{◌≡◌, to_z, of_z, w32, arith}
 use Rattle.cal_days.proofs.Signed.{signed}
 use Rattle.cal_days.proofs.JulianLemmas.{julian_start-next}
-use Rattle.cal_julian.specs.JulianLaws.{start_of_year-julian, year_length-julian}
+use Rattle.cal_julian.specs.laws.JulianLaws.{start_of_year-julian, year_length-julian}
 use Rattle.cal_julian.proofs.julian.JulianYears.year_containing_rd.Goals as goal
 
 pub returns-clause-first : goal.returns-clause-first

@@ -1,10 +1,10 @@
 use Rattle.std.proofs.Common.{◌≡◌, ◌≤◌, ◌∙◌, Bool, sym, ap, to_z, of_z, w32, arith}
 use Rattle.cal_days.proofs.Signed.{signed}
 use Rattle.cal_model.proofs.PlainMonthLemmas.{plain-place}
-use Rattle.cal_base.specs.GregorianMonths.{leap_is}
+use Rattle.cal_base.specs.laws.GregorianMonths.{leap_is}
 use Rattle.cal_julian.specs.PersianCorrected.{corrected_years}
 use Rattle.cal_julian.specs.PersianList.{persian_list, persian_month_length}
-use Rattle.cal_julian.specs.PersianLaws.{month_length-persian, persian_list-plain}
+use Rattle.cal_julian.specs.laws.PersianLaws.{month_length-persian, persian_list-plain}
 use Rattle.cal_julian.specs.PersianMonths.{month_length-others}
 use Rattle.cal_julian.specs.PersianRule.{is_persian_leap}
 use Rattle.cal_julian.proofs.persian.PersianYearShapes.days_in_provided_month.Goals as goal

@@ -2,7 +2,7 @@ use Rattle.std.proofs.Common.{◌≡◌, pos, ◌*ℤ◌, to_z, of_z, w32, unsig
 use Rattle.cal_days.proofs.Signed.{signed}
 use Rattle.cal_model.proofs.PlainMonthLemmas.{total-plain}
 use Rattle.cal_julian.specs.PersianList.{persian_list}
-use Rattle.cal_julian.specs.PersianLaws.{persian_list-plain}
+use Rattle.cal_julian.specs.laws.PersianLaws.{persian_list-plain}
 use Rattle.cal_julian.specs.PersianCorrected.{corrected_years}
 use Rattle.cal_julian.proofs.persian.PersianYearShapes.min_months_from.Goals as goal
 

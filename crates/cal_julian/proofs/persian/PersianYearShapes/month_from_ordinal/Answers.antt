@@ -1,7 +1,7 @@
 use Rattle.std.proofs.Common.{◌≤◌, ◌∙◌, sym, arith}
 use Rattle.cal_model.proofs.PlainMonthLemmas.{plain-month, plain-place, plain_month-small}
 use Rattle.cal_julian.specs.PersianList.{persian_list}
-use Rattle.cal_julian.specs.PersianLaws.{persian_list-plain}
+use Rattle.cal_julian.specs.laws.PersianLaws.{persian_list-plain}
 use Rattle.cal_julian.specs.PersianCorrected.{corrected_years}
 use Rattle.cal_julian.proofs.persian.PersianYearShapes.month_from_ordinal.Goals as goal
 

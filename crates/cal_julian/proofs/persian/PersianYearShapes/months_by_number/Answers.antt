@@ -3,7 +3,7 @@ use Rattle.cal_days.proofs.Signed.{signed_casts}
 use Rattle.cal_model.specs.CalendarList.{month_number}
 use Rattle.cal_model.proofs.PlainMonthLemmas.{month_number-twelve}
 use Rattle.cal_julian.specs.PersianList.{persian_list}
-use Rattle.cal_julian.specs.PersianLaws.{persian_list-plain}
+use Rattle.cal_julian.specs.laws.PersianLaws.{persian_list-plain}
 use Rattle.cal_julian.specs.PersianCorrected.{corrected_years}
 use Rattle.cal_julian.proofs.persian.PersianYearShapes.months_by_number.Goals as goal
 

@@ -1,5 +1,5 @@
 use Rattle.std.proofs.Common.{sym}
-use Rattle.cal_julian.specs.PersianLaws.{persian_list-plain}
+use Rattle.cal_julian.specs.laws.PersianLaws.{persian_list-plain}
 use Rattle.cal_julian.specs.PersianCorrected.{corrected_years}
 use Rattle.cal_julian.proofs.persian.PersianYearShapes.months_in_provided_year.Goals as goal
 

@@ -4,9 +4,9 @@ use Rattle.cal_days.proofs.PersianLemmas.{persian_start-bounds}
 use Rattle.cal_model.proofs.PlainMonthLemmas.{plain-place}
 use Rattle.cal_julian.specs.PersianCorrected.{corrected_years}
 use Rattle.cal_julian.specs.PersianList.{persian_list}
-use Rattle.cal_julian.specs.PersianLaws.{days_before-persian, persian_list-plain, start_of_year-persian}
+use Rattle.cal_julian.specs.laws.PersianLaws.{days_before-persian, persian_list-plain, start_of_year-persian}
 use Rattle.cal_julian.specs.PersianRule.{is_persian_leap, persian_new_year}
-use Rattle.cal_julian.specs.PersianRuleLaws.{persian_new_year-near}
+use Rattle.cal_julian.specs.laws.PersianRuleLaws.{persian_new_year-near}
 use Rattle.cal_julian.proofs.persian.PersianYearShapes.to_rata_die_inner.Goals as goal
 
 pub days_before_day-before-requires-clause-month : goal.days_before_day-before-requires-clause-month

@@ -1,8 +1,8 @@
 use Rattle.std.proofs.Common.{◌≡◌, to_z, of_z, w32, arith}
 use Rattle.cal_days.proofs.Signed.{signed}
 use Rattle.cal_julian.specs.PersianCorrected.{corrected_years}
-use Rattle.cal_julian.specs.PersianLaws.{start_of_year-persian, year_length-persian}
-use Rattle.cal_julian.specs.PersianRuleLaws.{persian_new_year-next}
+use Rattle.cal_julian.specs.laws.PersianLaws.{start_of_year-persian, year_length-persian}
+use Rattle.cal_julian.specs.laws.PersianRuleLaws.{persian_new_year-next}
 use Rattle.cal_julian.proofs.persian.PersianYears.year_containing_rd.Goals as goal
 
 pub returns-clause-first : goal.returns-clause-first

@@ -3,9 +3,9 @@ use Rattle.cal_days.proofs.Signed.{signed}
 use Rattle.cal_model.specs.CalendarList.{date, start_of_year, IsOn}
 use Rattle.cal_julian.specs.PersianCorrected.{corrected_years}
 use Rattle.cal_julian.specs.PersianList.{persian_list}
-use Rattle.cal_julian.specs.PersianLaws.{day_found, start_of_year-persian}
+use Rattle.cal_julian.specs.laws.PersianLaws.{day_found, start_of_year-persian}
 use Rattle.cal_julian.specs.PersianRule.{AreCorrectable, is_persian_leap, persian_new_year}
-use Rattle.cal_julian.specs.PersianRuleLaws.{persian_new_year-next}
+use Rattle.cal_julian.specs.laws.PersianRuleLaws.{persian_new_year-next}
 use Rattle.cal_julian.proofs.persian.PersianYears.year_month_day.Goals as goal
 
 -- a day before the next year is one of the year

@@ -4,7 +4,7 @@ use Rattle.cal_days.specs.Persian.{persian_start, persian_year_length}
 use Rattle.cal_days.proofs.Signed.{signed, by_bool, by_lt}
 use Rattle.cal_days.proofs.PersianLemmas.{persian_start-next, persian_year_length-parts}
 use Rattle.cal_julian.specs.PersianRule.{AreCorrectable, is_corrected, persian_new_year}
-use Rattle.cal_julian.specs.PersianRuleLaws.{corrected-apart, corrected-leap, persian_new_year-after, persian_new_year-near}
+use Rattle.cal_julian.specs.laws.PersianRuleLaws.{corrected-apart, corrected-leap, persian_new_year-after, persian_new_year-near}
 use Rattle.cal_julian.proofs.persian_corrections.PersianCorrections.corrected.Goals as goal
 use Rattle.cal_julian.proofs.persian_corrections.PersianCorrections.corrected.Goals.{else-day-eq365-via-then-day-eq365+else-contains, else-day-eq365-via-else-day-eq365}
 

@@ -3,7 +3,7 @@ use Rattle.std.specs.Prelude.{◌&&◌, ◌||◌, IsTrue}
 use Rattle.cal_days.specs.Persian.{persian_leap}
 use Rattle.cal_days.proofs.Signed.{signed}
 use Rattle.cal_julian.specs.PersianRule.{is_corrected}
-use Rattle.cal_julian.specs.PersianRuleLaws.{leap-not_after}
+use Rattle.cal_julian.specs.laws.PersianRuleLaws.{leap-not_after}
 use Rattle.cal_julian.proofs.persian_corrections.PersianCorrections.is_leap_year.Goals as goal
 
 -- a leap year of the rule is one where it isn't corrected

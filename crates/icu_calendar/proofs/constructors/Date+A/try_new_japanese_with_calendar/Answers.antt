@@ -1,5 +1,5 @@
 use Rattle.std.proofs.Common.{to_z, of_z, w32}
-use Rattle.cal_gregory.specs.JapaneseLaws.{japanese_reads-covered}
+use Rattle.cal_gregory.specs.laws.JapaneseLaws.{japanese_reads-covered}
 use Rattle.icu_calendar.proofs.constructors.Date+A.try_new_japanese_with_calendar.Goals as goal
 
 pub placed_in_era-requires : goal.placed_in_era-requires

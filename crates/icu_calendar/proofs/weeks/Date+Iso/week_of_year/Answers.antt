@@ -1,6 +1,6 @@
 use Rattle.std.proofs.Common.{pos, sym, subst}
 use Rattle.cal_days.specs.Day.{IsValidDay}
-use Rattle.cal_base.specs.OffsetSystemLaws.{packed-dated}
+use Rattle.cal_base.specs.laws.OffsetSystemLaws.{packed-dated}
 use Rattle.icu_calendar.proofs.weeks.Date+Iso.week_of_year.Goals as goal
 
 pub week_of-requires : goal.week_of-requires

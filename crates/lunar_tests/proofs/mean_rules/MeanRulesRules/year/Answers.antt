@@ -1,7 +1,7 @@
 use Rattle.std.proofs.Common.{◌≡◌, ◌∙◌, subst, sym, to_z, of_z, w32, w64, arith}
 use Rattle.cal_days.proofs.Signed.{signed}
 use Rattle.cal_east_asian.specs.MeanYears.{IsOffset}
-use Rattle.cal_east_asian.specs.RuleLaws.{mean-same}
+use Rattle.cal_east_asian.specs.laws.RuleLaws.{mean-same}
 use Rattle.lunar_tests.proofs.mean_rules.MeanRulesRules.year.Goals as goal
 
 pub returns : goal.returns

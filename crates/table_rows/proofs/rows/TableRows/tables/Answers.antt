@@ -1,5 +1,5 @@
 use Rattle.std.proofs.Common.{rules, List, ℤ, refl, subst}
-use Rattle.cal_east_asian.specs.ComputedLaws.{computed_year}
+use Rattle.cal_east_asian.specs.laws.ComputedLaws.{computed_year}
 use Rattle.cal_east_asian.specs.TableAccepted as lunisolar
 use Rattle.cal_east_asian.specs.EastAsianRows as east_asian_rows
 use Rattle.cal_east_asian.specs.declared.east_asian_row.EastAsianRow.{EastAsianRow}

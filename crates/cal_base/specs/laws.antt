@@ -1,0 +1,5 @@
+pub mod GregorianMonths
+pub mod GregorianLaws
+pub mod OwnYearLaws
+pub mod OffsetListLaws
+pub mod OffsetSystemLaws

@@ -1,0 +1,4 @@
+pub mod CopticLaws
+pub mod CopticSystemLaws
+pub mod EthiopianLaws
+pub mod EthiopianSystemLaws

@@ -1,0 +1,16 @@
+pub mod EastAsianEntryLaws
+pub mod MonthDayLaws
+pub mod EastAsianListLaws
+pub mod EastAsianStartLaws
+pub mod SameYearLaws
+pub mod EastAsianNameLaws
+pub mod EastAsianGivenLaws
+pub mod MoonLaws
+pub mod LeapMonthLaws
+pub mod MeanYearLaws
+pub mod MeanStartLaws
+pub mod MeanMonthLaws
+pub mod QingLaws
+pub mod ComputedLaws
+pub mod TableYearLaws
+pub mod RuleLaws

@@ -1,0 +1,3 @@
+pub mod CommonEraLaws
+pub mod RocEraLaws
+pub mod JapaneseLaws

@@ -1,0 +1,3 @@
+pub mod HebrewMonths
+pub mod HebrewLaws
+pub mod HebrewSystemLaws

@@ -1,0 +1,4 @@
+pub mod RowLaws
+pub mod RowPlaces
+pub mod RowJoins
+pub mod FaultLaws
