@@ -235,6 +235,20 @@ pub enum TablePart {
     Rule,
 }
 
+/// Rows don't lengthen a table.
+#[derive(Clone, Copy, Debug, PartialEq, Eq, Error)]
+pub enum LengthenFault {
+    /// The rows don't begin with those of the table.
+    #[error("Row {row} of the table isn't among the new rows in its place")]
+    Differs {
+        /// The table's first row, counted from 1, that doesn't stand in its place.
+        row: usize,
+    },
+    /// The rows begin with those of the table, but no table has them.
+    #[error("{0}")]
+    Table(TableFault),
+}
+
 /// The range's fields as they are.
 impl From<RangeError> for DateError {
     ghost use Rattle.cal_errors.specs.declared.errors.DateError.TheVariants.{Range};

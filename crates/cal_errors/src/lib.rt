@@ -7,6 +7,7 @@ pub mod errors;
 
 pub use errors::{
     DateAddError, DateDurationParseError, DateError, DateFromFieldsError, DateNewError,
-    EcmaReferenceYearError, LunisolarDateError, MismatchedCalendarError, MonthCodeParseError,
-    MonthError, RangeError, TableFault, TablePart, TinyStrError, UnknownEraError,
+    EcmaReferenceYearError, LengthenFault, LunisolarDateError, MismatchedCalendarError,
+    MonthCodeParseError, MonthError, RangeError, TableFault, TablePart, TinyStrError,
+    UnknownEraError,
 };

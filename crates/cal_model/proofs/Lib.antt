@@ -16,3 +16,4 @@ pub mod CountedDateLemmas
 pub mod DayDateLemmas
 pub mod AnniversaryLemmas
 pub mod AnniversaryListLemmas
+pub mod SameYearLemmas

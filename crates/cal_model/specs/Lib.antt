@@ -14,3 +14,4 @@ pub mod PlainMonths
 pub mod RenumberedBounds
 pub mod DayDates
 pub mod Anniversary
+pub mod SameYear

@@ -1,4 +1,6 @@
 pub mod RowLaws
 pub mod RowPlaces
 pub mod RowJoins
+pub mod RowTestLaws
 pub mod FaultLaws
+pub mod LengtheningLaws

@@ -25,8 +25,9 @@ pub use cal_algorithms::{
 };
 pub use cal_errors::{
     DateAddError, DateDurationParseError, DateError, DateFromFieldsError, DateNewError,
-    EcmaReferenceYearError, LunisolarDateError, MismatchedCalendarError, MonthCodeParseError,
-    MonthError, RangeError, TableFault, TablePart, TinyStrError, UnknownEraError,
+    EcmaReferenceYearError, LengthenFault, LunisolarDateError, MismatchedCalendarError,
+    MonthCodeParseError, MonthError, RangeError, TableFault, TablePart, TinyStrError,
+    UnknownEraError,
 };
 pub use day::{DayOfMonth, DayOfWeekInMonth, DayOfYear, IsoWeekOfYear};
 pub use duration::{DateDuration, DateDurationUnit};
