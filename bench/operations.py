@@ -48,14 +48,14 @@ MANY = 11_000_000
 ROUNDS = 5
 
 
-def seconds(program: Path, operation: str, calendar: str, count: int) -> tuple[float, bytes]:
+def seconds(program: Path, *words: str | int) -> tuple[float, bytes]:
     """How long a processor works for one run, and its checksum."""
     before = resource.getrusage(resource.RUSAGE_CHILDREN)
-    run = subprocess.run([str(program), operation, calendar, str(count)], capture_output=True, check=False)
+    run = subprocess.run([str(program), *map(str, words)], capture_output=True, check=False)
     after = resource.getrusage(resource.RUSAGE_CHILDREN)
     taken = after.ru_utime + after.ru_stime - before.ru_utime - before.ru_stime
     if run.returncode != 0 or not run.stdout.strip():
-        raise SystemExit(f"{operation} {calendar} {count}: status {run.returncode}, {run.stdout[:80]!r} {run.stderr[:200]!r}")
+        raise SystemExit(f"{' '.join(map(str, words))}: status {run.returncode}, {run.stdout[:80]!r} {run.stderr[:200]!r}")
     return taken, run.stdout
 
 
