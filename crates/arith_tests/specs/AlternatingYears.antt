@@ -6,7 +6,8 @@ use Rattle.arith_tests.specs.AlternatingMonths.{alternating}
 use Rattle.arith_tests.specs.declared.alternating_months.AlternatingYear.{AlternatingYear}
 
 abbrev pub alternating_years : CalendarYears AlternatingYear
-alternating_years = record { list = alternating; year_of = λ y. record { number = y }; extended = λ i. i.number; offset = pos 0 }
+alternating_years =
+    record { list = alternating; year_of = λ y. record { number = y }; extended = λ i. i.number; offset = pos 0 }
 
 pub stored-year : (y : ℤ) → y ≡ y +ℤ pos 0
 stored-year y = omega (arith, signed)

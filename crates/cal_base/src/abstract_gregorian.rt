@@ -167,8 +167,8 @@ impl<Y: GregorianYears> DateFieldsResolver for AbstractGregorian<Y> {
     ghost reference_of_kind = { λ s m d. reference_of_known-tested (is_plain_month 12 m) _ (pos 1972 -ℤ Y.offset s.0)
         ((offset_list-plain (Y.offset s.0)).kind m) };
 
-    ghost reference_of_leap_month = { λ s m d e. reference_of_known-stands (is_plain_month 12 m) (pos 1972 -ℤ Y.offset s.0)
-        e };
+    ghost reference_of_leap_month = { λ s m d e.
+        reference_of_known-stands (is_plain_month 12 m) (pos 1972 -ℤ Y.offset s.0) e };
 }
 
 impl<Y: GregorianYears> UnstableSealed for AbstractGregorian<Y> {}
