@@ -1,6 +1,5 @@
 pub mod GregorianList
 pub mod PlainPlaces
-pub mod MarchMonths
 pub mod IsoSystem
 pub mod OwnYears
 pub mod NumberedYears

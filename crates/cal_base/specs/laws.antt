@@ -3,3 +3,5 @@ pub mod GregorianLaws
 pub mod OwnYearLaws
 pub mod OffsetListLaws
 pub mod OffsetSystemLaws
+pub mod MarchMonths
+pub mod PlainPlaceLaws

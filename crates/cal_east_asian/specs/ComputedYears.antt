@@ -3,7 +3,7 @@
 use Rattle.std.specs.Prelude.{ℕ, int_le, if◌then◌else◌, ℤ, pos}
 use Rattle.cal_east_asian.specs.EastAsianYear.{months_of_year}
 use Rattle.cal_east_asian.specs.EastAsianYears.{YearParts}
-use Rattle.cal_east_asian.specs.MeanTraditionalYears.{mean_parts}
+use Rattle.cal_east_asian.specs.MeanParts.{mean_parts}
 use Rattle.cal_east_asian.specs.QingYears.{qing_parts}
 use Rattle.cal_east_asian.specs.declared.sides.Side.{Side}
 use Rattle.cal_east_asian.specs.declared.sides.Side.TheVariants.{China, Korea}

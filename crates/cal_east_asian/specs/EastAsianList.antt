@@ -5,7 +5,7 @@ use Rattle.cal_model.specs.CalendarList.{Entry, CalendarList}
 use Rattle.cal_model.specs.PlainMonths.{numbered_month}
 use Rattle.cal_arith.specs.Given.{CalendarYears}
 use Rattle.cal_east_asian.specs.EastAsianMonths.{year_entries}
-use Rattle.cal_east_asian.specs.EastAsianYears.{rule_year}
+use Rattle.cal_east_asian.specs.RuleYears.{rule_year}
 use Rattle.cal_east_asian.specs.EastAsianPlaces.{is_east_asian_month}
 use Rattle.cal_east_asian.specs.declared.east_asian_traditional_year.EastAsianTraditionalYear.{EastAsianTraditionalYear}
 

@@ -13,7 +13,7 @@ use Rattle.cal_model.specs.CalendarList.{Date, date, month_count, is_valid_date}
 use Rattle.cal_model.specs.CalendarSystem.{CalendarSystem}
 use Rattle.cal_model.specs.YearNames.{YearNames}
 use Rattle.cal_base.specs.OwnYears.{own_system}
-use Rattle.cal_east_asian.specs.EastAsianYears.{rule_year}
+use Rattle.cal_east_asian.specs.RuleYears.{rule_year}
 use Rattle.cal_east_asian.specs.EastAsianPlaces.{is_east_asian_month, leap_status_of_place}
 use Rattle.cal_east_asian.specs.EastAsianList.{east_asian_list, east_asian_years}
 use Rattle.cal_east_asian.specs.PackedYears.{packed_year}

@@ -1,6 +1,5 @@
 pub mod SpanAnswers
 pub mod Clamping
-pub mod Comparing
 pub mod Answers
 pub mod PlacedFields
 pub mod DateText
@@ -112,3 +111,4 @@ pub use Rattle.cal_tables.specs.Kinds
 pub use Rattle.cal_spans.specs.Spans
 pub use Rattle.cal_kinds.specs.KindNames
 pub use Rattle.published_years.specs.Published
+pub mod laws
