@@ -2,8 +2,6 @@ pub mod GregorianList
 pub mod PlainPlaces
 pub mod IsoSystem
 pub mod OwnYears
-pub mod NumberedYears
-pub mod Compatibility
 pub mod OffsetList
 pub mod IsoEra
 pub mod OffsetSystem

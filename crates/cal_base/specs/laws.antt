@@ -5,3 +5,5 @@ pub mod OffsetListLaws
 pub mod OffsetSystemLaws
 pub mod MarchMonths
 pub mod PlainPlaceLaws
+pub mod NumberedYears
+pub mod Compatibility

@@ -302,7 +302,7 @@ impl<R: Rules> UnstableSealed for Hijri<R> {}
 
 impl<R: Rules> Calendar for Hijri<R> {
     ghost use Rattle.std.specs.Prelude.{false};
-    ghost use Rattle.cal_base.specs.NumberedYears.{numbered_equal, numbered_ordered};
+    ghost use Rattle.cal_base.specs.laws.NumberedYears.{numbered_equal, numbered_ordered};
     ghost use Rattle.cal_hijri.specs.HijriList.{hijri_list};
     ghost use Rattle.cal_hijri.specs.laws.HijriShapes.{hijri_list-lawful};
     ghost use Rattle.cal_hijri.specs.laws.HijriNameLaws.{years-named};

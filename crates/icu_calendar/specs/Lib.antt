@@ -51,7 +51,7 @@ pub use Rattle.cal_model.specs.Anniversary
 pub use Rattle.cal_arith.specs.Dates
 pub use Rattle.cal_arith.specs.Given
 pub use Rattle.cal_arith.specs.Ticks
-pub use Rattle.cal_base.specs.Compatibility
+pub use Rattle.cal_base.specs.laws.Compatibility
 pub use Rattle.cal_base.specs.GregorianList
 pub use Rattle.cal_base.specs.OffsetList
 pub use Rattle.cal_base.specs.laws.OffsetListLaws

@@ -62,7 +62,7 @@ impl UnstableSealed for Late {}
 
 impl Rules for Late {
     ghost use Rattle.std.specs.Prelude.{true, refl};
-    ghost use Rattle.cal_base.specs.Compatibility.{all_alike, never_refused};
+    ghost use Rattle.cal_base.specs.laws.Compatibility.{all_alike, never_refused};
     ghost use Rattle.cal_hijri.specs.laws.HijriNameLaws.{no-references};
     ghost use Rattle.cal_model.specs.CalendarList.{day_number};
     ghost use Rattle.cal_hijri.specs.HijriSystem.{hijri_belongs, packed_date};
