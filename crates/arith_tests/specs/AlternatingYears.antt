@@ -1,12 +1,9 @@
 -- The years of the small calendar: each is its number.
-use Rattle.std.proofs.Common.{◌≡◌, ℤ, pos, ◌+ℤ◌, arith}
-use Rattle.cal_days.proofs.Signed.{signed}
+use Rattle.std.proofs.Common.{pos}
 use Rattle.cal_arith.specs.Given.{CalendarYears}
 use Rattle.arith_tests.specs.AlternatingMonths.{alternating}
 use Rattle.arith_tests.specs.declared.alternating_months.AlternatingYear.{AlternatingYear}
 
 abbrev pub alternating_years : CalendarYears AlternatingYear
-alternating_years = record { list = alternating; year_of = λ y. record { number = y }; extended = λ i. i.number; offset = pos 0 }
-
-pub stored-year : (y : ℤ) → y ≡ y +ℤ pos 0
-stored-year y = omega (arith, signed)
+alternating_years =
+    record { list = alternating; year_of = λ y. record { number = y }; extended = λ i. i.number; offset = pos 0 }

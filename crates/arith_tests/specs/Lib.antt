@@ -1,2 +1,3 @@
 pub mod AlternatingMonths
 pub mod AlternatingYears
+pub mod laws

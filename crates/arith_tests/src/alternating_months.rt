@@ -2,7 +2,8 @@
 
 ghost use Rattle.std.specs.Prelude.{◌≡◌, ◌≤◌, ◌+◌, ◌-◌, ◌*◌, ◌/◌, pos, refl};
 ghost use Rattle.cal_types.specs.MonthParts.{month_parts};
-ghost use Rattle.arith_tests.specs.AlternatingMonths.{is_plain, alternating-lawful, alternating-near, alternating-ranged, alternating-apart, alternating-covered};
+ghost use Rattle.arith_tests.specs.AlternatingMonths.{is_plain};
+ghost use Rattle.arith_tests.specs.laws.AlternatingMonthLaws.{alternating-lawful, alternating-near, alternating-ranged, alternating-apart, alternating-covered};
 ghost use Rattle.cal_arith.specs.Dates.{ymd};
 
 use cal_arith::eras::year_in_only_era;
@@ -22,7 +23,8 @@ pub struct AlternatingYear {
     pub number: i32,
 }
 
-ghost use Rattle.arith_tests.specs.AlternatingYears.{alternating_years, stored-year};
+ghost use Rattle.arith_tests.specs.AlternatingYears.{alternating_years};
+ghost use Rattle.arith_tests.specs.laws.AlternatingYearLaws.{stored-year};
 
 /// A year, the place of a month and a day.
 #[derive(Clone, Copy, Debug)]
@@ -161,7 +163,8 @@ impl Years for AlternatingMonths {
 }
 
 impl DateFieldsResolver for AlternatingMonths {
-    ghost use Rattle.arith_tests.specs.AlternatingMonths.{alternating_names, alternating_reference-kind};
+    ghost use Rattle.arith_tests.specs.AlternatingMonths.{alternating_names};
+    ghost use Rattle.arith_tests.specs.laws.AlternatingMonthLaws.{alternating_reference-kind};
     ghost use Rattle.std.specs.Prelude.{codes};
     ghost use Rattle.cal_model.proofs.EraLemmas.{only_era_reads-in_range, only_era_reads-covered};
     ghost use Rattle.cal_model.proofs.YearNameLemmas.{reference_of_known-stands};

@@ -19,4 +19,5 @@ EndsEarly NoMemory limit bytes before now = (0 < length bytes) × (length bytes 
 
 -- some bytes came, and then reading ended early
 abbrev pub StopsEarly : ReadAllError → ℕ → Option (List ℕ) → Option (List ℕ) → ℕ → ℕ → Type 0
-StopsEarly why limit left now before more = (bytes : List ℕ) × Consumes left now bytes × EndsEarly why limit bytes before more
+StopsEarly why limit left now before more =
+    (bytes : List ℕ) × Consumes left now bytes × EndsEarly why limit bytes before more

@@ -140,7 +140,8 @@ is_valid_kept (calendar.Buddhist _) t = is_valid_date gregorian_list t
 is_valid_kept (calendar.Chinese c) t = is_valid_date (east_asian_list (tables.table_year c.0.table)) t
 is_valid_kept (calendar.Coptic _) t = is_valid_date coptic_list t
 is_valid_kept (calendar.Dangi c) t = is_valid_date (east_asian_list (tables.table_year c.0.table)) t
-is_valid_kept (calendar.Ethiopian c) t = is_valid_date (ethiopian_list (coptic_offset c.era_style)) (counted_date (coptic_offset c.era_style) t)
+is_valid_kept (calendar.Ethiopian c) t =
+    is_valid_date (ethiopian_list (coptic_offset c.era_style)) (counted_date (coptic_offset c.era_style) t)
 is_valid_kept (calendar.Gregorian _) t = is_valid_date gregorian_list t
 is_valid_kept (calendar.Hebrew _) t = is_valid_date hebrew_list t
 is_valid_kept (calendar.HijriSimulated c) t =
@@ -161,11 +162,14 @@ abbrev pub keeps_given_year : AnyCalendar → AnyDateInner → Bool
 keeps_given_year (calendar.Hebrew _) d = keeps_hebrew_length d
 keeps_given_year (calendar.HijriSimulated c) d =
     has_parts_of (table_year (hijri_rows.years_of c.0.table.rows.now) (hijri_year d).extended_year) (hijri_year d)
-keeps_given_year (calendar.HijriTabular c) d = has_parts_of (tabular_year c.0 (hijri_year d).extended_year) (hijri_year d)
+keeps_given_year (calendar.HijriTabular c) d =
+    has_parts_of (tabular_year c.0 (hijri_year d).extended_year) (hijri_year d)
 keeps_given_year (calendar.HijriUmmAlQura c) d =
     has_parts_of (table_year (hijri_rows.years_of c.0.table.rows.now) (hijri_year d).extended_year) (hijri_year d)
-keeps_given_year (calendar.Chinese c) d = same_year (tables.table_year c.0.table (east_asian_year d).related_iso) (east_asian_year d)
-keeps_given_year (calendar.Dangi c) d = same_year (tables.table_year c.0.table (east_asian_year d).related_iso) (east_asian_year d)
+keeps_given_year (calendar.Chinese c) d =
+    same_year (tables.table_year c.0.table (east_asian_year d).related_iso) (east_asian_year d)
+keeps_given_year (calendar.Dangi c) d =
+    same_year (tables.table_year c.0.table (east_asian_year d).related_iso) (east_asian_year d)
 keeps_given_year _ d = true
 
 -- as it is kept, an inner date has a year that its calendar gives, and is a valid date
@@ -213,10 +217,11 @@ east_asian_rows_alike a b = pointwise same_year (east_asian_rows_of a) (east_asi
 -- what two calendars of a kind have to share, beside the kind, in the order of the kinds
 abbrev pub table_tests : List (AnyCalendar → AnyCalendar → Bool)
 table_tests =
-    always ∷ east_asian_rows_alike ∷ always ∷ east_asian_rows_alike ∷ always ∷ always ∷ always ∷ hijri_rows_alike ∷ rules_alike ∷ hijri_rows_alike ∷ always ∷ always ∷ always ∷ always ∷ always ∷ corrected_alike ∷ always ∷ []
+    always ∷ east_asian_rows_alike ∷ always ∷ east_asian_rows_alike ∷ always ∷ always ∷ always ∷ hijri_rows_alike
+    ∷ rules_alike ∷ hijri_rows_alike ∷ always ∷ always ∷ always ∷ always ∷ always ∷ corrected_alike ∷ always ∷ []
 
--- calendars of one kind are compatible where they share their rules and tables, also the two styles of the Ethiopian calendar, and Japanese
--- calendars with other eras
+-- calendars of one kind are compatible where they share their rules and tables,
+-- also the two styles of the Ethiopian calendar, and Japanese calendars with other eras
 abbrev pub any_compatible : AnyCalendar → AnyCalendar → Bool
 any_compatible = by_kind calendar_kind table_tests
 

@@ -4,7 +4,8 @@ use Rattle.cal_tables.specs.declared.tables.Tables.{Tables}
 use Rattle.cal_any.specs.declared.any_calendar.AnyCalendar.{AnyCalendar}
 use Rattle.cal_any.specs.declared.any_calendar.AnyCalendar.TheVariants as calendar
 
--- a calendar has the table of its kind; the simulation for Mecca has no rows, and calendars by rules alone have no table
+-- a calendar has the table of its kind; the simulation for Mecca has no rows,
+-- and calendars by rules alone have no table
 abbrev pub HoldsTable : AnyCalendar → Tables → Type 0
 HoldsTable (calendar.Chinese c) t = c.0.table ≡ t.china
 HoldsTable (calendar.Dangi c) t = c.0.table ≡ t.korea

@@ -1,2 +1,3 @@
 pub mod AnyLaws
 pub mod AnyOrderLaws
+pub mod ByKindLaws

@@ -23,7 +23,8 @@ pub record IsGivenDate {Y : Type 0} (years : CalendarYears Y) (d : Ymd Y) : Type
   pub year : IsGiven years d.year
   pub date : IsDate years.list (date_of years d)
 
--- a date belongs to a calendar: its year is one that the calendar gave, the calendar has the date, and its day number is in the valid range
+-- a date belongs to a calendar: its year is one that the calendar gave, the calendar has the date,
+-- and its day number is in the valid range
 pub record Belongs {Y : Type 0} (years : CalendarYears Y) (d : Ymd Y) : Type 0 where
   pub year : IsGiven years d.year
   pub date : IsDate years.list (date_of years d)

@@ -3,7 +3,9 @@ use Rattle.std.specs.Prelude.{◌≡◌, ℕ, ℤ}
 use Rattle.cal_days.specs.Day.{IsRuleYear}
 use Rattle.cal_model.specs.CalendarList.{CalendarList, HasPlace}
 
--- what a calendar's years are: the calendar as a list in extended years; the year of an extended year, and the extended year of a year; and what is added to an extended year to give the stored one
+-- what a calendar's years are: the calendar as a list in extended years;
+-- the year of an extended year, and the extended year of a year;
+-- and what is added to an extended year to give the stored one
 pub record CalendarYears (Y : Type 0) : Type 0 where
   pub list : CalendarList
   pub year_of : ℤ → Y

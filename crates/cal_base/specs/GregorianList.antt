@@ -21,13 +21,15 @@ gregorian_month_length leap i = (slice_index_or (gregorian_months leap) (i - 1) 
 abbrev pub gregorian_days_before : Bool → ℕ → ℕ
 gregorian_days_before leap i = sum_by days_of (take (i - 1) (gregorian_months leap))
 
--- the months of a year that begins on March 1 are counted from 3 to 14: 13 and 14 are January and February of the next year
+-- the months of a year that begins on March 1 are counted from 3 to 14:
+-- 13 and 14 are January and February of the next year
 abbrev pub march_month : ℕ → ℕ
 march_month m = if nat_le m 12 then m else m - 12
 
 -- the days from March 1 to the first day of such a month, which no leap day comes before
 abbrev pub march_days_before : ℕ → ℕ
-march_days_before m = if nat_le m 12 then gregorian_days_before false m - 59 else 306 + gregorian_days_before false (m - 12)
+march_days_before m =
+    if nat_le m 12 then gregorian_days_before false m - 59 else 306 + gregorian_days_before false (m - 12)
 
 -- the most days that such a month has
 abbrev pub march_month_most : ℕ → ℕ

@@ -6,4 +6,5 @@ use Rattle.cal_model.specs.CalendarList.{Date}
 
 -- the year of the one era is the extended year
 abbrev pub iso_era_year : Date → EraYear
-iso_era_year t = record { year = t.year; extended_year = t.year; era = codes "default"; era_index = Some 0; ambiguity = Unambiguous }
+iso_era_year t =
+    record { year = t.year; extended_year = t.year; era = codes "default"; era_index = Some 0; ambiguity = Unambiguous }

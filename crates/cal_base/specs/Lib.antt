@@ -1,10 +1,7 @@
 pub mod GregorianList
 pub mod PlainPlaces
-pub mod MarchMonths
 pub mod IsoSystem
 pub mod OwnYears
-pub mod NumberedYears
-pub mod Compatibility
 pub mod OffsetList
 pub mod IsoEra
 pub mod OffsetSystem

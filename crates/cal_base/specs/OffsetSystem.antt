@@ -14,7 +14,8 @@ use Rattle.cal_base.specs.declared.iso_year.PackedIsoYear.{PackedIsoYear}
 
 -- each month has ISO year 1972 as its reference year
 abbrev pub offset_names : ℤ → (List ℕ → ℤ → Option ℤ) → YearNames
-offset_names offset reads = record { reads = reads; reference = λ m _. reference_of_known (is_plain_month 12 m) (pos 1972 -ℤ offset) }
+offset_names offset reads =
+    record { reads = reads; reference = λ m _. reference_of_known (is_plain_month 12 m) (pos 1972 -ℤ offset) }
 
 -- no month is a leap month; adding tests its limit on the ISO year
 abbrev pub offset_system : ℤ → (List ℕ → ℤ → Option ℤ) → (Date → EraYear) → CalendarSystem

@@ -26,8 +26,10 @@ pub record IsSharedYear {Y : Type 0} (years other : CalendarYears Y) (y : Y) : T
   pub start : start_of_year other.list (other.extended y) ≡ start_of_year years.list (years.extended y)
   pub months : other.list.entries (other.extended y) ≡ years.list.entries (years.extended y)
 
--- the calendar of such years: how they are named otherwise; which are leap years; the name of a year; how a month stands to leap months, and the month by which it is formatted, given the month
-abbrev pub own_system : {Y : Type 0} → CalendarYears Y → YearNames → (ℤ → Bool) → (ℤ → YearInfo) → (ℤ → ℕ → LeapStatus) → (ℤ → ℕ → MonthParts → MonthParts) → CalendarSystem
+-- the calendar of such years: how they are named otherwise; which are leap years; the name of a year;
+-- how a month stands to leap months, and the month by which it is formatted, given the month
+abbrev pub own_system : {Y : Type 0} → CalendarYears Y → YearNames → (ℤ → Bool) → (ℤ → YearInfo) → (ℤ → ℕ → LeapStatus)
+    → (ℤ → ℕ → MonthParts → MonthParts) → CalendarSystem
 own_system years names is_leap_year year_named leap_status formatted_month = record {
   list = years.list;
   year_names = names;

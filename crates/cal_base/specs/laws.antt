@@ -3,3 +3,7 @@ pub mod GregorianLaws
 pub mod OwnYearLaws
 pub mod OffsetListLaws
 pub mod OffsetSystemLaws
+pub mod MarchMonths
+pub mod PlainPlaceLaws
+pub mod NumberedYears
+pub mod Compatibility

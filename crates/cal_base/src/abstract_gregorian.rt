@@ -167,8 +167,8 @@ impl<Y: GregorianYears> DateFieldsResolver for AbstractGregorian<Y> {
     ghost reference_of_kind = { λ s m d. reference_of_known-tested (is_plain_month 12 m) _ (pos 1972 -ℤ Y.offset s.0)
         ((offset_list-plain (Y.offset s.0)).kind m) };
 
-    ghost reference_of_leap_month = { λ s m d e. reference_of_known-stands (is_plain_month 12 m) (pos 1972 -ℤ Y.offset s.0)
-        e };
+    ghost reference_of_leap_month = { λ s m d e.
+        reference_of_known-stands (is_plain_month 12 m) (pos 1972 -ℤ Y.offset s.0) e };
 }
 
 impl<Y: GregorianYears> UnstableSealed for AbstractGregorian<Y> {}
@@ -177,7 +177,7 @@ impl<Y: GregorianYears> Calendar for AbstractGregorian<Y> {
     ghost use Rattle.std.specs.Prelude.{true, refl, Some};
     ghost use Rattle.std.proofs.Common.{ap};
     ghost use Rattle.cal_base.specs.OffsetSystem.{offset_system, offset_date, packed_belongs};
-    ghost use Rattle.cal_base.specs.Compatibility.{never_refused};
+    ghost use Rattle.cal_base.specs.laws.Compatibility.{never_refused};
     ghost use Rattle.cal_base.specs.laws.OffsetListLaws.{offset_list-lawful, offset_list-ranged, offset_list-shifted, offset_list-covered};
     ghost use Rattle.cal_base.specs.laws.OffsetSystemLaws.{packed-dated, packed-equal, packed-ordered, packed-shared};
 

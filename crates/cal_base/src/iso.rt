@@ -96,7 +96,7 @@ impl Calendar for Iso {
     ghost use Rattle.std.specs.Prelude.{pos, true, refl, codes, None, Some};
     ghost use Rattle.std.proofs.Common.{ap};
     ghost use Rattle.cal_base.specs.IsoSystem.{iso_system, iso_date, iso_belongs};
-    ghost use Rattle.cal_base.specs.Compatibility.{never_refused};
+    ghost use Rattle.cal_base.specs.laws.Compatibility.{never_refused};
     ghost use Rattle.cal_base.specs.laws.OffsetListLaws.{offset_list-lawful, offset_list-ranged, offset_list-shifted, offset_list-covered, true-offset};
     ghost use Rattle.cal_base.specs.laws.OffsetSystemLaws.{packed-dated, packed-equal, packed-ordered};
 

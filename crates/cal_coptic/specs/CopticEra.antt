@@ -6,4 +6,5 @@ use Rattle.cal_types.specs.declared.year.YearAmbiguity.TheVariants.{CenturyRequi
 
 -- the year of the one era is the extended year
 abbrev pub coptic_era_year : ℤ → EraYear
-coptic_era_year y = record { year = y; extended_year = y; era = codes "am"; era_index = Some 0; ambiguity = CenturyRequired }
+coptic_era_year y =
+    record { year = y; extended_year = y; era = codes "am"; era_index = Some 0; ambiguity = CenturyRequired }

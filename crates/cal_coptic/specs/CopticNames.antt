@@ -1,5 +1,7 @@
 -- What the one era of the Coptic calendar reads as, and its reference years.
--- Source: the era codes of CLDR (UTS 35). A reference year is the latest in which the day falls on or before 1972-12-31 of the ISO calendar, as ECMAScript Temporal's NonISOMonthDayToISOReferenceDate has it; that day is the 22nd of the fourth month of the Coptic year 1689.
+-- Source: the era codes of CLDR (UTS 35). A reference year is the latest in which the day falls on or before 1972-12-31
+-- of the ISO calendar, as ECMAScript Temporal's NonISOMonthDayToISOReferenceDate has it;
+-- that day is the 22nd of the fourth month of the Coptic year 1689.
 use Rattle.std.specs.Prelude.{ℕ, ℤ, pos, codes, ◌&&◌, ◌||◌, nat_eq, nat_le, if◌then◌else◌}
 use Rattle.cal_model.specs.Eras.{only_era_reads}
 use Rattle.cal_model.specs.PlainMonths.{is_plain_month}
@@ -14,4 +16,8 @@ coptic_reference_year month day =
 
 -- years are numbered from the Era of the Martyrs on, and before it
 abbrev pub coptic_names : YearNames
-coptic_names = record { reads = only_era_reads (codes "am"); reference = λ m d. reference_of_known (is_plain_month 13 m) (coptic_reference_year m.number d) }
+coptic_names =
+    record {
+      reads = only_era_reads (codes "am");
+      reference = λ m d. reference_of_known (is_plain_month 13 m) (coptic_reference_year m.number d);
+    }

@@ -13,7 +13,8 @@ use Rattle.cal_coptic.specs.declared.coptic.CopticDateInner.{CopticDateInner}
 
 -- no month is a leap month
 abbrev pub coptic_system : CalendarSystem
-coptic_system = own_system coptic_years coptic_names coptic_leap (λ y. Era (coptic_era_year y)) (λ _ _. Normal) (λ _ _ month. month)
+coptic_system =
+    own_system coptic_years coptic_names coptic_leap (λ y. Era (coptic_era_year y)) (λ _ _. Normal) (λ _ _ month. month)
 
 -- the date that an inner date stands for
 abbrev pub coptic_date : CopticDateInner → Date

@@ -8,7 +8,14 @@ use Rattle.cal_coptic.specs.declared.ethiopian.EthiopianEraStyle.TheVariants.{Am
 
 -- a year of the Era of the World
 abbrev pub world_era_year : ℤ → ℤ → EraYear
-world_era_year year extended_year = record { year = year; extended_year = extended_year; era = codes "aa"; era_index = Some 0; ambiguity = CenturyRequired }
+world_era_year year extended_year =
+    record {
+      year = year;
+      extended_year = extended_year;
+      era = codes "aa";
+      era_index = Some 0;
+      ambiguity = CenturyRequired;
+    }
 
 -- years before the Incarnation Era stand in the Era of the World, in which Amete Alem counts all years
 abbrev pub ethiopian_era_year : EthiopianEraStyle → ℤ → EraYear

@@ -9,7 +9,8 @@ use Rattle.cal_coptic.specs.declared.coptic_year.CopticYear.{CopticYear}
 use Rattle.cal_coptic.specs.declared.ethiopian.EthiopianEraStyle.{EthiopianEraStyle}
 use Rattle.cal_coptic.specs.declared.ethiopian.EthiopianEraStyle.TheVariants.{AmeteMihret, AmeteAlem}
 
--- the Coptic year less the extended year: Coptic year 1 is the year 277 of Amete Mihret, and the year 5777 of Amete Alem
+-- the Coptic year less the extended year: Coptic year 1 is the year 277 of Amete Mihret,
+-- and the year 5777 of Amete Alem
 abbrev pub coptic_offset : EthiopianEraStyle → ℤ
 coptic_offset AmeteMihret = neg_ℤ (pos 276)
 coptic_offset AmeteAlem = neg_ℤ (pos 5776)

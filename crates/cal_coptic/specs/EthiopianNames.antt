@@ -22,4 +22,9 @@ ethiopian_reads AmeteAlem era n = only_era_reads (codes "aa") era n
 
 -- the reference year of a day is that of the Coptic calendar
 abbrev pub ethiopian_names : EthiopianEraStyle → YearNames
-ethiopian_names style = record { reads = ethiopian_reads style; reference = λ m d. reference_of_known (is_plain_month 13 m) (coptic_reference_year m.number d -ℤ coptic_offset style) }
+ethiopian_names style =
+    record {
+      reads = ethiopian_reads style;
+      reference = λ m d.
+          reference_of_known (is_plain_month 13 m) (coptic_reference_year m.number d -ℤ coptic_offset style);
+    }

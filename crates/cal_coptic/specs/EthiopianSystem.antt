@@ -19,7 +19,9 @@ use Rattle.cal_coptic.specs.declared.ethiopian.EthiopianEraStyle.TheVariants.{Am
 -- no month is a leap month; adding tests its limit on the Coptic year
 abbrev pub ethiopian_system : EthiopianEraStyle → CalendarSystem
 ethiopian_system style =
-    own_system (ethiopian_years (coptic_offset style)) (ethiopian_names style) (λ y. coptic_leap (y +ℤ coptic_offset style)) (λ y. Era (ethiopian_era_year style y)) (λ _ _. Normal) (λ _ _ month. month)
+    own_system (ethiopian_years (coptic_offset style)) (ethiopian_names style)
+    (λ y. coptic_leap (y +ℤ coptic_offset style)) (λ y. Era (ethiopian_era_year style y)) (λ _ _. Normal)
+    (λ _ _ month. month)
 
 -- the date that an inner date stands for, in Coptic years
 abbrev pub kept_date : EthiopianDateInner → Date

@@ -171,7 +171,7 @@ impl DateFieldsResolver for Coptic {
 impl NamedYears for Coptic {
     ghost use Rattle.std.specs.Prelude.{refl};
     ghost use Rattle.cal_types.specs.declared.year.YearInfo.TheVariants.{Era};
-    ghost use Rattle.cal_base.specs.Compatibility.{all_alike};
+    ghost use Rattle.cal_base.specs.laws.Compatibility.{all_alike};
     ghost use Rattle.cal_days.specs.Coptic.{coptic_leap};
     ghost use Rattle.cal_coptic.specs.CopticEra.{coptic_era_year};
 
@@ -230,8 +230,8 @@ impl UnstableSealed for Coptic {}
 impl Calendar for Coptic {
     ghost use Rattle.std.specs.Prelude.{true, false, refl, codes, Some};
     ghost use Rattle.cal_algorithms.specs.declared.algorithm.CalendarAlgorithm.TheVariants.{Coptic as coptic};
-    ghost use Rattle.cal_base.specs.Compatibility.{never_refused};
-    ghost use Rattle.cal_base.specs.NumberedYears.{numbered_equal, numbered_ordered};
+    ghost use Rattle.cal_base.specs.laws.Compatibility.{never_refused};
+    ghost use Rattle.cal_base.specs.laws.NumberedYears.{numbered_equal, numbered_ordered};
     ghost use Rattle.cal_coptic.specs.CopticList.{coptic_list};
     ghost use Rattle.cal_coptic.specs.CopticSystem.{coptic_system, coptic_date, coptic_belongs};
     ghost use Rattle.cal_coptic.specs.laws.CopticLaws.{coptic_list-lawful, years-ranged, days-covered};

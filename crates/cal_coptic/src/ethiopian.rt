@@ -359,7 +359,7 @@ impl UnstableSealed for Ethiopian {}
 
 impl Calendar for Ethiopian {
     ghost use Rattle.std.specs.Prelude.{false, true, refl, Some};
-    ghost use Rattle.cal_base.specs.Compatibility.{never_refused};
+    ghost use Rattle.cal_base.specs.laws.Compatibility.{never_refused};
     ghost use Rattle.cal_coptic.specs.EthiopianList.{coptic_offset};
     ghost use Rattle.cal_coptic.specs.laws.EthiopianLaws.{ethiopian_list-lawful, ethiopian_year-named, coptic_offset-small};
     ghost use Rattle.cal_coptic.specs.EthiopianSystem.{ethiopian_algorithm, ethiopian_belongs, ethiopian_date, ethiopian_name, ethiopian_system};

@@ -1,4 +1,5 @@
--- Day numbers, the ranges that calls speak of, and tests of them. Day 1 is 0001-01-01 in the proleptic Gregorian calendar.
+-- Day numbers, the ranges that calls speak of, and tests of them.
+-- Day 1 is 0001-01-01 in the proleptic Gregorian calendar.
 use Rattle.std.specs.Prelude.{ℕ, Bool, ◌&&◌, nat_le, int_le, ℤ, pos, neg_ℤ, ◌≤ℤ◌}
 
 -- from low to high, both counted
@@ -13,7 +14,8 @@ is_between low high z = int_le low z && int_le z high
 abbrev pub IsHeld : ℤ → Type 0
 IsHeld n = IsBetween (neg_ℤ (pos 36028797018963968)) (pos 36028797018963967) n
 
--- the valid days: from -999999-01-01 to 999999-12-31 in the proleptic Gregorian calendar, which are all of its days whose year has at most six digits
+-- the valid days: from -999999-01-01 to 999999-12-31 in the proleptic Gregorian calendar,
+-- which are all of its days whose year has at most six digits
 abbrev pub IsValidDay : ℤ → Type 0
 IsValidDay n = IsBetween (neg_ℤ (pos 365242499)) (pos 365242134) n
 
@@ -21,7 +23,8 @@ IsValidDay n = IsBetween (neg_ℤ (pos 365242499)) (pos 365242134) n
 abbrev pub is_valid_day : ℤ → Bool
 is_valid_day n = is_between (neg_ℤ (pos 365242499)) (pos 365242134) n
 
--- the years that the fields of a date may name: 1000000 and a margin, so that in every calendar they go past the years of valid days, also where years have 354 days
+-- the years that the fields of a date may name: 1000000 and a margin,
+-- so that in every calendar they go past the years of valid days, also where years have 354 days
 abbrev pub IsFieldYear : ℤ → Type 0
 IsFieldYear y = IsBetween (neg_ℤ (pos 1040000)) (pos 1040000) y
 
@@ -36,14 +39,16 @@ IsConstructorYear y = IsBetween (neg_ℤ (pos 9999)) (pos 9999) y
 abbrev pub is_constructor_year : ℤ → Bool
 is_constructor_year y = is_between (neg_ℤ (pos 9999)) (pos 9999) y
 
--- the years whose days are valid in every calendar, and the test of one: so much less than 1000000 that it makes no difference where a calendar counts its years from, nor how long they are
+-- the years whose days are valid in every calendar, and the test of one:
+-- so much less than 1000000 that it makes no difference where a calendar counts its years from, nor how long they are
 abbrev pub IsCoveredYear : ℤ → Type 0
 IsCoveredYear y = IsBetween (neg_ℤ (pos 980000)) (pos 980000) y
 
 abbrev pub is_covered_year : ℤ → Bool
 is_covered_year y = is_between (neg_ℤ (pos 980000)) (pos 980000) y
 
--- the years that year rules are used for, and the test of one: a field year with the years between any two valid days added to it, and more
+-- the years that year rules are used for, and the test of one:
+-- a field year with the years between any two valid days added to it, and more
 abbrev pub IsRuleYear : ℤ → Type 0
 IsRuleYear y = IsBetween (neg_ℤ (pos 8000000)) (pos 8000000) y
 

@@ -1,4 +1,5 @@
--- The day of Easter of a year: the first Sunday after the ecclesiastical full moon, which is counted back from April 19.
+-- The day of Easter of a year: the first Sunday after the ecclesiastical full moon,
+-- which is counted back from April 19.
 -- Source: Reingold and Dershowitz, Calendrical Calculations, chapter 9. Below year 1 the formulas are carried on.
 use Rattle.std.specs.Prelude.{◌≡◌, ℕ, ◌+◌, ◌*◌, ◌%◌, Bool, ◌&&◌, ◌||◌, nat_eq, nat_lt, if◌then◌else◌, ℤ, pos, ◌+ℤ◌, ◌-ℤ◌, ◌*ℤ◌, ◌<ℤ◌, ◌≤ℤ◌}
 use Rattle.cal_days.specs.Division.{floor_div, floor_mod}
@@ -24,9 +25,11 @@ metonic_year y = floor_mod y 19
 abbrev pub century_of : ℤ → ℤ
 century_of y = floor_div y 100 +ℤ pos 1
 
--- the age of the moon, shifted so that it counts the days from the full moon to April 19: it falls behind with the leap days that centuries drop, and gains 8 days in 25 centuries
+-- the age of the moon, shifted so that it counts the days from the full moon to April 19:
+-- it falls behind with the leap days that centuries drop, and gains 8 days in 25 centuries
 abbrev pub gregorian_shifted_epact : ℕ → ℤ → ℕ
-gregorian_shifted_epact m c = floor_mod (pos (14 + 11 * m) -ℤ floor_div (pos 3 *ℤ c) 4 +ℤ floor_div (pos 5 +ℤ pos 8 *ℤ c) 25) 30
+gregorian_shifted_epact m c =
+    floor_mod (pos (14 + 11 * m) -ℤ floor_div (pos 3 *ℤ c) 4 +ℤ floor_div (pos 5 +ℤ pos 8 *ℤ c) 25) 30
 
 -- where the full moon comes a day earlier, so that it is on April 18 at the latest, and on no day twice in 19 years
 abbrev pub is_moon_earlier : ℕ → ℕ → Bool

@@ -18,6 +18,7 @@ leap_days_through y = floor_div y 4 -ℤ floor_div y 100 +ℤ floor_div y 400
 unfoldable pub gregorian_start : ℤ → ℤ
 gregorian_start y = pos 365 *ℤ (y -ℤ pos 1) +ℤ leap_days_through (y -ℤ pos 1) +ℤ pos 1
 
--- the day number of a year's March 1, which is 306 days before the next year; in a year that begins there a leap day comes last
+-- the day number of a year's March 1, which is 306 days before the next year;
+-- in a year that begins there a leap day comes last
 abbrev pub first_of_march : ℤ → ℤ
 first_of_march y = gregorian_start (y +ℤ pos 1) -ℤ pos 306

@@ -14,6 +14,7 @@ julian_year_length y = if julian_leap y then 366 else 365
 unfoldable pub julian_start : ℤ → ℤ
 julian_start y = pos 365 *ℤ (y -ℤ pos 1) +ℤ floor_div (y -ℤ pos 1) 4 -ℤ pos 1
 
--- the day number of a year's March 1, which is 306 days before the next year; in a year that begins there a leap day comes last
+-- the day number of a year's March 1, which is 306 days before the next year;
+-- in a year that begins there a leap day comes last
 abbrev pub julian_first_of_march : ℤ → ℤ
 julian_first_of_march y = julian_start (y +ℤ pos 1) -ℤ pos 306

@@ -11,6 +11,7 @@ unfoldable pub total : (ℤ → ℕ) → ℤ → ℕ → ℕ
 total size y zero = 0
 total size y (suc n) = total size y n + size (y +ℤ pos n)
 
--- what the years come to from `from` up to the one before `to`; where `to` is before `from`, those from `to` up to the one before `from` are taken away
+-- what the years come to from `from` up to the one before `to`;
+-- where `to` is before `from`, those from `to` up to the one before `from` are taken away
 unfoldable pub span : (ℤ → ℕ) → ℤ → ℤ → ℤ
 span size from to = pos (total size from (years_up (to -ℤ from))) -ℤ pos (total size to (years_up (from -ℤ to)))

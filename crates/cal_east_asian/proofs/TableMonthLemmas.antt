@@ -14,14 +14,15 @@ use Rattle.cal_rows.specs.Rows.{AreConsecutive}
 use Rattle.cal_rows.specs.laws.RowLaws.{number-at, row_below}
 use Rattle.cal_rows.specs.laws.RowPlaces.{by_year, chosen-row}
 use Rattle.cal_east_asian.specs.EastAsianYear.{months_of_year}
-use Rattle.cal_east_asian.specs.EastAsianYears.{rule_year-same}
+use Rattle.cal_east_asian.specs.laws.RuleYearLaws.{rule_year-same}
 use Rattle.cal_east_asian.specs.laws.EastAsianListLaws.{count-small}
 use Rattle.cal_east_asian.specs.laws.EastAsianStartLaws.{count-rule}
 use Rattle.cal_east_asian.specs.ComputedYears.{computed_parts, computed_month_count}
 use Rattle.cal_east_asian.specs.laws.ComputedLaws.{computed_year}
 use Rattle.cal_east_asian.specs.TableYears.{IsRow, number_of}
 use Rattle.cal_east_asian.specs.laws.TableYearLaws.{accepted-consecutive, accepted-few}
-use Rattle.cal_east_asian.specs.TableRules.{table_year, table_rows, table-years}
+use Rattle.cal_east_asian.specs.TableRules.{table_year, table_rows}
+use Rattle.cal_east_asian.specs.laws.TableRuleLaws.{table-years}
 use Rattle.cal_east_asian.specs.EastAsianRows.{row_year}
 use Rattle.cal_east_asian.specs.LeapRows.{is_leap_row, leap_rows}
 use Rattle.cal_east_asian.specs.TableMonths.{AreComputed, IsFirstNumber, table_list}

@@ -5,7 +5,7 @@ use Rattle.cal_model.specs.CalendarList.{Entry, CalendarList}
 use Rattle.cal_model.specs.PlainMonths.{numbered_month}
 use Rattle.cal_arith.specs.Given.{CalendarYears}
 use Rattle.cal_east_asian.specs.EastAsianMonths.{year_entries}
-use Rattle.cal_east_asian.specs.EastAsianYears.{rule_year}
+use Rattle.cal_east_asian.specs.RuleYears.{rule_year}
 use Rattle.cal_east_asian.specs.EastAsianPlaces.{is_east_asian_month}
 use Rattle.cal_east_asian.specs.declared.east_asian_traditional_year.EastAsianTraditionalYear.{EastAsianTraditionalYear}
 
@@ -13,7 +13,8 @@ use Rattle.cal_east_asian.specs.declared.east_asian_traditional_year.EastAsianTr
 abbrev pub entries_of : EastAsianTraditionalYear → List Entry
 entries_of year = year_entries year.leap_month year.long_months
 
--- each year with the months that the rules give, also past the rule years, where it has those of the last rule year; the plain month of the same number stands in for a leap month that a year lacks
+-- each year with the months that the rules give, also past the rule years, where it has those of the last rule year;
+-- the plain month of the same number stands in for a leap month that a year lacks
 unfoldable pub east_asian_list : (ℤ → EastAsianTraditionalYear) → CalendarList
 east_asian_list year_of = record {
   anchor_year = pos 1;

@@ -1,4 +1,5 @@
--- The months of a Chinese or Korean year by their places, in closed form: for a year whose leap month has the place p, or 0 without one.
+-- The months of a Chinese or Korean year by their places, in closed form: for a year whose leap month has the place p,
+-- or 0 without one.
 use Rattle.std.specs.Prelude.{ℕ, zero, suc, ◌+◌, ◌-◌, ◌/◌, ◌%◌, ◌^◌, Bool, ◌&&◌, ◌||◌, nat_eq, nat_le, nat_lt, if◌then◌else◌, Result, Ok, Err}
 use Rattle.cal_types.specs.Month.{MonthParts}
 use Rattle.cal_errors.specs.declared.errors.MonthError.{MonthError}

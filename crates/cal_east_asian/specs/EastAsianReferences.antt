@@ -1,4 +1,5 @@
--- The reference years of China and Korea: for each month, the year for days up to 26, the one for days up to 29, and the one for later days.
+-- The reference years of China and Korea: for each month, the year for days up to 26, the one for days up to 29,
+-- and the one for later days.
 -- Such years are those of ECMAScript Temporal's NonISOMonthDayToISOReferenceDate; the years of this table decide.
 use Rattle.std.specs.Prelude.{ℕ, ◌-◌, nat_le, if◌then◌else◌, List, [], ◌∷◌, get_or, Option, Some, None, ok_or, Result, Err, ℤ, pos}
 use Rattle.cal_types.specs.Month.{MonthParts}

@@ -1,33 +1,11 @@
 -- Rows of a table by plain numbers, and the years that they are.
-use Rattle.std.proofs.Common.{◌≡◌, ℕ, ◌≤◌, min, if◌then◌else◌, Bool, ◌&&◌, List, [], ◌∷◌, IsTrue, refl, ap, arith, ℤ, pos, ◌+ℤ◌}
+use Rattle.std.proofs.Common.{Bool, List}
 use Rattle.std.specs.Prelude.{map}
-use Rattle.std.specs.Cmp.Lexicographic.{pointwise}
-use Rattle.cal_days.proofs.Signed.{signed, by_bool}
-use Rattle.cal_east_asian.specs.EastAsianYear.{january_19, is_leap_place, IsEastAsianYear}
-use Rattle.cal_east_asian.specs.EastAsianYears.{rule_year, rule_year-rule}
 use Rattle.cal_east_asian.specs.SameYears.{same_year}
 use Rattle.cal_east_asian.specs.declared.east_asian_row.EastAsianRow.{EastAsianRow}
 use Rattle.cal_east_asian.specs.declared.east_asian_traditional_year.EastAsianTraditionalYear.{EastAsianTraditionalYear}
-
--- a place of the leap month; one that no year has is read as none
-abbrev pub place_or_none : ℕ → ℕ
-place_or_none p = if is_leap_place p then p else 0
-
-place-valid : (p : ℕ) → IsTrue (is_leap_place (place_or_none p))
-place-valid p = by_bool {P = IsTrue (is_leap_place (place_or_none p))} (is_leap_place p) (λ on. rw on on) (λ off. rw off refl)
-
--- the number, or the nearest one of a rule year
-abbrev pub row_number : EastAsianRow → ℤ
-row_number row = rule_year row.related_iso
-
--- the first day, counted from January 19; an offset above 34 is read as 34
-abbrev pub row_start : EastAsianRow → ℤ
-row_start row = january_19 (row_number row) +ℤ pos (min row.start_offset 34)
-
-pub row-valid : (row : EastAsianRow) → IsEastAsianYear (row_number row) (row_start row) (place_or_none row.leap_month)
-row-valid row =
-    let few : min row.start_offset 34 ≤ 34 = omega arith in
-    (rule_year-rule row.related_iso, ((omega (arith, signed), omega (arith, signed, few)), place-valid row.leap_month))
+pub use Rattle.cal_east_asian.specs.RowParts.{place_or_none, row_number, row_start}
+use Rattle.cal_east_asian.specs.laws.RowPartLaws.{row-valid}
 
 -- the year of a row
 abbrev pub row_year : EastAsianRow → EastAsianTraditionalYear
@@ -46,10 +24,3 @@ years_of rows = map row_year rows
 -- two rows are the same year
 abbrev pub is_same_row : EastAsianRow → EastAsianRow → Bool
 is_same_row a b = same_year (row_year a) (row_year b)
-
--- lists of rows are the same where their years are
-pub pointwise-years : (xs ys : List EastAsianRow) → pointwise is_same_row xs ys ≡ pointwise same_year (years_of xs) (years_of ys)
-pointwise-years [] [] = refl
-pointwise-years [] (y ∷ ys) = refl
-pointwise-years (x ∷ xs) [] = refl
-pointwise-years (x ∷ xs) (y ∷ ys) = ap (λ (b : Bool). same_year (row_year x) (row_year y) && b) (pointwise-years xs ys)

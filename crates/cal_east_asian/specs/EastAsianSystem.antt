@@ -1,5 +1,6 @@
 -- A Chinese or Korean calendar: its list, its years in the cycle of sixty, and what it says of its leap months.
--- Source: the reference years are those of ECMAScript Temporal's NonISOMonthDayToISOReferenceDate; the cycle is that of Reingold and Dershowitz, Calendrical Calculations, chapter 19.
+-- Source: the reference years are those of ECMAScript Temporal's NonISOMonthDayToISOReferenceDate;
+-- the cycle is that of Reingold and Dershowitz, Calendrical Calculations, chapter 19.
 use Rattle.std.specs.Prelude.{ℕ, ℤ, pos, ◌+◌, ◌-ℤ◌, Bool, ◌&&◌, nat_eq, None, Result, Err, if◌then◌else◌}
 use Rattle.cal_days.specs.Division.{floor_mod}
 use Rattle.cal_types.specs.Month.{MonthParts}
@@ -12,7 +13,7 @@ use Rattle.cal_model.specs.CalendarList.{Date, date, month_count, is_valid_date}
 use Rattle.cal_model.specs.CalendarSystem.{CalendarSystem}
 use Rattle.cal_model.specs.YearNames.{YearNames}
 use Rattle.cal_base.specs.OwnYears.{own_system}
-use Rattle.cal_east_asian.specs.EastAsianYears.{rule_year}
+use Rattle.cal_east_asian.specs.RuleYears.{rule_year}
 use Rattle.cal_east_asian.specs.EastAsianPlaces.{is_east_asian_month, leap_status_of_place}
 use Rattle.cal_east_asian.specs.EastAsianList.{east_asian_list, east_asian_years}
 use Rattle.cal_east_asian.specs.PackedYears.{packed_year}
@@ -39,8 +40,11 @@ east_asian_names reference = record {
   reference = λ m d. if is_east_asian_month m then reference m d else Err MonthNotInCalendar;
 }
 
-abbrev pub east_asian_system : (ℤ → EastAsianTraditionalYear) → (MonthParts → ℕ → Result ℤ EcmaReferenceYearError) → CalendarSystem
-east_asian_system year_of reference = own_system (east_asian_years year_of) (east_asian_names reference) (east_asian_leap year_of) (λ y. Cyclic (cyclic_year y)) (east_asian_leap_status year_of) (λ y i month. month)
+abbrev pub east_asian_system : (ℤ → EastAsianTraditionalYear) → (MonthParts → ℕ → Result ℤ EcmaReferenceYearError)
+    → CalendarSystem
+east_asian_system year_of reference =
+    own_system (east_asian_years year_of) (east_asian_names reference) (east_asian_leap year_of)
+    (λ y. Cyclic (cyclic_year y)) (east_asian_leap_status year_of) (λ y i month. month)
 
 -- the date that a packed date stands for
 abbrev pub packed_date : PackedEastAsianDate → Date
@@ -48,4 +52,5 @@ packed_date p = date p.related_iso p.month p.day
 
 -- its year is the rules' year of its number, it is a date of the list, and its day number is in the valid range
 abbrev pub east_asian_belongs : (ℤ → EastAsianTraditionalYear) → PackedEastAsianDate → Bool
-east_asian_belongs year_of p = same_year (year_of p.related_iso) (packed_year p) && is_valid_date (east_asian_list year_of) (packed_date p)
+east_asian_belongs year_of p =
+    same_year (year_of p.related_iso) (packed_year p) && is_valid_date (east_asian_list year_of) (packed_date p)

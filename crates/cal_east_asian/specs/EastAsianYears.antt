@@ -1,12 +1,13 @@
 -- Years of a Chinese or Korean calendar one after another, and what holds of all of them together.
-use Rattle.std.proofs.Common.{◌≡◌, ℕ, false, Bool, not, ◌||◌, nat_eq, int_lt, if◌then◌else◌, refl, arith, ℤ, pos, neg_ℤ, ◌+ℤ◌, ◌-ℤ◌}
+use Rattle.std.proofs.Common.{◌≡◌, ℕ, Bool, not, ◌||◌, nat_eq, ℤ, pos, ◌+ℤ◌, ◌-ℤ◌}
 use Rattle.std.specs.Prelude.{IsTrue, sum_by}
 use Rattle.cal_days.specs.Day.{IsRuleYear}
-use Rattle.cal_days.proofs.Signed.{signed, by_bool}
 use Rattle.cal_model.specs.CalendarList.{days_of}
 use Rattle.cal_east_asian.specs.EastAsianYear.{IsEastAsianYear}
 use Rattle.cal_east_asian.specs.EastAsianMonths.{year_entries}
 use Rattle.cal_east_asian.specs.declared.east_asian_traditional_year.EastAsianTraditionalYear.{EastAsianTraditionalYear}
+pub use Rattle.cal_east_asian.specs.RuleYears.{rule_year}
+use Rattle.cal_east_asian.specs.laws.RuleYearLaws.{rule_year-rule}
 
 -- a year's first day, a bit for each month of 30 days, the first month's lowest, and the place of its leap month, or 0
 pub record YearParts : Type 0 where
@@ -40,24 +41,6 @@ pub record AreYears (year_of : ℤ → EastAsianTraditionalYear) : Type 0 where
   pub joins : (y : ℤ) → IsRuleYear y → IsRuleYear (y +ℤ pos 1) → (year_of (y +ℤ pos 1)).new_year ≡ end_day (year_of y)
   pub leaps : (y : ℤ) → IsRuleYear (y -ℤ pos 2) → IsRuleYear y → IsTrue (leap_in_three (λ z. parts_of (year_of z)) y)
 
--- the nearest year that year rules are used for
-abbrev pub rule_year : ℤ → ℤ
-rule_year y = if int_lt y (neg_ℤ (pos 8000000)) then neg_ℤ (pos 8000000) else (if int_lt (pos 8000000) y then pos 8000000 else y)
-
-pub rule_year-rule : (y : ℤ) → IsRuleYear (rule_year y)
-rule_year-rule y =
-    by_bool {P = IsRuleYear (rule_year y)} (int_lt y (neg_ℤ (pos 8000000)))
-    (λ low. rw low (omega (arith, signed), omega (arith, signed)))
-    (λ other. by_bool {P = IsRuleYear (rule_year y)} (int_lt (pos 8000000) y)
-    (λ high. rw (other, high) (omega (arith, signed), omega (arith, signed)))
-    (λ in_range. rw (other, in_range) (omega (arith, signed), omega (arith, signed))))
-
-pub rule_year-same : (y : ℤ) → IsRuleYear y → rule_year y ≡ y
-rule_year-same y rule =
-    let low : int_lt y (neg_ℤ (pos 8000000)) ≡ false = by_bool {P = int_lt y (neg_ℤ (pos 8000000)) ≡ false} (int_lt y (neg_ℤ (pos 8000000))) (λ on. absurd (omega (arith, signed))) (λ off. off) in
-    let high : int_lt (pos 8000000) y ≡ false = by_bool {P = int_lt (pos 8000000) y ≡ false} (int_lt (pos 8000000) y) (λ on. absurd (omega (arith, signed))) (λ off. off) in
-    rw (low, high) refl
-
 -- parts for each number are those of a year
 abbrev pub AreValid : (ℤ → YearParts) → Type 0
 AreValid parts = (y : ℤ) → IsRuleYear y → IsEastAsianYear y (parts y).new_year (parts y).leap_month
@@ -70,14 +53,4 @@ year_from parts valid y = record {
   long_months = (parts (rule_year y)).long_months;
   leap_month = (parts (rule_year y)).leap_month;
   valid = valid (rule_year y) (rule_year-rule y);
-}
-
--- where parts join and have leap months, so do the years
-pub years-from : (parts : ℤ → YearParts) (valid : AreValid parts) → ((y : ℤ) → (parts (y +ℤ pos 1)).new_year ≡ end_of (parts y)) → ((y : ℤ) → IsTrue (leap_in_three parts y)) → AreYears (year_from parts valid)
-years-from parts valid joined leaps = record {
-  numbered = rule_year-same;
-  joins = λ y rule next. rw (rule_year-same (y +ℤ pos 1) next, rule_year-same y rule) (joined y);
-  leaps = λ y first rule.
-      let between : IsRuleYear (y -ℤ pos 1) = (omega (arith, signed, first, rule), omega (arith, signed, first, rule)) in
-      rw (rule_year-same y rule, rule_year-same (y -ℤ pos 1) between, rule_year-same (y -ℤ pos 2) first) (leaps y);
 }

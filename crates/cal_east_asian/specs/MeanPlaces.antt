@@ -2,7 +2,9 @@
 use Rattle.std.specs.Prelude.{ℕ, zero, suc, ◌+◌, ◌*◌, ◌/◌, ◌%◌, Bool, nat_lt, Option, Some, None}
 use Rattle.cal_east_asian.specs.MeanYears.{least}
 
--- Month j ends on the day of its term or before. Months are counted from the one that a year begins with, which is month 0; its term lies time milliseconds after the start of a day, and its end lies lead milliseconds after its term
+-- Month j ends on the day of its term or before. Months are counted from the one that a year begins with,
+-- which is month 0; its term lies time milliseconds after the start of a day,
+-- and its end lies lead milliseconds after its term
 abbrev pub ends_by_term : ℕ → ℕ → ℕ → Bool
 ends_by_term lead time j = nat_lt (lead + (time + 37746000 * j) % 86400000) (86400000 + 78303124 * j)
 

@@ -1,4 +1,5 @@
--- Mean lunisolar years of China and Korea: months begin on the day of a mean new moon, and mean solar terms give them their numbers. Moments are milliseconds, counted from the start of day 0.
+-- Mean lunisolar years of China and Korea: months begin on the day of a mean new moon,
+-- and mean solar terms give them their numbers. Moments are milliseconds, counted from the start of day 0.
 use Rattle.std.specs.Prelude.{◌≡◌, ℕ, zero, suc, ◌+◌, ◌-◌, ◌*◌, ◌<◌, ◌≤◌, ◌⊎◌, ◌↔◌, Bool, false, if◌then◌else◌, List, [], ◌∷◌, length, slice_index_or, nat_eq, nat_lt, nat_le, int_le, unsigned_abs, Option, Some, None, ℤ, pos, neg_ℤ, ◌+ℤ◌, ◌-ℤ◌, ◌*ℤ◌, ◌≤ℤ◌}
 use Rattle.cal_days.specs.Division.{floor_div}
 use Rattle.cal_types.specs.Month.{MonthParts}
@@ -14,7 +15,8 @@ moon offset k = pos (730125 * 86400000 + 65640000) +ℤ offset +ℤ pos 25514428
 
 -- mean solar term j of year y; term 0 is the mean winter solstice, in the December before y
 unfoldable pub term : ℤ → ℤ → ℕ → ℤ
-term offset y j = pos (730110 * 86400000 + 27840000) +ℤ offset +ℤ pos 31556952000 *ℤ (y -ℤ pos 2000) +ℤ pos (2629746000 * j)
+term offset y j =
+    pos (730110 * 86400000 + 27840000) +ℤ offset +ℤ pos 31556952000 *ℤ (y -ℤ pos 2000) +ℤ pos (2629746000 * j)
 
 -- k is the greatest moon whose day is at most d
 abbrev pub IsLastMoon : ℤ → ℤ → ℤ → Type 0
@@ -45,7 +47,8 @@ least test i (suc n) = if test i then Some i else least test (i + 1) n
 unfoldable pub leap_month : ℤ → ℤ → Option ℕ
 leap_month offset y = least (lacks_term offset y) 0 15
 
--- the year has the months of the terms 2 to 13. Where the leap month is at most month 2, it belongs to the year before, and the month of term 2 is month 3
+-- the year has the months of the terms 2 to 13. Where the leap month is at most month 2, it belongs to the year before,
+-- and the month of term 2 is month 3
 abbrev pub first_month : Option ℕ → ℕ
 first_month None = 2
 first_month (Some g) = if nat_le g 2 then 3 else 2
@@ -55,13 +58,18 @@ abbrev pub end_month : Option ℕ → ℕ
 end_month None = 14
 end_month (Some g) = 15
 
--- before the leap month, month i has term i, and after it term i - 1. The month of term t is plain month t - 1, and the leap month has the number of the month before it
+-- before the leap month, month i has term i, and after it term i - 1.
+-- The month of term t is plain month t - 1, and the leap month has the number of the month before it
 abbrev pub name_of : Option ℕ → ℕ → MonthParts
 name_of None i = record { number = i - 1; is_leap = false }
 name_of (Some g) i = record { number = if nat_lt i g then i - 1 else i - 2; is_leap = nat_eq i g }
 
 abbrev pub mean_entry : ℤ → ℤ → ℕ → Entry
-mean_entry offset y i = record { month = name_of (leap_month offset y) i; days = unsigned_abs (month_start offset y (i + 1) -ℤ month_start offset y i) }
+mean_entry offset y i =
+    record {
+      month = name_of (leap_month offset y) i;
+      days = unsigned_abs (month_start offset y (i + 1) -ℤ month_start offset y i);
+    }
 
 -- n months from month i
 abbrev pub entries_from : ℤ → ℤ → ℕ → ℕ → List Entry
@@ -70,7 +78,8 @@ entries_from offset y i (suc n) = mean_entry offset y i ∷ entries_from offset 
 
 -- the months of the year
 unfoldable pub mean_months : ℤ → ℤ → List Entry
-mean_months offset y = let g = leap_month offset y in entries_from offset y (first_month g) (end_month g - first_month g)
+mean_months offset y =
+    let g = leap_month offset y in entries_from offset y (first_month g) (end_month g - first_month g)
 
 -- the first day of the year
 unfoldable pub new_year : ℤ → ℤ → ℤ
@@ -88,14 +97,16 @@ month_total offset y = length (mean_months offset y)
 abbrev pub months_of_three : ℤ → ℤ → ℕ
 months_of_three offset y = month_total offset y + month_total offset (y +ℤ pos 1) + month_total offset (y +ℤ pos 2)
 
--- the winter solstice before the year falls in the month from which its months are counted: no later moon's day is at most the solstice's
+-- the winter solstice before the year falls in the month from which its months are counted:
+-- no later moon's day is at most the solstice's
 abbrev pub HasSolsticeMoon : ℤ → ℤ → Type 0
 HasSolsticeMoon offset y = IsLastMoon offset (day (term offset y 0)) (solstice_moon offset y)
 
 -- 12 or 13 months of 29 or 30 days
 pub record AreMonths (months : List Entry) : Type 0 where
   pub count : (length months ≡ 12) ⊎ (length months ≡ 13)
-  pub lengths : (i : ℕ) → i < length months → (29 ≤ (slice_index_or months i no_entry).days) × ((slice_index_or months i no_entry).days ≤ 30)
+  pub lengths : (i : ℕ) → i < length months
+      → (29 ≤ (slice_index_or months i no_entry).days) × ((slice_index_or months i no_entry).days ≤ 30)
 
 -- the offsets that years are computed at: from that of Beijing's mean time to that of Korea's standard time
 abbrev pub IsOffset : ℤ → Type 0

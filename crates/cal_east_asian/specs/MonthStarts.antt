@@ -14,7 +14,8 @@ days_between starts i = start_at starts i -ℤ start_at starts (i - 1)
 
 -- each month after one place up to another has 29 or 30 days
 abbrev pub HaveMonthLengths : List ℤ → ℕ → ℕ → Type 0
-HaveMonthLengths starts after last = (i : ℕ) → after + 1 ≤ i → i ≤ last → IsBetween (pos 29) (pos 30) (days_between starts i)
+HaveMonthLengths starts after last =
+    (i : ℕ) → after + 1 ≤ i → i ≤ last → IsBetween (pos 29) (pos 30) (days_between starts i)
 
 -- the months of a year have the days that lie between the starts
 abbrev pub HaveLengthsOf : List ℤ → ℕ → ℕ → Type 0

@@ -45,7 +45,12 @@ IsQingNumber y = IsBetween (pos 1900) (pos 1911) y
 
 -- a year as a row
 abbrev pub row_by_parts : YearParts → QingRow
-row_by_parts parts = record { first_day = parts.new_year; lengths = map days_of (year_entries parts.leap_month parts.long_months); leap_month = parts.leap_month }
+row_by_parts parts =
+    record {
+      first_day = parts.new_year;
+      lengths = map days_of (year_entries parts.leap_month parts.long_months);
+      leap_month = parts.leap_month;
+    }
 
 -- the year of a number, with the row of that number
 pub record IsQingYear (y : ℤ) (year : EastAsianTraditionalYear) : Type 0 where

@@ -45,15 +45,20 @@ leap_by_years year_of y = leap_in_three (λ z. parts_of (year_of z)) y
 abbrev pub leaps_after : (ℤ → EastAsianTraditionalYear) → EastAsianTraditionalYear → Bool
 leaps_after years row = leap_by_years years (row.related_iso +ℤ pos 1) && leap_by_years years (row.related_iso +ℤ pos 2)
 
--- whether row i of a table meets a part; `year_of` gives the computed years, which stand where there is no row. No rule picks the rows
-abbrev pub meets : (ℤ → EastAsianTraditionalYear) → List EastAsianTraditionalYear → ℕ → EastAsianTraditionalYear → TablePart → Bool
+-- whether row i of a table meets a part; `year_of` gives the computed years, which stand where there is no row.
+-- No rule picks the rows
+abbrev pub meets : (ℤ → EastAsianTraditionalYear) → List EastAsianTraditionalYear → ℕ → EastAsianTraditionalYear
+    → TablePart → Bool
 meets year_of rows i row Year = is_next (row_before rows i) row && int_le row.related_iso (pos 9999)
 meets year_of rows i row Join = joins year_of (row_before rows i) row
 meets year_of rows i row End = nat_lt (i + 1) (length rows) || ends year_of row
-meets year_of rows i row Leap = leap_by_years (chosen_year year_of rows) row.related_iso && (nat_lt (i + 1) (length rows) || leaps_after (chosen_year year_of rows) row)
+meets year_of rows i row Leap =
+    leap_by_years (chosen_year year_of rows) row.related_iso
+    && (nat_lt (i + 1) (length rows) || leaps_after (chosen_year year_of rows) row)
 meets year_of rows i row Rule = true
 
-abbrev pub MeetsAll : (ℤ → EastAsianTraditionalYear) → List EastAsianTraditionalYear → ℕ → EastAsianTraditionalYear → Type 0
+abbrev pub MeetsAll : (ℤ → EastAsianTraditionalYear) → List EastAsianTraditionalYear → ℕ → EastAsianTraditionalYear
+    → Type 0
 MeetsAll year_of rows i row = faults.MeetsAll (meets year_of rows i row)
 
 -- a table is accepted where each row meets each part
@@ -61,7 +66,8 @@ abbrev pub IsAccepted : (ℤ → EastAsianTraditionalYear) → List EastAsianTra
 IsAccepted year_of rows = faults.IsAccepted (meets year_of rows) rows
 
 -- the first part of row i that breaks
-abbrev pub IsFirstBroken : (ℤ → EastAsianTraditionalYear) → List EastAsianTraditionalYear → ℕ → EastAsianTraditionalYear → TablePart → Type 0
+abbrev pub IsFirstBroken : (ℤ → EastAsianTraditionalYear) → List EastAsianTraditionalYear → ℕ → EastAsianTraditionalYear
+    → TablePart → Type 0
 IsFirstBroken year_of rows i row = faults.IsFirstBroken (meets year_of rows i row)
 
 -- a fault names the first row, counted from 1, that breaks a part, and its first part that breaks

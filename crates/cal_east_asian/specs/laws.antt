@@ -14,3 +14,11 @@ pub mod QingLaws
 pub mod ComputedLaws
 pub mod TableYearLaws
 pub mod RuleLaws
+pub mod RuleYearLaws
+pub mod EastAsianYearLaws
+pub mod SameParts
+pub mod RowPartLaws
+pub mod EastAsianRowLaws
+pub mod MeanPartLaws
+pub mod MeanTraditionalLaws
+pub mod TableRuleLaws

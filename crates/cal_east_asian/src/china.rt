@@ -62,7 +62,8 @@ impl<'t> Rules for China<'t> {
     ghost use Rattle.std.proofs.Common.{sym, ◌∙◌};
     ghost use Rattle.cal_algorithms.specs.declared.algorithm.CalendarAlgorithm.TheVariants as algorithms;
     ghost use Rattle.cal_east_asian.specs.EastAsianReferences.{side_reference};
-    ghost use Rattle.cal_east_asian.specs.TableRules.{table_year, have_same_rows as same_rows, table-years, rows-alike, same_rows-years, side_reference-in_range, side_reference-of_kind, side_reference-of_leap_month};
+    ghost use Rattle.cal_east_asian.specs.TableRules.{table_year, have_same_rows as same_rows};
+    ghost use Rattle.cal_east_asian.specs.laws.TableRuleLaws.{table-years, rows-alike, same_rows-years, side_reference-in_range, side_reference-of_kind, side_reference-of_leap_month};
 
     type DateCompatibilityError = MismatchedCalendarError;
 

@@ -2,9 +2,10 @@
 
 ghost use Rattle.std.specs.Prelude.{◌≡◌, IsTrue};
 ghost use Rattle.cal_days.specs.Day.{IsRuleYear};
-ghost use Rattle.cal_east_asian.specs.EastAsianRows.{place_or_none, row_year};
+ghost use Rattle.cal_east_asian.specs.RowParts.{place_or_none};
+ghost use Rattle.cal_east_asian.specs.EastAsianRows.{row_year};
 ghost use Rattle.cal_east_asian.specs.EastAsianYear.{is_leap_place};
-ghost use Rattle.cal_east_asian.specs.EastAsianYears.{rule_year};
+ghost use Rattle.cal_east_asian.specs.RuleYears.{rule_year};
 
 use crate::east_asian_traditional_year::EastAsianTraditionalYear;
 use cal_days::gregorian;

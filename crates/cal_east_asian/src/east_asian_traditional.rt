@@ -251,7 +251,7 @@ impl<R: Rules> UnstableSealed for EastAsianTraditional<R> {}
 impl<R: Rules> Calendar for EastAsianTraditional<R> {
     ghost use Rattle.std.specs.Prelude.{false, refl};
     ghost use Rattle.std.proofs.Common.{sym, ◌∙◌};
-    ghost use Rattle.cal_base.specs.NumberedYears.{numbered_equal, numbered_ordered};
+    ghost use Rattle.cal_base.specs.laws.NumberedYears.{numbered_equal, numbered_ordered};
     ghost use Rattle.cal_east_asian.specs.EastAsianList.{east_asian_list};
     ghost use Rattle.cal_east_asian.specs.laws.EastAsianListLaws.{east_asian_list-lawful};
     ghost use Rattle.cal_east_asian.specs.EastAsianSystem.{east_asian_system, packed_date, east_asian_belongs};

@@ -12,7 +12,8 @@ ghost use Rattle.cal_days.specs.Day.{IsBetween, IsRuleYear, IsValidDay};
 ghost use Rattle.cal_east_asian.specs.MeanYears as mean;
 ghost use Rattle.cal_east_asian.specs.MeanYears.{AreMonths, HasSolsticeMoon, IsOffset, months_of_three};
 ghost use Rattle.cal_east_asian.specs.MeanPlaces.{ends_by_term, month_bits, place_from};
-ghost use Rattle.cal_east_asian.specs.MeanTraditionalYears.{IsMeanYear, mean_parts, mean_traditional_year};
+ghost use Rattle.cal_east_asian.specs.MeanTraditionalYears.{IsMeanYear, mean_traditional_year};
+ghost use Rattle.cal_east_asian.specs.MeanParts.{mean_parts};
 ghost use Rattle.cal_east_asian.specs.EastAsianYear.{IsNewYear, months_of_year};
 ghost use Rattle.cal_east_asian.specs.EastAsianYears.{end_day, parts_of};
 

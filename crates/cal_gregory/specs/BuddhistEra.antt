@@ -10,4 +10,5 @@ buddhist_offset = neg_ℤ (pos 543)
 
 -- the year of the one era is the extended year
 abbrev pub buddhist_era_year : ℤ → EraYear
-buddhist_era_year y = record { year = y; extended_year = y; era = codes "be"; era_index = Some 0; ambiguity = CenturyRequired }
+buddhist_era_year y =
+    record { year = y; extended_year = y; era = codes "be"; era_index = Some 0; ambiguity = CenturyRequired }

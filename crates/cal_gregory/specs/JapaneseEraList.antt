@@ -1,4 +1,5 @@
--- The eras of the Japanese calendar, as a list: the date on which each starts, its code, and its index among the calendar's eras.
+-- The eras of the Japanese calendar, as a list: the date on which each starts, its code,
+-- and its index among the calendar's eras.
 -- Source: the era codes and the starts of CLDR (UTS 35).
 use Rattle.std.specs.Prelude.{ℕ, ℤ, pos, ◌+ℤ◌, ◌-ℤ◌, Bool, ◌&&◌, int_lt, List, [], ◌∷◌, codes, Option, Some, None, if◌then◌else◌}
 use Rattle.std.specs.Ordering.{is_le}
@@ -61,9 +62,11 @@ abbrev pub is_early_meiji : ListedEra → ℤ → Bool
 is_early_meiji e y = is_code e.1 (codes "meiji") && int_lt (number_in_era e y) (pos 6)
 
 abbrev pub year_in_listed_era : ListedEra → ℤ → EraYear
-year_in_listed_era e y = record { year = number_in_era e y; extended_year = y; era = e.1; era_index = Some e.2; ambiguity = CenturyRequired }
+year_in_listed_era e y =
+    record { year = number_in_era e y; extended_year = y; era = e.1; era_index = Some e.2; ambiguity = CenturyRequired }
 
--- a year is printed in the era that is given, but in those of the Gregorian calendar where there is none and in the first years of Meiji
+-- a year is printed in the era that is given, but in those of the Gregorian calendar where there is none and in the
+-- first years of Meiji
 abbrev pub year_printed : Option ListedEra → ℤ → EraYear
 year_printed None y = common_era_year y
 year_printed (Some e) y = if is_early_meiji e y then common_era_year y else year_in_listed_era e y

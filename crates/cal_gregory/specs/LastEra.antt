@@ -7,7 +7,9 @@ use Rattle.cal_gregory.specs.declared.era_start_date.EraStartDate.{EraStartDate}
 
 -- a start from 2026 to 2089, in a month from 1 to 15, on a day from 1 to 31
 abbrev pub is_last_start : EraStartDate → Bool
-is_last_start start = is_between (pos 2026) (pos 2089) start.year && (nat_le 1 start.month && nat_le start.month 15) && (nat_le 1 start.day && nat_le start.day 31)
+is_last_start start =
+    is_between (pos 2026) (pos 2089) start.year && (nat_le 1 start.month && nat_le start.month 15)
+    && (nat_le 1 start.day && nat_le start.day 31)
 
 -- a letter from `a` to `z`
 abbrev pub is_code_letter : ℕ → Bool
@@ -36,4 +38,5 @@ eras_and (Some e) = Some (eras_up_to_reiwa (e ∷ []))
 
 -- an era that starts before 2026 isn't a last one: then the eras up to Reiwa are listed, whatever it is
 abbrev pub eras_with_last : EraStartDate → List ℕ → ℕ → Option (List ListedEra)
-eras_with_last start code index = if int_lt start.year (pos 2026) then Some (eras_up_to_reiwa []) else eras_and (last_listed start code index)
+eras_with_last start code index =
+    if int_lt start.year (pos 2026) then Some (eras_up_to_reiwa []) else eras_and (last_listed start code index)

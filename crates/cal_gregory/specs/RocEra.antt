@@ -17,5 +17,11 @@ roc_reads era n = year_in_era (is_code era (codes "roc")) n (year_in_era (is_cod
 abbrev pub roc_era_year : ℤ → EraYear
 roc_era_year y =
     if int_lt y (pos 1)
-    then record { year = pos 1 -ℤ y; extended_year = y; era = codes "broc"; era_index = Some 0; ambiguity = EraAndCenturyRequired }
+    then record {
+      year = pos 1 -ℤ y;
+      extended_year = y;
+      era = codes "broc";
+      era_index = Some 0;
+      ambiguity = EraAndCenturyRequired;
+    }
     else record { year = y; extended_year = y; era = codes "roc"; era_index = Some 1; ambiguity = CenturyRequired }

@@ -1,4 +1,5 @@
--- The calendar of the Republic of China: the Gregorian list, counted from ISO year 1911, with the eras `roc` and `broc`.
+-- The calendar of the Republic of China: the Gregorian list, counted from ISO year 1911,
+-- with the eras `roc` and `broc`.
 use Rattle.std.specs.Prelude.{Bool}
 use Rattle.cal_model.specs.CalendarList.{Date}
 use Rattle.cal_model.specs.CalendarSystem.{CalendarSystem}

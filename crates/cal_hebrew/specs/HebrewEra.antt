@@ -6,4 +6,5 @@ use Rattle.cal_types.specs.declared.year.YearAmbiguity.TheVariants.{CenturyRequi
 
 -- the years are numbered as the extended years, also before year 1
 abbrev pub hebrew_era_year : ℤ → EraYear
-hebrew_era_year y = record { year = y; extended_year = y; era = codes "am"; era_index = Some 0; ambiguity = CenturyRequired }
+hebrew_era_year y =
+    record { year = y; extended_year = y; era = codes "am"; era_index = Some 0; ambiguity = CenturyRequired }

@@ -1,5 +1,6 @@
 -- The Hebrew calendar as a list of years.
--- Source: Reingold and Dershowitz, Calendrical Calculations, chapter 8; the month codes are those of ECMAScript Temporal.
+-- Source: Reingold and Dershowitz, Calendrical Calculations, chapter 8;
+-- the month codes are those of ECMAScript Temporal.
 use Rattle.std.specs.Prelude.{ℕ, Bool, true, ◌&&◌, ◌||◌, ◌==◌, nat_le, if◌then◌else◌, List, [], ◌∷◌, ◌++◌, pos, neg_ℤ}
 use Rattle.cal_days.specs.Hebrew.{hebrew_leap, hebrew_year_length}
 use Rattle.cal_types.specs.Month.{MonthParts}

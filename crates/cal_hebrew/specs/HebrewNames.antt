@@ -1,12 +1,16 @@
 -- What the era of the Hebrew calendar reads as, and its reference years.
--- Source: the era codes of CLDR (UTS 35). A reference year is the latest in which the day falls on or before 1972-12-31 of the ISO calendar, as ECMAScript Temporal's NonISOMonthDayToISOReferenceDate has it; that day is the 26th of the month 4 of 5733.
+-- Source: the era codes of CLDR (UTS 35). A reference year is the latest in which the day falls on or before 1972-12-31
+-- of the ISO calendar, as ECMAScript Temporal's NonISOMonthDayToISOReferenceDate has it;
+-- that day is the 26th of the month 4 of 5733.
 use Rattle.std.specs.Prelude.{ℕ, ℤ, pos, codes, ◌||◌, nat_eq, nat_lt, if◌then◌else◌}
 use Rattle.cal_types.specs.Month.{MonthParts}
 use Rattle.cal_model.specs.Eras.{only_era_reads}
 use Rattle.cal_model.specs.YearNames.{YearNames, reference_of_known}
 use Rattle.cal_hebrew.specs.HebrewList.{is_hebrew_month}
 
--- the leap month: 5730, the last leap year that far; the first month: 5733; the second and the third, which lack a day 30 in 5733: 5733, or 5732; the fourth, of which the day 27 is past that day: the same; the others: 5732
+-- the leap month: 5730, the last leap year that far; the first month: 5733;
+-- the second and the third, which lack a day 30 in 5733: 5733, or 5732;
+-- the fourth, of which the day 27 is past that day: the same; the others: 5732
 abbrev pub hebrew_reference_year : MonthParts → ℕ → ℤ
 hebrew_reference_year m day =
     if m.is_leap then pos 5730 else (

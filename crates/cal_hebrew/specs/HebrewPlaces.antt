@@ -46,7 +46,8 @@ regular_days_before leap i = (59 * (i - 1) + (if leap && nat_lt 6 i then 2 else 
 abbrev pub days_before_place : ℕ → ℕ → ℕ
 days_before_place n i =
     if is_deficient n && nat_lt 3 i then regular_days_before (is_leap_length n) i - 1 else (
-    if is_complete n && nat_lt 2 i then regular_days_before (is_leap_length n) i + 1 else regular_days_before (is_leap_length n) i)
+    if is_complete n && nat_lt 2 i then regular_days_before (is_leap_length n) i + 1
+    else regular_days_before (is_leap_length n) i)
 
 -- the day of the year that day p would be if the second month had 29 days and the third 30, both counted from 0
 abbrev pub regular_day : ℕ → ℕ → ℕ

@@ -23,7 +23,9 @@ abbrev pub hebrew_formatted_month : ℤ → ℕ → MonthParts → MonthParts
 hebrew_formatted_month y i month = formatted_month_of_place (hebrew_leap y) i month
 
 abbrev pub hebrew_system : CalendarSystem
-hebrew_system = own_system hebrew_years hebrew_names hebrew_leap (λ y. Era (hebrew_era_year y)) hebrew_leap_status hebrew_formatted_month
+hebrew_system =
+    own_system hebrew_years hebrew_names hebrew_leap
+    (λ y. Era (hebrew_era_year y)) hebrew_leap_status hebrew_formatted_month
 
 -- whether a year has as many days as the calendar's year of its number
 abbrev pub has_hebrew_length : HebrewYear → Bool

@@ -240,7 +240,7 @@ fn era_year(year: i32) -> EraYear
 impl NamedYears for Hebrew {
     ghost use Rattle.std.specs.Prelude.{refl};
     ghost use Rattle.cal_types.specs.declared.year.YearInfo.TheVariants.{Era};
-    ghost use Rattle.cal_base.specs.Compatibility.{all_alike};
+    ghost use Rattle.cal_base.specs.laws.Compatibility.{all_alike};
     ghost use Rattle.cal_days.specs.Hebrew.{hebrew_leap};
     ghost use Rattle.cal_hebrew.specs.HebrewEra.{hebrew_era_year};
     ghost use Rattle.cal_hebrew.specs.HebrewSystem.{has_hebrew_length, hebrew_leap_status, hebrew_formatted_month};
@@ -304,8 +304,8 @@ impl UnstableSealed for Hebrew {}
 impl Calendar for Hebrew {
     ghost use Rattle.std.specs.Prelude.{true, false, refl, codes, Some};
     ghost use Rattle.cal_algorithms.specs.declared.algorithm.CalendarAlgorithm.TheVariants.{Hebrew as hebrew_algorithm};
-    ghost use Rattle.cal_base.specs.Compatibility.{never_refused};
-    ghost use Rattle.cal_base.specs.NumberedYears.{numbered_equal, numbered_ordered};
+    ghost use Rattle.cal_base.specs.laws.Compatibility.{never_refused};
+    ghost use Rattle.cal_base.specs.laws.NumberedYears.{numbered_equal, numbered_ordered};
     ghost use Rattle.cal_hebrew.specs.HebrewList.{hebrew_list};
     ghost use Rattle.cal_hebrew.specs.HebrewSystem.{hebrew_system, hebrew_date, hebrew_belongs};
     ghost use Rattle.cal_hebrew.specs.laws.HebrewMonths.{hebrew_list-lawful};

@@ -2,7 +2,7 @@
 use Rattle.std.proofs.Common.{◌≡◌, ℕ, ◌≤◌, sym, ap, subst, ◌∙◌, arith, ℤ, pos, neg_ℤ, ◌+ℤ◌, ◌-ℤ◌, ◌≤ℤ◌, ◌<ℤ◌}
 use Rattle.cal_days.specs.Day.{IsBetween, IsFieldYear, IsRuleYear}
 use Rattle.cal_days.proofs.Signed.{signed}
-use Rattle.cal_hijri.specs.HijriMonths.{days_of_months-within}
+use Rattle.cal_hijri.specs.laws.HijriMonthLaws.{days_of_months-within}
 use Rattle.cal_hijri.specs.HijriList.{Joins, Numbered, hijri_days}
 use Rattle.cal_hijri.specs.laws.HijriBounds.{first-near}
 use Rattle.cal_days.specs.Islamic.{islamic_mean_start}

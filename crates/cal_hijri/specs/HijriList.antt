@@ -19,7 +19,8 @@ tabular_long y = if islamic_leap y then 3413 else 1365
 
 -- the months of a year: by the rules where these are promised, and tabular elsewhere
 abbrev pub long_months_of : (ℤ → HijriYear) → ℤ → ℕ
-long_months_of year_of y = if is_between (neg_ℤ (pos 8000000)) (pos 8000000) y then (year_of y).long_months else tabular_long y
+long_months_of year_of y =
+    if is_between (neg_ℤ (pos 8000000)) (pos 8000000) y then (year_of y).long_months else tabular_long y
 
 -- the list starts with the rules' year 1
 unfoldable pub hijri_list : (ℤ → HijriYear) → CalendarList
@@ -42,7 +43,9 @@ hijri_years year_of = record {
 
 -- a year starts where the one before ends
 abbrev pub Joins : (ℤ → HijriYear) → Type 0
-Joins year_of = (y : ℤ) → IsRuleYear y → IsRuleYear (y +ℤ pos 1) → (year_of (y +ℤ pos 1)).first_day ≡ (year_of y).first_day +ℤ pos (hijri_days (year_of y))
+Joins year_of =
+    (y : ℤ) → IsRuleYear y → IsRuleYear (y +ℤ pos 1)
+    → (year_of (y +ℤ pos 1)).first_day ≡ (year_of y).first_day +ℤ pos (hijri_days (year_of y))
 
 -- a year has its number
 abbrev pub Numbered : (ℤ → HijriYear) → Type 0
@@ -50,4 +53,5 @@ Numbered year_of = (y : ℤ) → IsRuleYear y → (year_of y).extended_year ≡ 
 
 -- whether two years have the same number, first day and months
 abbrev pub has_parts_of : HijriYear → HijriYear → Bool
-has_parts_of a b = int_eq a.extended_year b.extended_year && (int_eq a.first_day b.first_day && nat_eq a.long_months b.long_months)
+has_parts_of a b =
+    int_eq a.extended_year b.extended_year && (int_eq a.first_day b.first_day && nat_eq a.long_months b.long_months)

@@ -1,19 +1,14 @@
 -- The eras of a Hijri calendar, and its reference years.
 -- Source: the era codes of CLDR (UTS 35).
-use Rattle.std.specs.Prelude.{◌≡◌, ◌↔◌, ℕ, Bool, true, false, List, codes, Option, Some, None, Result, Ok, Err, if◌then◌else◌, ℤ, pos, neg_ℤ, ◌-ℤ◌, int_lt}
-use Rattle.std.proofs.Common.{refl, sym, ◌∙◌, arith}
-use Rattle.cal_days.specs.Day.{IsFieldYear, IsRuleYear, IsCoveredYear, IsConstructorYear}
-use Rattle.cal_days.proofs.Signed.{signed}
+use Rattle.std.specs.Prelude.{◌≡◌, ℕ, Bool, false, List, codes, Option, Some, None, Result, Ok, Err, if◌then◌else◌, ℤ, pos, ◌-ℤ◌, int_lt}
+use Rattle.cal_days.specs.Day.{IsFieldYear}
 use Rattle.cal_types.specs.Month.{MonthParts}
-use Rattle.cal_types.specs.Year.{extended_year_of}
 use Rattle.cal_errors.specs.declared.errors.EcmaReferenceYearError.{EcmaReferenceYearError}
-use Rattle.cal_errors.specs.declared.errors.EcmaReferenceYearError.TheVariants.{MonthNotInCalendar, Unimplemented, UseRegularIfConstrain}
+use Rattle.cal_errors.specs.declared.errors.EcmaReferenceYearError.TheVariants.{MonthNotInCalendar, UseRegularIfConstrain}
 use Rattle.cal_types.specs.declared.year.EraYear.{EraYear}
-use Rattle.cal_types.specs.declared.year.YearInfo.TheVariants.{Era}
 use Rattle.cal_types.specs.declared.year.YearAmbiguity.TheVariants.{CenturyRequired}
 use Rattle.cal_model.specs.PlainMonths.{is_plain_month}
 use Rattle.cal_model.specs.YearNames.{YearNames, is_code, year_in_era}
-use Rattle.cal_model.proofs.YearNameLemmas.{year_in_era-some, no_era-some}
 
 -- the years of the Hijra, and the years before it, which are counted back from 1
 abbrev pub hijri_reads : List ℕ → ℤ → Option ℤ
@@ -23,7 +18,13 @@ hijri_reads era n = year_in_era (is_code era (codes "ah")) n (year_in_era (is_co
 abbrev pub era_year_by : Bool → ℤ → EraYear
 era_year_by before y =
     if before
-    then record { year = pos 1 -ℤ y; extended_year = y; era = codes "bh"; era_index = Some 1; ambiguity = CenturyRequired }
+    then record {
+      year = pos 1 -ℤ y;
+      extended_year = y;
+      era = codes "bh";
+      era_index = Some 1;
+      ambiguity = CenturyRequired;
+    }
     else record { year = y; extended_year = y; era = codes "ah"; era_index = Some 0; ambiguity = CenturyRequired }
 
 abbrev pub hijri_era_year : ℤ → EraYear
@@ -34,50 +35,12 @@ abbrev pub reference_of_rules : Bool → Result ℤ EcmaReferenceYearError → R
 reference_of_rules is_of_kind by_rules = if is_of_kind then by_rules else Err MonthNotInCalendar
 
 abbrev pub hijri_names : (MonthParts → ℕ → Result ℤ EcmaReferenceYearError) → YearNames
-hijri_names reference = record { reads = hijri_reads; reference = λ m d. reference_of_rules (is_plain_month 12 m) (reference m d) }
+hijri_names reference =
+    record { reads = hijri_reads; reference = λ m d. reference_of_rules (is_plain_month 12 m) (reference m d) }
 
--- what the rules' answers are to keep: an Ok year is a field year, a month of the calendar isn't refused as one that it lacks, and no month leaves its place to another
+-- what the rules' answers are to keep: an Ok year is a field year,
+-- a month of the calendar isn't refused as one that it lacks, and no month leaves its place to another
 pub record AreReferences (reference : MonthParts → ℕ → Result ℤ EcmaReferenceYearError) : Type 0 where
   pub range : (m : MonthParts) (d : ℕ) (y : ℤ) → reference m d ≡ Ok y → IsFieldYear y
   pub kind : (m : MonthParts) (d : ℕ) → reference m d ≡ Err MonthNotInCalendar → is_plain_month 12 m ≡ false
   pub stands : (m : MonthParts) (d : ℕ) → reference m d ≡ Err UseRegularIfConstrain → ⊥
-
--- rules without reference years keep it
-pub no-references : AreReferences (λ _ _. Err Unimplemented)
-no-references = record { range = λ m d y e. cc; kind = λ m d e. cc; stands = λ m d e. cc }
-
-pub hijri_reads-in_range : (era : List ℕ) (n y : ℤ) → IsFieldYear n → hijri_reads era n ≡ Some y → IsRuleYear y
-hijri_reads-in_range era n y h e =
-    year_in_era-some IsRuleYear _ n _ (omega (arith, signed, h), omega (arith, signed, h))
-    (year_in_era-some IsRuleYear (is_code era (codes "bh")) (pos 1 -ℤ n) None (omega (arith, signed, h), omega (arith, signed, h)) (no_era-some IsRuleYear)) y e
-
-pub hijri_reads-covered : (era : List ℕ) (n y : ℤ) → IsConstructorYear n → hijri_reads era n ≡ Some y → IsCoveredYear y
-hijri_reads-covered era n y h e =
-    year_in_era-some IsCoveredYear _ n _ (omega (arith, signed, h), omega (arith, signed, h))
-    (year_in_era-some IsCoveredYear (is_code era (codes "bh")) (pos 1 -ℤ n) None (omega (arith, signed, h), omega (arith, signed, h)) (no_era-some IsCoveredYear)) y e
-
-named_by : (before : Bool) (y : ℤ) → extended_year_of (Era (era_year_by before y)) ≡ y
-named_by true y = refl
-named_by false y = refl
-
--- a year in its era has its extended year
-pub years-named : (y : ℤ) → extended_year_of (Era (hijri_era_year y)) ≡ y
-years-named y = named_by (int_lt y (pos 1)) y
-
-refused_by : (is_of_kind : Bool) (by_rules : Result ℤ EcmaReferenceYearError) → (by_rules ≡ Err MonthNotInCalendar → is_of_kind ≡ false) → (reference_of_rules is_of_kind by_rules ≡ Err MonthNotInCalendar) ↔ (is_of_kind ≡ false)
-refused_by true by_rules h = (λ e. h e, λ e. cc)
-refused_by false by_rules h = (λ e. refl, λ e. refl)
-
--- a month is refused as such exactly where the calendar lacks it
-pub reference_of_kind : (reference : MonthParts → ℕ → Result ℤ EcmaReferenceYearError) → AreReferences reference → (m : MonthParts) (d : ℕ) (kind : Bool) → kind ≡ is_plain_month 12 m → ((hijri_names reference).reference m d ≡ Err MonthNotInCalendar) ↔ (kind ≡ false)
-reference_of_kind reference law m d kind same =
-    let known = refused_by (is_plain_month 12 m) (reference m d) (law.kind m d) in
-    (λ e. same ∙ known.0 e, λ e. known.1 (sym same ∙ e))
-
-stands_by : (is_of_kind : Bool) (by_rules : Result ℤ EcmaReferenceYearError) → (by_rules ≡ Err UseRegularIfConstrain → ⊥) → reference_of_rules is_of_kind by_rules ≡ Err UseRegularIfConstrain → ⊥
-stands_by true by_rules h e = h e
-stands_by false by_rules h e = cc
-
--- no month leaves its place to another
-pub reference_of_leap_month : {Q : Type 0} (reference : MonthParts → ℕ → Result ℤ EcmaReferenceYearError) → AreReferences reference → (m : MonthParts) (d : ℕ) → (hijri_names reference).reference m d ≡ Err UseRegularIfConstrain → Q
-reference_of_leap_month reference law m d e = absurd (stands_by (is_plain_month 12 m) (reference m d) (law.stands m d) e)

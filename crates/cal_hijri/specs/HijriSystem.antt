@@ -19,7 +19,9 @@ hijri_leap year_of y = year_length (hijri_list year_of) y == 355
 
 -- by the years of the rules, and their reference years; no month is a leap month
 abbrev pub hijri_system : (ℤ → HijriYear) → (MonthParts → ℕ → Result ℤ EcmaReferenceYearError) → CalendarSystem
-hijri_system year_of reference = own_system (hijri_years year_of) (hijri_names reference) (hijri_leap year_of) (λ y. Era (hijri_era_year y)) (λ _ _. Normal) (λ _ _ month. month)
+hijri_system year_of reference =
+    own_system (hijri_years year_of) (hijri_names reference) (hijri_leap year_of) (λ y. Era (hijri_era_year y))
+    (λ _ _. Normal) (λ _ _ month. month)
 
 -- the date that a packed date stands for
 abbrev pub packed_date : PackedHijriDate → Date
@@ -27,4 +29,5 @@ packed_date p = date p.extended_year p.month p.day
 
 -- its year is the calendar's year of its number, it is a date of the list, and its day number is in the valid range
 abbrev pub hijri_belongs : (ℤ → HijriYear) → PackedHijriDate → Bool
-hijri_belongs year_of p = has_parts_of (year_of p.extended_year) (packed_year p) && is_valid_date (hijri_list year_of) (packed_date p)
+hijri_belongs year_of p =
+    has_parts_of (year_of p.extended_year) (packed_year p) && is_valid_date (hijri_list year_of) (packed_date p)

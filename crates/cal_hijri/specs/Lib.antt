@@ -1,8 +1,8 @@
 pub mod HijriMonths
 pub mod MonthStarts
 pub mod HijriList
-pub mod SameYears
 pub mod HijriNames
+pub mod RowStarts
 pub mod HijriRows
 pub mod PackedYears
 pub mod HijriSystem

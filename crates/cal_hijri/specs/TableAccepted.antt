@@ -45,7 +45,8 @@ joins = rows.joins number_of start_of end_day
 abbrev pub ends : (ℤ → HijriYear) → HijriYear → Bool
 ends = rows.ends number_of start_of end_day
 
--- whether row i of a table meets a part; `year_of` gives the computed years. Hijri years have no leap months, and no rule picks the rows
+-- whether row i of a table meets a part; `year_of` gives the computed years.
+-- Hijri years have no leap months, and no rule picks the rows
 abbrev pub meets : (ℤ → HijriYear) → List HijriYear → ℕ → HijriYear → TablePart → Bool
 meets year_of rows i row Year = is_next (row_before rows i) row && int_le row.extended_year (pos 9999)
 meets year_of rows i row Join = joins year_of (row_before rows i) row

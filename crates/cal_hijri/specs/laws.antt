@@ -4,3 +4,10 @@ pub mod HijriBounds
 pub mod GivenYears
 pub mod HijriSystemLaws
 pub mod TableLaws
+pub mod HijriMonthLaws
+pub mod SameYears
+pub mod HijriNameLaws
+pub mod RowStartLaws
+pub mod HijriRowLaws
+pub mod TableFridayLaws
+pub mod TableRuleLaws

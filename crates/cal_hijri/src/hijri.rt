@@ -179,7 +179,8 @@ fn year_in_era(era: &[u8], year: i32) -> Result<i32, UnknownEraError>
 
 impl<R: Rules> DateFieldsResolver for Hijri<R> {
     ghost use Rattle.std.specs.Prelude.{refl};
-    ghost use Rattle.cal_hijri.specs.HijriNames.{hijri_names, hijri_reads-in_range, hijri_reads-covered, reference_of_kind as tested_kind, reference_of_leap_month as no_leap_month};
+    ghost use Rattle.cal_hijri.specs.HijriNames.{hijri_names};
+    ghost use Rattle.cal_hijri.specs.laws.HijriNameLaws.{hijri_reads-in_range, hijri_reads-covered, reference_of_kind as tested_kind, reference_of_leap_month as no_leap_month};
     ghost use Rattle.cal_hijri.specs.laws.HijriShapes.{hijri_list-plain};
 
     ghost names = { λ s. hijri_names (R.reference s.0) };
@@ -243,9 +244,9 @@ fn era_year(year: i32) -> EraYear
 impl<R: Rules> NamedYears for Hijri<R> {
     ghost use Rattle.std.specs.Cmp.{on_equiv};
     ghost use Rattle.cal_types.specs.declared.year.YearInfo.TheVariants.{Era};
-    ghost use Rattle.cal_hijri.specs.HijriNames.{years-named};
+    ghost use Rattle.cal_hijri.specs.laws.HijriNameLaws.{years-named};
     ghost use Rattle.cal_hijri.specs.HijriSystem.{hijri_leap};
-    ghost use Rattle.cal_hijri.specs.SameYears.{has_parts_of-tested};
+    ghost use Rattle.cal_hijri.specs.laws.SameYears.{has_parts_of-tested};
     ghost use Rattle.cal_hijri.specs.laws.GivenYears.{shared-given};
 
     type Year = EraYear;
@@ -301,10 +302,10 @@ impl<R: Rules> UnstableSealed for Hijri<R> {}
 
 impl<R: Rules> Calendar for Hijri<R> {
     ghost use Rattle.std.specs.Prelude.{false};
-    ghost use Rattle.cal_base.specs.NumberedYears.{numbered_equal, numbered_ordered};
+    ghost use Rattle.cal_base.specs.laws.NumberedYears.{numbered_equal, numbered_ordered};
     ghost use Rattle.cal_hijri.specs.HijriList.{hijri_list};
     ghost use Rattle.cal_hijri.specs.laws.HijriShapes.{hijri_list-lawful};
-    ghost use Rattle.cal_hijri.specs.HijriNames.{years-named};
+    ghost use Rattle.cal_hijri.specs.laws.HijriNameLaws.{years-named};
     ghost use Rattle.cal_hijri.specs.HijriSystem.{hijri_system, packed_date, hijri_belongs};
     ghost use Rattle.cal_hijri.specs.laws.HijriSystemLaws.{alike-back, alike-on, belongs-valid, belongs-dated, belongs-shared, day-shared};
     ghost use Rattle.cal_hijri.specs.laws.HijriBounds.{years-ranged, days-covered};

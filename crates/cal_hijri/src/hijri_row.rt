@@ -4,7 +4,8 @@ ghost use Rattle.std.specs.Prelude.{◌≡◌, ◌↔◌, IsSome, IfSome, min, p
 ghost use Rattle.cal_days.specs.Day.{IsRuleYear};
 ghost use Rattle.cal_days.specs.Islamic.{islamic_mean_start};
 ghost use Rattle.cal_hijri.specs.HijriMonths.{IsNearMean};
-ghost use Rattle.cal_hijri.specs.HijriRows.{nearest_rule_year, row_year};
+ghost use Rattle.cal_hijri.specs.RowStarts.{nearest_rule_year};
+ghost use Rattle.cal_hijri.specs.HijriRows.{row_year};
 
 use crate::hijri_year::HijriYear;
 use cal_days::islamic;

@@ -40,7 +40,8 @@ impl<'t> Rules for UmmAlQura<'t> {
     ghost use Rattle.cal_algorithms.specs.declared.algorithm.HijriCalendarAlgorithm.TheVariants.{Umalqura};
     ghost use Rattle.cal_hijri.specs.HijriRows.{years_of};
     ghost use Rattle.cal_hijri.specs.SameRows.{are_same_rows};
-    ghost use Rattle.cal_hijri.specs.TableRules.{same_rows-equivalence, table_reference, table_year, table-joins, table-numbered, table-references, table-shared};
+    ghost use Rattle.cal_hijri.specs.laws.TableRuleLaws.{same_rows-equivalence, table-joins, table-numbered, table-references, table-shared};
+    ghost use Rattle.cal_hijri.specs.TableRules.{table_reference, table_year};
 
     type DateCompatibilityError = MismatchedCalendarError;
 

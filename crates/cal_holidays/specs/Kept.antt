@@ -8,7 +8,8 @@ use Rattle.cal_holidays.specs.declared.rest.Rest.{Rest}
 -- the first days of the places below a bound
 abbrev pub AreFirsts : (ℕ → ℤ → Bool) → ℕ → Rest → List (Option First) → ℕ → Type 0
 AreFirsts names count rest firsts below =
-    (place : ℕ) → place < below → IsFirst names count (IsInPlace place) (stretch_of rest) (option_map pair_of (get_or firsts place None))
+    (place : ℕ) → place < below
+    → IsFirst names count (IsInPlace place) (stretch_of rest) (option_map pair_of (get_or firsts place None))
 
 -- those of all places, where anything is left
 abbrev pub AreKept : (ℕ → ℤ → Bool) → ℕ → Option Rest → List (Option First) → Type 0

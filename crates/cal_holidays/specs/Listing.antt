@@ -16,4 +16,5 @@ pair_given h = (h.day, h.rule)
 -- what is left after an answer: what is behind the item that was given, and nothing where none was
 abbrev pub IsRest : ℕ → Option Rest → Option Holiday → Option Rest → Type 0
 IsRest count before given rest =
-    MatchOption given (rest ≡ None) (λ h. MatchOption before ⊤ (λ b. option_map stretch_of rest ≡ behind count (stretch_of b) h.day h.rule))
+    MatchOption given (rest ≡ None)
+    (λ h. MatchOption before ⊤ (λ b. option_map stretch_of rest ≡ behind count (stretch_of b) h.day h.rule))

@@ -56,7 +56,8 @@ is_easter julian n = is_sunday_behind (easter_moon julian (date_on (easter_list 
 abbrev pub is_nth : CalendarList → MonthParts → ℤ → Weekday → ℤ → Bool
 is_nth c m nth weekday n =
     let t = date_on c n in
-    has_weekday weekday n && (is_month (month_at c t.year t.month) m && is_nth_day nth (month_length c t.year t.month) t.day)
+    has_weekday weekday n
+    && (is_month (month_at c t.year t.month) m && is_nth_day nth (month_length c t.year t.month) t.day)
 
 -- whether a rule names a day
 abbrev pub names_day : TableContents → Rule → ℤ → Bool

@@ -20,8 +20,8 @@ use Rattle.cal_holidays.specs.declared.holiday_rule.HolidayRule.TheVariants as h
 use Rattle.cal_types.specs.declared.leaping.Leaping.{Leaping}
 use Rattle.cal_types.specs.declared.leaping.Leaping.TheVariants.{Exact, Constrain}
 
--- a month and a day of a calendar; a number of days after Easter of the Julian calendar or the Gregorian; or the weekday
--- of a month that is the first to the fifth, or the last (-1)
+-- a month and a day of a calendar; a number of days after Easter of the Julian calendar or the Gregorian;
+-- or the weekday of a month that is the first to the fifth, or the last (-1)
 pub data Rule : Type 0 where
   Fixed : AnyCalendarKind → MonthParts → ℕ → Leaping → Rule
   Easter : Bool → ℤ → Rule
@@ -104,7 +104,8 @@ day_read text = option_and_then (where_passes (λ day. nat_le 1 day && nat_le da
 
 -- at most 400 days before or after
 abbrev pub offset_read : List ℕ → Option ℤ
-offset_read text = option_and_then (where_passes (λ days. int_le (neg_ℤ (pos 400)) days && int_le days (pos 400))) (int_of text)
+offset_read text =
+    option_and_then (where_passes (λ days. int_le (neg_ℤ (pos 400)) days && int_le days (pos 400))) (int_of text)
 
 -- nothing at all
 abbrev pub nothing : List ℕ → Option (List ℕ)

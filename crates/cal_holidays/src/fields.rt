@@ -80,7 +80,8 @@ impl<'r> Fields<'r> {
     }
 
     fn fixed(&self) -> Result<HolidayRule, u8>
-        ensures value { result_map_both rule_said (λ number. number) result ≡ rule_read way.Fixed (fields_said self.now) }
+        ensures value { result_map_both rule_said (λ number. number) result
+            ≡ rule_read way.Fixed (fields_said self.now) }
         ensures proper { IfOk result (λ rule. is_proper (rule_said rule) ≡ true) }
     {
         let calendar = AnyCalendarKind::from_program_name(self.calendar).ok_or(3)?;
@@ -96,7 +97,8 @@ impl<'r> Fields<'r> {
     }
 
     fn easter(&self) -> Result<HolidayRule, u8>
-        ensures value { result_map_both rule_said (λ number. number) result ≡ rule_read way.Easter (fields_said self.now) }
+        ensures value { result_map_both rule_said (λ number. number) result
+            ≡ rule_read way.Easter (fields_said self.now) }
         ensures proper { IfOk result (λ rule. is_proper (rule_said rule) ≡ true) }
     {
         let julian = is_julian(self.calendar).ok_or(3)?;

@@ -75,7 +75,8 @@ fn month_on<C: Calendar>(calendar: &C, day: RataDie) -> MonthDays
 fn nth_from(days: MonthDays, asked: NthWeekday, from: i64) -> Option<i64>
     requires nth { IsNthNumber asked.nth }
     requires near { IsNear days.before }
-    ensures { IsFirstInMonth (month_parts days.month) days.before days.length (month_parts asked.month) asked.nth asked.weekday from result }
+    ensures { IsFirstInMonth (month_parts days.month) days.before days.length (month_parts asked.month) asked.nth
+        asked.weekday from result }
 {
     if !is_same(days.month, asked.month) {
         return None;

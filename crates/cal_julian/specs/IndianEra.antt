@@ -6,4 +6,5 @@ use Rattle.cal_types.specs.declared.year.YearAmbiguity.TheVariants.{CenturyRequi
 
 -- the year of the one era is the extended year
 abbrev pub indian_era_year : ℤ → EraYear
-indian_era_year y = record { year = y; extended_year = y; era = codes "shaka"; era_index = Some 0; ambiguity = CenturyRequired }
+indian_era_year y =
+    record { year = y; extended_year = y; era = codes "shaka"; era_index = Some 0; ambiguity = CenturyRequired }

@@ -1,5 +1,6 @@
 -- The Indian national calendar as a list of years.
--- Source: the report of India's Calendar Reform Committee (1955); a year begins on day 81 of a Gregorian year, and is a leap year with it.
+-- Source: the report of India's Calendar Reform Committee (1955); a year begins on day 81 of a Gregorian year,
+-- and is a leap year with it.
 use Rattle.std.specs.Prelude.{ℕ, ◌-◌, Bool, true, nat_le, if◌then◌else◌, List, [], ◌∷◌, take, sum_by, slice_index_or, ℤ, pos, ◌+ℤ◌}
 use Rattle.cal_days.specs.Gregorian.{gregorian_leap, gregorian_start}
 use Rattle.cal_model.specs.CalendarList.{CalendarList, Entry, days_of, no_entry}
@@ -30,7 +31,8 @@ indian_month_length leap i = (slice_index_or (indian_months leap) (i - 1) no_ent
 abbrev pub indian_days_before : Bool → ℕ → ℕ
 indian_days_before leap i = sum_by days_of (take (i - 1) (indian_months leap))
 
--- the months of a year that begins with the second month, Vaisakha, are counted from 2 to 13: 13 is the first month of the next year
+-- the months of a year that begins with the second month, Vaisakha, are counted from 2 to 13:
+-- 13 is the first month of the next year
 abbrev pub vaisakha_month : ℕ → ℕ
 vaisakha_month m = if nat_le m 12 then m else m - 12
 

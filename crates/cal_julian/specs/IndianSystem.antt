@@ -12,7 +12,8 @@ use Rattle.cal_julian.specs.declared.indian.IndianDateInner.{IndianDateInner}
 
 -- no month is a leap month
 abbrev pub indian_system : CalendarSystem
-indian_system = own_system indian_years indian_names indian_leap (λ y. Era (indian_era_year y)) (λ _ _. Normal) (λ _ _ month. month)
+indian_system =
+    own_system indian_years indian_names indian_leap (λ y. Era (indian_era_year y)) (λ _ _. Normal) (λ _ _ month. month)
 
 -- the date that an inner date stands for
 abbrev pub indian_date : IndianDateInner → Date

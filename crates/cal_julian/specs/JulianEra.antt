@@ -8,5 +8,11 @@ use Rattle.cal_types.specs.declared.year.YearAmbiguity.TheVariants.{CenturyRequi
 abbrev pub julian_era_year : ℤ → EraYear
 julian_era_year y =
     if int_lt y (pos 1)
-    then record { year = pos 1 -ℤ y; extended_year = y; era = codes "bce"; era_index = Some 0; ambiguity = EraAndCenturyRequired }
+    then record {
+      year = pos 1 -ℤ y;
+      extended_year = y;
+      era = codes "bce";
+      era_index = Some 0;
+      ambiguity = EraAndCenturyRequired;
+    }
     else record { year = y; extended_year = y; era = codes "ce"; era_index = Some 1; ambiguity = CenturyRequired }

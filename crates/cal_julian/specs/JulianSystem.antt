@@ -13,7 +13,8 @@ use Rattle.cal_julian.specs.declared.julian.JulianDateInner.{JulianDateInner}
 
 -- every fourth year is a leap year, and no month is a leap month
 abbrev pub julian_system : CalendarSystem
-julian_system = own_system julian_years julian_names julian_leap (λ y. Era (julian_era_year y)) (λ _ _. Normal) (λ _ _ month. month)
+julian_system =
+    own_system julian_years julian_names julian_leap (λ y. Era (julian_era_year y)) (λ _ _. Normal) (λ _ _ month. month)
 
 -- the date that an inner date stands for
 abbrev pub julian_date : JulianDateInner → Date

@@ -21,7 +21,8 @@ abbrev pub is_above : Option ℤ → ℤ → Bool
 is_above None y = true
 is_above (Some before) y = int_lt before y
 
--- whether a year meets a part, after the one before it. Year: it is from 1 to 9999 and above that one. Rule: the rule makes it a leap year.
+-- whether a year meets a part, after the one before it. Year: it is from 1 to 9999 and above that one.
+-- Rule: the rule makes it a leap year.
 -- A year has no start, so it has nothing to join, and no leap months
 abbrev pub meets : Option ℤ → ℤ → TablePart → Bool
 meets before y Year = is_between (pos 1) (pos 9999) y && is_above before y

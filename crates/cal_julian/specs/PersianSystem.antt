@@ -14,7 +14,9 @@ use Rattle.cal_julian.specs.declared.persian.PersianDateInner.{PersianDateInner}
 
 -- by its corrected years; no month is a leap month
 abbrev pub corrected_system : List ℤ → CalendarSystem
-corrected_system years = own_system (persian_years years) persian_names (is_persian_leap years) (λ y. Era (persian_era_year y)) (λ _ _. Normal) (λ _ _ month. month)
+corrected_system years =
+    own_system (persian_years years) persian_names (is_persian_leap years) (λ y. Era (persian_era_year y))
+    (λ _ _. Normal) (λ _ _ month. month)
 
 abbrev pub persian_system : Persian → CalendarSystem
 persian_system s = corrected_system (corrected_years s)

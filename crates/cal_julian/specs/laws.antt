@@ -5,3 +5,4 @@ pub mod IndianSystemLaws
 pub mod PersianRuleLaws
 pub mod PersianLaws
 pub mod PersianSystemLaws
+pub mod PersianMonthLaws

@@ -393,7 +393,7 @@ impl DateFieldsResolver for Indian {
 impl NamedYears for Indian {
     ghost use Rattle.std.specs.Prelude.{refl};
     ghost use Rattle.cal_types.specs.declared.year.YearInfo.TheVariants.{Era};
-    ghost use Rattle.cal_base.specs.Compatibility.{all_alike};
+    ghost use Rattle.cal_base.specs.laws.Compatibility.{all_alike};
     ghost use Rattle.cal_julian.specs.IndianList.{indian_leap};
     ghost use Rattle.cal_julian.specs.IndianEra.{indian_era_year};
 
@@ -452,8 +452,8 @@ impl UnstableSealed for Indian {}
 impl Calendar for Indian {
     ghost use Rattle.std.specs.Prelude.{true, false, refl, codes, Some};
     ghost use Rattle.cal_algorithms.specs.declared.algorithm.CalendarAlgorithm.TheVariants.{Indian as indian};
-    ghost use Rattle.cal_base.specs.Compatibility.{never_refused};
-    ghost use Rattle.cal_base.specs.NumberedYears.{numbered_equal, numbered_ordered};
+    ghost use Rattle.cal_base.specs.laws.Compatibility.{never_refused};
+    ghost use Rattle.cal_base.specs.laws.NumberedYears.{numbered_equal, numbered_ordered};
     ghost use Rattle.cal_julian.specs.IndianList.{indian_list};
     ghost use Rattle.cal_julian.specs.IndianSystem.{indian_system, indian_date, indian_belongs};
     ghost use Rattle.cal_julian.specs.laws.IndianLaws.{indian_list-lawful, years-ranged, days-covered};

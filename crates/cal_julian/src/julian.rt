@@ -321,7 +321,7 @@ fn era_year(year: i32) -> EraYear
 impl NamedYears for Julian {
     ghost use Rattle.std.specs.Prelude.{refl};
     ghost use Rattle.cal_types.specs.declared.year.YearInfo.TheVariants.{Era};
-    ghost use Rattle.cal_base.specs.Compatibility.{all_alike};
+    ghost use Rattle.cal_base.specs.laws.Compatibility.{all_alike};
     ghost use Rattle.cal_days.specs.Julian.{julian_leap};
     ghost use Rattle.cal_julian.specs.JulianEra.{julian_era_year};
     ghost use Rattle.cal_julian.specs.laws.JulianLaws.{julian_year-named};
@@ -374,8 +374,8 @@ impl UnstableSealed for Julian {}
 
 impl Calendar for Julian {
     ghost use Rattle.std.specs.Prelude.{true, false, refl, codes, None};
-    ghost use Rattle.cal_base.specs.Compatibility.{never_refused};
-    ghost use Rattle.cal_base.specs.NumberedYears.{numbered_equal, numbered_ordered};
+    ghost use Rattle.cal_base.specs.laws.Compatibility.{never_refused};
+    ghost use Rattle.cal_base.specs.laws.NumberedYears.{numbered_equal, numbered_ordered};
     ghost use Rattle.cal_julian.specs.JulianList.{julian_list};
     ghost use Rattle.cal_julian.specs.JulianSystem.{julian_system, julian_date, julian_belongs};
     ghost use Rattle.cal_julian.specs.laws.JulianLaws.{julian_list-lawful, years-ranged, days-covered};

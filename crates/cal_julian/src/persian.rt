@@ -331,7 +331,7 @@ impl<'t> Calendar for Persian<'t> {
     ghost use Rattle.std.specs.Cmp.{int_eq_equiv};
     ghost use Rattle.std.specs.Cmp.Lexicographic.{lists_equiv};
     ghost use Rattle.cal_algorithms.specs.declared.algorithm.CalendarAlgorithm.TheVariants as algorithms;
-    ghost use Rattle.cal_base.specs.NumberedYears.{numbered_equal, numbered_ordered};
+    ghost use Rattle.cal_base.specs.laws.NumberedYears.{numbered_equal, numbered_ordered};
     ghost use Rattle.cal_julian.specs.PersianCorrected.{are_corrected_alike, corrected_years};
     ghost use Rattle.cal_julian.specs.PersianList.{persian_list};
     ghost use Rattle.cal_julian.specs.PersianSystem.{persian_system, persian_date, persian_belongs};

@@ -1,4 +1,5 @@
--- The order of the kinds of calendars: that of the table of their names, with the kind that has no name right after the Japanese one.
+-- The order of the kinds of calendars: that of the table of their names,
+-- with the kind that has no name right after the Japanese one.
 use Rattle.std.specs.Prelude.{ℕ}
 use Rattle.cal_kinds.specs.declared.any_calendar_kind.AnyCalendarKind.{AnyCalendarKind}
 use Rattle.cal_kinds.specs.declared.any_calendar_kind.AnyCalendarKind.TheVariants as kind

@@ -17,7 +17,8 @@ entry_of m = record { month = month_parts m.month; days = m.days }
 -- the calendar has the listed years, and the first of them starts on its day
 pub record IsListOf (c : CalendarList) (l : ListedYears) : Type 0 where
   pub first_day : start_of_year c l.first_year ≡ l.first_day
-  pub months : (k : ℕ) (year : YearList) → slice_get l.years.now k ≡ Some year → c.entries (l.first_year +ℤ pos k) ≡ map entry_of year.now
+  pub months : (k : ℕ) (year : YearList) → slice_get l.years.now k ≡ Some year
+      → c.entries (l.first_year +ℤ pos k) ≡ map entry_of year.now
 
 -- the year is one of those listed
 abbrev pub IsListed : ListedYears → ℤ → Type 0

@@ -11,7 +11,8 @@ use Rattle.cal_days.specs.Day.{is_valid_day, is_field_year, are_addable_years, a
 use Rattle.cal_model.specs.CalendarList.{spot, CalendarList, Date, date, month_at, month_length, day_number, IsOn, IsMonthsAfter}
 use Rattle.cal_model.specs.Difference.{toward}
 
--- a duration that is small enough to be added: at most 2080000 years, 27040000 months, and 838240000 days with seven for a week
+-- a duration that is small enough to be added: at most 2080000 years, 27040000 months,
+-- and 838240000 days with seven for a week
 abbrev pub is_addable : DateDuration → Bool
 is_addable u = are_addable_years u.years && are_addable_months u.months && are_addable_days (7 * u.weeks + u.days)
 
@@ -29,7 +30,8 @@ add_overflow_of (Some o) = o
 abbrev pub IsValidOn : CalendarList → ℤ → Result Date DateAddError → Type 0
 IsValidOn c n r = MatchBool (is_valid_day n) ((t : Date) × IsOn c n t × (r ≡ Ok t)) (r ≡ Err fault.Overflow)
 
--- from the month that years and months lead to: the day is at most its last one, and weeks and days are counted from there
+-- from the month that years and months lead to: the day is at most its last one,
+-- and weeks and days are counted from there
 abbrev pub IsSumFromMonth : CalendarList → ℤ → ℕ → ℕ → DateDuration → Overflow → Result Date DateAddError → Type 0
 IsSumFromMonth c y i d u o r =
     let last = month_length c y i in
@@ -37,12 +39,14 @@ IsSumFromMonth c y i d u o r =
     (r ≡ Err (fault.InvalidDay last))
     (IsValidOn c (day_number c (date y i (min d last)) +ℤ toward u.is_negative (7 * u.weeks + u.days)) r)
 
--- r is the date t with the duration u added, or the first fault; `shift` is added to the year where its limit is tested, for a calendar that counts its years from another's
+-- r is the date t with the duration u added, or the first fault;
+-- `shift` is added to the year where its limit is tested, for a calendar that counts its years from another's
 abbrev pub IsSum : CalendarList → ℤ → Date → DateDuration → Overflow → Result Date DateAddError → Type 0
 IsSum c shift t u o r =
     let y = t.year +ℤ toward u.is_negative u.years in
     MatchBool (is_addable u && is_field_year (y +ℤ shift))
     (MatchOption (spot c y (month_at c t.year t.month) o)
     (r ≡ Err fault.MonthNotInYear)
-    (λ i. (z : ℤ) × (j : ℕ) × IsMonthsAfter c y i (toward u.is_negative u.months) z j × IsSumFromMonth c z j t.day u o r))
+    (λ i. (z : ℤ) × (j : ℕ) × IsMonthsAfter c y i (toward u.is_negative u.months) z j
+    × IsSumFromMonth c z j t.day u o r))
     (r ≡ Err fault.Overflow)

@@ -9,8 +9,9 @@ use Rattle.cal_types.specs.Windows.{days_between}
 use Rattle.cal_types.specs.declared.leaping.Leaping.{Leaping}
 use Rattle.cal_types.specs.declared.leaping.Leaping.TheVariants.{Exact, Constrain}
 
--- a date is the one that a month and a day name in its year. Under Exact it has this month and this day. Under Constrain
--- its month is the month, or its stand-in in a year that lacks it, and its day is the day, or the month's last one
+-- a date is the one that a month and a day name in its year. Under Exact it has this month and this day.
+-- Under Constrain its month is the month, or its stand-in in a year that lacks it, and its day is the day,
+-- or the month's last one
 abbrev pub IsNamed : CalendarList → Leaping → MonthParts → ℕ → Date → Type 0
 IsNamed c Exact m d t = (month_at c t.year t.month ≡ m) × (t.day ≡ d)
 IsNamed c Constrain m d t =

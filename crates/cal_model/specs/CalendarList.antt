@@ -1,5 +1,6 @@
 -- A calendar as a list: for each year its months with their lengths, and the first day of one year.
--- Source: the year shapes of Reingold and Dershowitz, Calendrical Calculations; month codes and their order are those of ECMAScript Temporal.
+-- Source: the year shapes of Reingold and Dershowitz, Calendrical Calculations;
+-- month codes and their order are those of ECMAScript Temporal.
 use Rattle.std.specs.Prelude.{◌≡◌, ℕ, ◌+◌, ◌-◌, ◌<◌, ◌≤◌, ◌⊎◌, Bool, false, ◌&&◌, nat_le, nat_eq, IsTrue, List, length, take, sum_by, slice_index_or, Option, Some, None, ℤ, pos, ◌+ℤ◌, ◌<ℤ◌}
 use Rattle.std.specs.List.{position_from}
 use Rattle.cal_types.specs.Month.{MonthParts, month_rank}
@@ -21,7 +22,8 @@ no_entry = record { month = record { number = 0; is_leap = false }; days = 0 }
 abbrev pub days_of : Entry → ℕ
 days_of e = e.days
 
--- for each year its months in order; the first day of one year; which months the calendar knows at all; and, under Constrain, the month that stands in for one that its year lacks
+-- for each year its months in order; the first day of one year; which months the calendar knows at all;
+-- and, under Constrain, the month that stands in for one that its year lacks
 pub record CalendarList : Type 0 where
   pub anchor_year : ℤ
   pub anchor_day : ℤ
@@ -59,7 +61,8 @@ month_at c y i = (entry_at c y i).month
 abbrev pub month_length : CalendarList → ℤ → ℕ → ℕ
 month_length c y i = (entry_at c y i).days
 
--- the day number of a year's first day: the lengths of the years from the anchor on are added up, and before it taken away
+-- the day number of a year's first day: the lengths of the years from the anchor on are added up,
+-- and before it taken away
 unfoldable pub start_of_year : CalendarList → ℤ → ℤ
 start_of_year c y = c.anchor_day +ℤ span (year_length c) c.anchor_year y
 
@@ -82,7 +85,9 @@ pub record IsDate (c : CalendarList) (t : Date) : Type 0 where
 
 -- the same as a test
 abbrev pub is_date : CalendarList → Date → Bool
-is_date c t = (nat_le 1 t.month && nat_le t.month (month_count c t.year)) && (nat_le 1 t.day && nat_le t.day (month_length c t.year t.month))
+is_date c t =
+    (nat_le 1 t.month && nat_le t.month (month_count c t.year))
+    && (nat_le 1 t.day && nat_le t.day (month_length c t.year t.month))
 
 -- the calendar has this date, and its day number is in the valid range
 pub record IsValidDate (c : CalendarList) (t : Date) : Type 0 where
@@ -125,10 +130,12 @@ unfoldable pub spot : CalendarList → ℤ → MonthParts → Overflow → Optio
 spot c y m Reject = place_of c y m
 spot c y m Constrain = first_of_two (place_of c y m) (place_of c y (c.stand_in m))
 
--- each year has 12 or 13 months of 1 to 31 days, which rise and are of the calendar's kind; and a month of the kind has a spot in each year
+-- each year has 12 or 13 months of 1 to 31 days, which rise and are of the calendar's kind;
+-- and a month of the kind has a spot in each year
 pub record IsLawful (c : CalendarList) : Type 0 where
   pub count : (y : ℤ) → (12 ≤ month_count c y) × (month_count c y ≤ 13)
   pub lengths : (y : ℤ) (i : ℕ) → HasPlace c y i → (1 ≤ month_length c y i) × (month_length c y i ≤ 31)
-  pub rises : (y : ℤ) (i j : ℕ) → HasPlace c y i → HasPlace c y j → i < j → month_rank (month_at c y i) < month_rank (month_at c y j)
+  pub rises : (y : ℤ) (i j : ℕ) → HasPlace c y i → HasPlace c y j → i < j
+      → month_rank (month_at c y i) < month_rank (month_at c y j)
   pub kind : (y : ℤ) (i : ℕ) → HasPlace c y i → IsTrue (c.is_of_kind (month_at c y i))
   pub stands : (y : ℤ) (m : MonthParts) → IsTrue (c.is_of_kind m) → (j : ℕ) × (spot c y m Constrain ≡ Some j)

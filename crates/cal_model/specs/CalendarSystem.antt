@@ -11,7 +11,10 @@ use Rattle.cal_model.specs.CalendarList.{CalendarList, Date, month_at}
 use Rattle.cal_model.specs.YearNames.{YearNames}
 use Rattle.cal_model.specs.Resolving.{Resolved, resolve, overflow_of, missing_fields_of}
 
--- the list of years; how years are named otherwise; which are leap years; for a date, the year of its era or cycle; for a place of a year, how its month stands to leap months, and the month by which it is formatted; and what is added to a year where adding tests its limit, since a calendar that counts another one's years tests it in those
+-- the list of years; how years are named otherwise; which are leap years; for a date, the year of its era or cycle;
+-- for a place of a year, how its month stands to leap months, and the month by which it is formatted;
+-- and what is added to a year where adding tests its limit,
+-- since a calendar that counts another one's years tests it in those
 pub record CalendarSystem : Type 0 where
   pub list : CalendarList
   pub year_names : YearNames
@@ -23,8 +26,11 @@ pub record CalendarSystem : Type 0 where
 
 -- what a date says of its month
 abbrev pub month_info_of : CalendarSystem → Date → MonthInfoParts
-month_info_of s t = month_info t.month (month_at s.list t.year t.month) (s.leap_status t.year t.month) (s.formatted_month t.year t.month)
+month_info_of s t =
+    month_info t.month (month_at s.list t.year t.month) (s.leap_status t.year t.month)
+    (s.formatted_month t.year t.month)
 
 -- what fields resolve to in a calendar, by the options that are given
 abbrev pub resolve_fields : CalendarSystem → Bag → DateFromFieldsOptions → Resolved Date
-resolve_fields s bag options = resolve s.list s.year_names bag (overflow_of options.overflow) (missing_fields_of options.missing_fields_strategy)
+resolve_fields s bag options =
+    resolve s.list s.year_names bag (overflow_of options.overflow) (missing_fields_of options.missing_fields_strategy)

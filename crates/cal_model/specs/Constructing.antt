@@ -18,7 +18,8 @@ year_given (EraYear era y) = y
 
 -- a day of a month in its place
 abbrev pub made_day : CalendarList → ℤ → ℕ → ℕ → Result Date DateNewError
-made_day c y i d = if nat_le 1 d && nat_le d (month_length c y i) then Ok (date y i d) else Err (InvalidDay (month_length c y i))
+made_day c y i d =
+    if nat_le 1 d && nat_le d (month_length c y i) then Ok (date y i d) else Err (InvalidDay (month_length c y i))
 
 -- a day of a month that the calendar knows, whose place is given where the year has the month
 abbrev pub made_month : CalendarList → ℤ → Option ℕ → ℕ → Result Date DateNewError
@@ -41,4 +42,5 @@ made_of_year c (Some y) m d = made_in_year c y m d
 
 -- in the order of the steps: the range of the given year, its era, the month, its place, and the day
 unfoldable pub made_date : CalendarList → YearNames → YearInput → MonthParts → ℕ → Result Date DateNewError
-made_date c names input m d = if is_constructor_year (year_given input) then made_of_year c (year_read names input) m d else Err InvalidYear
+made_date c names input m d =
+    if is_constructor_year (year_given input) then made_of_year c (year_read names input) m d else Err InvalidYear

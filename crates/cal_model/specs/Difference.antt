@@ -69,7 +69,8 @@ abbrev pub admits_weeks : DateDurationUnit → Bool
 admits_weeks Weeks = true
 admits_weeks _ = false
 
--- d is the difference from t to u: each admitted unit in turn, largest first, is the greatest number that does not surpass u
+-- d is the difference from t to u: each admitted unit in turn, largest first,
+-- is the greatest number that does not surpass u
 pub record IsDifference (c : CalendarList) (t u : Date) (unit : DateDurationUnit) (d : DateDuration) : Type 0 where
   pub sign : IsTrue d.is_negative ↔ (day_number c u <ℤ day_number c t)
   pub years : IsGreatestIf (admits_years unit) (YearsSurpass c t u d.is_negative) d.years

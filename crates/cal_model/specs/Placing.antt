@@ -1,4 +1,5 @@
--- Making a date of a year, an ordinal month and a day, of which none is changed: the date, or the first argument that is out of its range.
+-- Making a date of a year, an ordinal month and a day, of which none is changed:
+-- the date, or the first argument that is out of its range.
 -- Source: `Date::try_new_iso` and its sisters of icu_calendar.
 use Rattle.std.specs.Prelude.{ℕ, ℤ, pos, neg_ℤ, ◌&&◌, nat_le, List, Option, Some, None, Result, Ok, Err, codes, if◌then◌else◌}
 use Rattle.cal_days.specs.Day.{is_constructor_year}
@@ -28,7 +29,8 @@ placed_day c y i d =
 abbrev pub placed_in_year : CalendarList → ℤ → ℕ → ℕ → Result Date RangeParts
 placed_in_year c y i d =
     let last = month_count c y in
-    if nat_le 1 i && nat_le i last then placed_day c y i d else Err (out_of_range (codes "month") (pos i) (pos 1) (pos last))
+    if nat_le 1 i && nat_le i last then placed_day c y i d
+    else Err (out_of_range (codes "month") (pos i) (pos 1) (pos last))
 
 -- in the order of the steps: the range of the year, of the ordinal month, and of the day
 unfoldable pub placed_date : CalendarList → ℤ → ℕ → ℕ → Result Date RangeParts
@@ -46,7 +48,8 @@ placed_in_era c (Some y) i d = date_or_fault (placed_in_year c y i d)
 
 -- in the order of the steps: the range of the year in its era, the era, and the ranges of the ordinal month and the day
 unfoldable pub placed_of_era : CalendarList → YearNames → List ℕ → ℤ → ℕ → ℕ → Result Date DateFault
-placed_of_era c names era y i d = if is_constructor_year y then placed_in_era c (names.reads era y) i d else Err (OutOfRange (year_out_of_range y))
+placed_of_era c names era y i d =
+    if is_constructor_year y then placed_in_era c (names.reads era y) i d else Err (OutOfRange (year_out_of_range y))
 
 -- the fault of a lunisolar date of an extended year, which names no era
 abbrev pub lunisolar_fault : DateNewError → LunisolarDateError

@@ -1,4 +1,5 @@
--- A calendar that counts another one's years from a different year, as the Buddhist and the Minguo calendar count the ISO years.
+-- A calendar that counts another one's years from a different year,
+-- as the Buddhist and the Minguo calendar count the ISO years.
 use Rattle.std.specs.Prelude.{ℤ, ◌+ℤ◌, ◌-ℤ◌}
 use Rattle.cal_model.specs.CalendarList.{CalendarList, Date, date}
 

@@ -125,12 +125,16 @@ in_reference_year m (Ok y) = Ok (year_and_month y (ByMonth m))
 in_reference_year m (Err e) = Err (fields_error_of_reference_year e)
 
 -- under Constrain the plain month of its number takes the place of a leap month that has no reference year
-abbrev pub or_plain_month : YearNames → Overflow → MonthParts → ℕ → Result ℤ EcmaReferenceYearError → Resolved YearAndMonth
-or_plain_month names Constrain m d (Err UseRegularIfConstrain) = in_reference_year (plain_month m.number) (names.reference (plain_month m.number) d)
+abbrev pub or_plain_month : YearNames → Overflow → MonthParts → ℕ → Result ℤ EcmaReferenceYearError
+    → Resolved YearAndMonth
+or_plain_month names Constrain m d (Err UseRegularIfConstrain) =
+    in_reference_year (plain_month m.number) (names.reference (plain_month m.number) d)
 or_plain_month names o m d r = in_reference_year m r
 
--- where no year is named: the reference year of the month and the day, if fields are supplied and no ordinal month is given
-abbrev pub without_year : CalendarList → YearNames → MissingFieldsStrategy → Overflow → MonthName → Option ℕ → ℕ → Resolved YearAndMonth
+-- where no year is named: the reference year of the month and the day,
+-- if fields are supplied and no ordinal month is given
+abbrev pub without_year : CalendarList → YearNames → MissingFieldsStrategy → Overflow → MonthName → Option ℕ → ℕ
+    → Resolved YearAndMonth
 without_year c names strategy o m None d =
     if is_ecma strategy
     then after (month_known c m) (λ (known : MonthParts). or_plain_month names o known d (names.reference known d))
@@ -138,7 +142,8 @@ without_year c names strategy o m None d =
 without_year c names strategy o m (Some i) d = Err NotEnoughFields
 
 -- the year that the bag names, or a reference year
-abbrev pub in_year : CalendarList → YearNames → MissingFieldsStrategy → Overflow → MonthName → Option ℕ → ℕ → Option ℤ → Resolved YearAndMonth
+abbrev pub in_year : CalendarList → YearNames → MissingFieldsStrategy → Overflow → MonthName → Option ℕ → ℕ → Option ℤ
+    → Resolved YearAndMonth
 in_year c names strategy o m ordinal d (Some y) = Ok (year_and_month y m)
 in_year c names strategy o m ordinal d None = without_year c names strategy o m ordinal d
 

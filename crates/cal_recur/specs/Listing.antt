@@ -19,7 +19,8 @@ Occurs s t rule o k n =
     (u : Date) × IsSum s.list s.year_shift t (units rule.unit (k * rule.every)) o (Ok u) × (day_number s.list u ≡ n)
 
 -- some occurrences are those of a rule from one day to another, in the order of their indices and days
-pub record AreOccurrences (s : CalendarSystem) (t : Date) (rule : Rule) (first last : ℤ) (xs : List Occurrence) : Type 0 where
+pub record AreOccurrences (s : CalendarSystem) (t : Date) (rule : Rule) (first last : ℤ)
+    (xs : List Occurrence) : Type 0 where
   pub rising : AllPairs (λ x y. (x.index < y.index) × (x.day <ℤ y.day)) xs
   pub exact : (x : Occurrence) →
       Contains xs x ↔ (Occurs s t rule (overflow_of rule.missing) x.index x.day × IsBetween first last x.day)
@@ -64,7 +65,8 @@ IsRestAfter (Some w) (Some x) left = IsAfter w x.day left
 IsRestAfter None (Some _) left = ⊥
 
 -- a call goes on with the same calendar, start and rule in what is left
-pub record GoesOn {K D : Type 0} (k l : K) (d e : D) (given next : Rule) (rest : Option Window) (answer : Option Occurrence) (left : Option Window) : Type 0 where
+pub record GoesOn {K D : Type 0} (k l : K) (d e : D) (given next : Rule) (rest : Option Window)
+    (answer : Option Occurrence) (left : Option Window) : Type 0 where
   pub calendar : l ≡ k
   pub start : e ≡ d
   pub rule : next ≡ given

@@ -19,7 +19,8 @@ MeetsAll meets = (part : TablePart) → IsTrue (meets part)
 
 -- the first part of a row that breaks
 abbrev pub IsFirstBroken : (TablePart → Bool) → TablePart → Type 0
-IsFirstBroken meets part = (meets part ≡ false) × ((earlier : TablePart) → rank earlier < rank part → IsTrue (meets earlier))
+IsFirstBroken meets part =
+    (meets part ≡ false) × ((earlier : TablePart) → rank earlier < rank part → IsTrue (meets earlier))
 
 -- rows are accepted where each of them meets each part; `meets` tells which parts row i meets
 abbrev pub IsAccepted : {Y : Type 0} → (ℕ → Y → TablePart → Bool) → List Y → Type 0

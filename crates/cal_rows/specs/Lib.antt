@@ -1,6 +1,5 @@
 pub mod Rows
 pub mod Faults
 pub mod RowTests
-pub mod YearArguments
 pub mod Lengthening
 pub mod laws

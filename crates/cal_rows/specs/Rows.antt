@@ -18,7 +18,8 @@ is_next number least (Some before) row = int_eq (number row) (number before +ℤ
 
 -- each row's number is one more than that of the row before it
 abbrev pub AreConsecutive : {Y : Type 0} → (Y → ℤ) → List Y → Type 0
-AreConsecutive {Y} number rows = (i : ℕ) (before row : Y) → IsRow rows i before → IsRow rows (suc i) row → number row ≡ number before +ℤ pos 1
+AreConsecutive {Y} number rows =
+    (i : ℕ) (before row : Y) → IsRow rows i before → IsRow rows (suc i) row → number row ≡ number before +ℤ pos 1
 
 -- a row of a number
 abbrev pub IsRowOf : {Y : Type 0} → (Y → ℤ) → List Y → ℤ → Y → Type 0
@@ -28,10 +29,12 @@ IsRowOf number rows y row = (i : ℕ) × IsRow rows i row × (number row ≡ y)
 abbrev pub HasNoRow : {Y : Type 0} → (Y → ℤ) → List Y → ℤ → Type 0
 HasNoRow {Y} number rows y = (i : ℕ) (row : Y) → IsRow rows i row → number row ≢ y
 
--- the row of a number. Rows follow one another, so it stands as far after the first row as the number is after the first row's
+-- the row of a number. Rows follow one another, so it stands as far after the first row as the number is after the
+-- first row's
 abbrev pub row_of : {Y : Type 0} → (Y → ℤ) → List Y → ℤ → Option Y
 row_of number [] y = None
-row_of number (first ∷ rest) y = if int_lt y (number first) then None else slice_get (first ∷ rest) (unsigned_abs (y -ℤ number first))
+row_of number (first ∷ rest) y =
+    if int_lt y (number first) then None else slice_get (first ∷ rest) (unsigned_abs (y -ℤ number first))
 
 -- the row of a number where there is one, and otherwise the computed year
 abbrev pub chosen : {Y : Type 0} → (Y → ℤ) → (ℤ → Y) → List Y → ℤ → Y
@@ -53,4 +56,5 @@ ends number start end year_of row = follows start end row (year_of (number row +
 -- each row joins, and the last one ends where the computed next year starts
 pub record AreJoined {Y : Type 0} (number start end : Y → ℤ) (year_of : ℤ → Y) (rows : List Y) : Type 0 where
   pub starts : (i : ℕ) (row : Y) → IsRow rows i row → joins number start end year_of (row_before rows i) row ≡ true
-  pub last : (i : ℕ) (row : Y) → IsRow rows i row → (nat_lt (i + 1) (length rows) || ends number start end year_of row) ≡ true
+  pub last : (i : ℕ) (row : Y) → IsRow rows i row
+      → (nat_lt (i + 1) (length rows) || ends number start end year_of row) ≡ true

@@ -4,3 +4,4 @@ pub mod RowJoins
 pub mod RowTestLaws
 pub mod FaultLaws
 pub mod LengtheningLaws
+pub mod YearArguments

@@ -9,14 +9,15 @@ use Rattle.cal_model.specs.CalendarSystem.{CalendarSystem}
 use Rattle.cal_spans.specs.Spans.{SpanDates, IsSpan}
 use Rattle.cal_spans.specs.declared.span_error.SpanError.{SpanError}
 
--- valid dates are near enough for the limits of adding: their years may be named by fields, also as adding counts them, and they lie at most
--- 27040000 months apart
+-- valid dates are near enough for the limits of adding: their years may be named by fields, also as adding counts them,
+-- and they lie at most 27040000 months apart
 pub record IsWithinLimits (c : CalendarSystem) : Type 0 where
   pub ranged : (t : Date) → IsValidDate c.list t → IsFieldYear t.year × IsFieldYear (t.year +ℤ c.year_shift)
   pub apart : (t u : Date) → IsValidDate c.list t → IsValidDate c.list u
       → unsigned_abs (month_number c.list u.year u.month -ℤ month_number c.list t.year t.month) ≤ 27040000
 
--- in lawful calendars two bags have an answer: two dates, the same days and their difference, which leads back, or the first fault
+-- in lawful calendars two bags have an answer: two dates, the same days and their difference, which leads back,
+-- or the first fault
 abbrev pub TwoBagsHaveAnAnswer : Type 0
 TwoBagsHaveAnAnswer = (c : CalendarSystem) (shown : CalendarList) → IsLawful c.list → IsLawful shown → IsWithinLimits c
     → (first second : Bag) (options : DateFromFieldsOptions) (unit : DateDurationUnit)
@@ -24,5 +25,7 @@ TwoBagsHaveAnAnswer = (c : CalendarSystem) (shown : CalendarList) → IsLawful c
 
 -- two bags have no two answers
 abbrev pub AnswersAreUnique : Type 0
-AnswersAreUnique = (c : CalendarSystem) (shown : CalendarList) (first second : Bag) (options : DateFromFieldsOptions) (unit : DateDurationUnit)
-    (r s : Result SpanDates SpanError) → IsSpan c shown first second options unit r → IsSpan c shown first second options unit s → r ≡ s
+AnswersAreUnique =
+    (c : CalendarSystem) (shown : CalendarList) (first second : Bag) (options : DateFromFieldsOptions)
+    (unit : DateDurationUnit) (r s : Result SpanDates SpanError) → IsSpan c shown first second options unit r
+    → IsSpan c shown first second options unit s → r ≡ s

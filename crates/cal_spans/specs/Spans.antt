@@ -22,9 +22,10 @@ pub record SpanDates : Type 0 where
   pub to_shown : Date
   pub duration : DateDuration
 
--- each bag names its date; the shown dates have the same day numbers in the second list; the duration is the difference, and leads back: added to the
--- first date under Constrain, it gives the second
-pub record AnswersBags (c : CalendarSystem) (shown : CalendarList) (first second : Bag) (options : DateFromFieldsOptions) (unit : DateDurationUnit) (s : SpanDates) : Type 0 where
+-- each bag names its date; the shown dates have the same day numbers in the second list;
+-- the duration is the difference, and leads back: added to the first date under Constrain, it gives the second
+pub record AnswersBags (c : CalendarSystem) (shown : CalendarList) (first second : Bag)
+    (options : DateFromFieldsOptions) (unit : DateDurationUnit) (s : SpanDates) : Type 0 where
   pub from : resolve_fields c first options ≡ Ok s.from
   pub to : resolve_fields c second options ≡ Ok s.to
   pub from_shown : IsOn shown (day_number c.list s.from) s.from_shown
@@ -35,7 +36,8 @@ pub record AnswersBags (c : CalendarSystem) (shown : CalendarList) (first second
 -- the second bag is at fault only where the first names a date
 abbrev pub RefusesBag : CalendarSystem → Bag → Bag → DateFromFieldsOptions → BagSide → DateFromFieldsError → Type 0
 RefusesBag c from to options From cause = resolve_fields c from options ≡ Err cause
-RefusesBag c from to options To cause = (t : Date) × (resolve_fields c from options ≡ Ok t) × (resolve_fields c to options ≡ Err cause)
+RefusesBag c from to options To cause =
+    (t : Date) × (resolve_fields c from options ≡ Ok t) × (resolve_fields c to options ≡ Err cause)
 
 abbrev pub IsSpan : CalendarSystem → CalendarList → Bag → Bag → DateFromFieldsOptions → DateDurationUnit
     → Result SpanDates SpanError → Type 0

@@ -49,7 +49,8 @@ pub record TableContents : Type 0 where
 abbrev pub no_contents : TableContents
 no_contents = record { china = []; korea = []; hijri = []; persian = []; eras = eras_up_to_reiwa [] }
 
-abbrev pub contents_of : EastAsianTable → EastAsianTable → HijriTable → PersianCorrections → JapaneseEras → TableContents
+abbrev pub contents_of : EastAsianTable → EastAsianTable → HijriTable → PersianCorrections → JapaneseEras
+    → TableContents
 contents_of china korea hijri persian eras = record {
   china = east_asian.years_of china.rows.now;
   korea = east_asian.years_of korea.rows.now;

@@ -67,8 +67,8 @@ amount Months a = a.months
 amount Weeks a = a.weeks
 amount Days a = a.days
 
--- what is wrong with a unit and its number behind earlier ones: there is no unit, it came before, or the number is above
--- the greatest u32
+-- what is wrong with a unit and its number behind earlier ones: there is no unit, it came before,
+-- or the number is above the greatest u32
 abbrev pub amount_fault : Amounts → ℕ → Option DateDurationUnit → Option DateDurationParseError
 amount_fault earlier number None = Some InvalidStructure
 amount_fault earlier number (Some unit) =

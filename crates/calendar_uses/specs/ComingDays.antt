@@ -16,8 +16,8 @@ use Rattle.icu_calendar.specs.declared.Overflow.{Overflow}
 use Rattle.icu_calendar.specs.declared.Overflow.TheVariants.{Constrain, Reject}
 use Rattle.calendar_uses.specs.Recurrence.{later_by}
 
--- the birthdays from a first day to a last one of someone born on a day of Adar I: one in each year, in Adar where there
--- is no Adar I, and on the month's last day where it lacks the day
+-- the birthdays from a first day to a last one of someone born on a day of Adar I:
+-- one in each year, in Adar where there is no Adar I, and on the month's last day where it lacks the day
 abbrev pub birthdays_in_adar : ℕ → ℤ → ℤ → List ℤ
 birthdays_in_adar day first last = anniversaries_between hebrew_list leaping.Constrain (leap_month 5) day first last
 
@@ -32,7 +32,8 @@ IsLater s t duration overflow n =
 
 -- the items are all days from a first to a last one on which a date comes back, in order: item k is the date with k
 -- times so much added
-pub record ComesBackOn (s : CalendarSystem) (t : Date) (later : ℕ → DateDuration) (every : ℕ) (overflow : Overflow) (first last : ℤ) (xs : List Occurrence) : Type 0 where
+pub record ComesBackOn (s : CalendarSystem) (t : Date) (later : ℕ → DateDuration) (every : ℕ) (overflow : Overflow)
+    (first last : ℤ) (xs : List Occurrence) : Type 0 where
   pub rising : AllPairs (λ x y. (x.index < y.index) × (x.day <ℤ y.day)) xs
   pub exact : (x : Occurrence) →
       Contains xs x ↔ (IsLater s t (later (x.index * every)) overflow x.day × IsBetween first last x.day)

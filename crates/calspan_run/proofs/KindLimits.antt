@@ -25,7 +25,8 @@ use Rattle.cal_hebrew.specs.laws.HebrewLaws as hebrew_bounds
 use Rattle.cal_hijri.specs.laws.HijriBounds as hijri_bounds
 use Rattle.cal_hijri.specs.TableAccepted as hijri
 use Rattle.cal_hijri.specs.TableFriday.{friday_year}
-use Rattle.cal_hijri.specs.TableRules.{table_year, table_system, table-numbered, table-joins}
+use Rattle.cal_hijri.specs.TableRules.{table_year, table_system}
+use Rattle.cal_hijri.specs.laws.TableRuleLaws.{table-numbered, table-joins}
 use Rattle.cal_hijri.specs.TabularRules.{tabular_year, tabular_system, tabular-numbered, tabular-joins}
 use Rattle.cal_hijri.specs.declared.hijri_year.HijriYear.{HijriYear}
 use Rattle.cal_hijri.specs.declared.tabular_algorithm.TabularAlgorithm.{TabularAlgorithm}

@@ -21,7 +21,8 @@ unless_fault (Some e) lines = Err (anniversary_error e)
 
 -- a line for each day of a window that is an anniversary, in their order
 abbrev pub anniversary_lines : CalendarSystem → CalendarSystem → AnniversaryAsked → List ℕ
-anniversary_lines c shown a = lines_text (day_line c shown) (anniversaries_between c.list a.leaping a.month a.day a.first a.last)
+anniversary_lines c shown a =
+    lines_text (day_line c shown) (anniversaries_between c.list a.leaping a.month a.day a.first a.last)
 
 -- the same, or the fault of the month, or of the day
 abbrev pub anniversaries_in : CalendarSystem → CalendarSystem → AnniversaryAsked → Result (List ℕ) (List ℕ)
@@ -30,4 +31,5 @@ anniversaries_in c shown a = unless_fault (anniversary_fault c.list a.month a.da
 -- the answer over tables: first the window is tested
 abbrev pub anniversary_answer : AnniversaryAsked → TableContents → Result (List ℕ) (List ℕ)
 anniversary_answer a tables =
-    if is_window a.first a.last then anniversaries_in (kind_system tables a.calendar) (kind_system tables a.shown) a else Err (codes "InvalidWindow")
+    if is_window a.first a.last then anniversaries_in (kind_system tables a.calendar) (kind_system tables a.shown) a
+    else Err (codes "InvalidWindow")

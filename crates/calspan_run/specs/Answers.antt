@@ -13,7 +13,8 @@ use Rattle.table_rows.specs.declared.table.RowFault.TheVariants as row_fault
 -- the text that answers the request line of number n, and whether it is a refusal
 abbrev pub IsRequestAnswer : TableContents → RequestLine → ℕ → List ℕ → Bool → Type 0
 IsRequestAnswer tables Long n text refused = (text ≡ refusal n (codes "long")) × (refused ≡ true)
-IsRequestAnswer tables (Asks r) n text refused = IsReply (kind_system tables r.calendar) (kind_system tables r.shown) r text refused
+IsRequestAnswer tables (Asks r) n text refused =
+    IsReply (kind_system tables r.calendar) (kind_system tables r.shown) r text refused
 IsRequestAnswer tables Malformed n text refused = (text ≡ refusal n (codes "syntax")) × (refused ≡ true)
 
 -- where a run stands behind some request lines: whether one was answered err, or at the end that a row line made
@@ -22,7 +23,8 @@ pub data Standing : Type 0 where
   Ended : Standing
 
 -- a request line is answered, where some were answered before it
-pub record AnswersRequest (tables : TableContents) (before : Bool) (line : RequestLine) (n : ℕ) (text : List ℕ) (next : Standing) : Type 0 where
+pub record AnswersRequest (tables : TableContents) (before : Bool) (line : RequestLine) (n : ℕ) (text : List ℕ)
+    (next : Standing) : Type 0 where
   pub refused : Bool
   pub answer : IsRequestAnswer tables line n text refused
   pub stands : next ≡ Answering (if refused then true else before)
@@ -36,7 +38,8 @@ IsAnswerTo (Requests line) tables n (Answering before) text next = AnswersReques
 IsAnswerTo (Requests line) tables n Ended text next = (text ≡ []) × (next ≡ Ended)
 
 -- the text that answers what a line says
-pub record AnswersLine (tables : TableContents) (line : List ℕ) (n : ℕ) (s : Standing) (text : List ℕ) (next : Standing) : Type 0 where
+pub record AnswersLine (tables : TableContents) (line : List ℕ) (n : ℕ) (s : Standing) (text : List ℕ)
+    (next : Standing) : Type 0 where
   pub said : Line
   pub says : IsLine line said
   pub answer : IsAnswerTo said tables n s text next
@@ -45,7 +48,8 @@ pub record AnswersLine (tables : TableContents) (line : List ℕ) (n : ℕ) (s :
 abbrev pub AreAnswers : TableContents → List (List ℕ) → ℕ → Standing → List ℕ → Standing → Type 0
 AreAnswers tables [] n s text end = (text ≡ []) × (end ≡ s)
 AreAnswers tables (line ∷ more) n s text end =
-    (added rest : List ℕ) × (next : Standing) × AnswersLine tables line n s added next × (text ≡ added ++ rest) × AreAnswers tables more (n + 1) next rest end
+    (added rest : List ℕ) × (next : Standing) × AnswersLine tables line n s added next × (text ≡ added ++ rest)
+    × AreAnswers tables more (n + 1) next rest end
 
 -- how a run ends there
 abbrev pub status_at : Standing → Status
@@ -53,7 +57,8 @@ status_at (Answering refused) = status_of refused
 status_at Ended = TableRefused
 
 -- the answers to the lines from the first request line on, over the tables
-pub record AnswersAll (tables : TableContents) (lines : List (List ℕ)) (n : ℕ) (text : List ℕ) (status : Status) : Type 0 where
+pub record AnswersAll (tables : TableContents) (lines : List (List ℕ)) (n : ℕ) (text : List ℕ)
+    (status : Status) : Type 0 where
   pub end : Standing
   pub answers : AreAnswers tables lines n (Answering false) text end
   pub ends : status ≡ status_at end
@@ -62,7 +67,8 @@ pub record AnswersAll (tables : TableContents) (lines : List (List ℕ)) (n : �
 abbrev pub span_behind : Behind
 span_behind = record {
   AtEnd = λ tables text status. (text ≡ []) × (status ≡ Done);
-  AtLine = λ rows n request lines text status. OverTables (λ tables t s. AnswersAll tables lines n t s) rows text status;
+  AtLine = λ rows n request lines text status.
+      OverTables (λ tables t s. AnswersAll tables lines n t s) rows text status;
 }
 
 -- the answers to an input, or to what has come of it, and how a run ends there

@@ -43,7 +43,18 @@ anniversary_read words =
     and_then (next_word byte_of words) (λ day words.
     and_then (next_word int_of words) (λ first words.
     and_then (next_word int_of words) (λ last words.
-    Some (record { calendar = calendar; shown = shown; leaping = leaping; month = month; day = day; first = first; last = last }, words))))))))
+    Some (
+      record {
+        calendar = calendar;
+        shown = shown;
+        leaping = leaping;
+        month = month;
+        day = day;
+        first = first;
+        last = last;
+      },
+      words,
+    ))))))))
 
 -- the holidays of a book, from a first day to a last one
 pub record HolidaysAsked : Type 0 where
@@ -99,7 +110,18 @@ recur_header_read words =
     and_then (next_word missing_named words) (λ missing words.
     and_then (next_word int_of words) (λ first words.
     and_then (next_word int_of words) (λ last words.
-    Some (record { calendar = calendar; shown = shown; unit = unit; every = every; missing = missing; first = first; last = last }, words))))))))
+    Some (
+      record {
+        calendar = calendar;
+        shown = shown;
+        unit = unit;
+        every = every;
+        missing = missing;
+        first = first;
+        last = last;
+      },
+      words,
+    ))))))))
 
 -- the bag of the fields of all words
 abbrev pub fields_of : Option Bag → List (List ℕ) → Option Bag
@@ -112,4 +134,6 @@ recur_with header start = record { header = header; start = start }
 
 -- `CAL SHOWN UNIT EVERY skip|constrain FIRST LAST FIELDS`, with zero or more fields
 unfoldable pub recur_of : List (List ℕ) → Option RecurAsked
-recur_of words = and_then (recur_header_read words) (λ header words. option_map (recur_with header) (fields_of (Some no_fields) words))
+recur_of words =
+    and_then (recur_header_read words)
+    (λ header words. option_map (recur_with header) (fields_of (Some no_fields) words))

@@ -13,11 +13,13 @@ use Rattle.table_rows.specs.declared.table.Table.{Table}
 
 -- the tables aren't accepted, and the first fault is named
 abbrev pub RefusesTables : TableRows → List ℕ → Type 0
-RefusesTables rows text = (table : Table) × (fault : TableFault) × IsFirstRefused rows table fault × (text ≡ table_refusal table fault)
+RefusesTables rows text =
+    (table : Table) × (fault : TableFault) × IsFirstRefused rows table fault × (text ≡ table_refusal table fault)
 
 -- what is written over the tables, where they are accepted
 abbrev pub OverTables : (TableContents → List ℕ → Status → Type 0) → TableRows → List ℕ → Status → Type 0
-OverTables Writes rows text status = (AreAccepted rows × Writes (contents_of rows) text status) ⊎ (RefusesTables rows text × (status ≡ TableRefused))
+OverTables Writes rows text status =
+    (AreAccepted rows × Writes (contents_of rows) text status) ⊎ (RefusesTables rows text × (status ≡ TableRefused))
 
 -- what a command writes where row lines alone came, over the tables, and what it writes at another line
 pub record Behind : Type 1 where

@@ -11,10 +11,28 @@ use Rattle.calspan_run.specs.declared.command.Command.{Command}
 use Rattle.calspan_run.specs.declared.command.Command.TheVariants.{Span, Generate, Anniversary, Recur, Holidays}
 
 abbrev pub anniversary_said : AnniversaryWords → asked.AnniversaryAsked
-anniversary_said w = record { calendar = w.calendar; shown = w.shown; leaping = w.leaping; month = month_parts w.month; day = w.day; first = w.first; last = w.last }
+anniversary_said w =
+    record {
+      calendar = w.calendar;
+      shown = w.shown;
+      leaping = w.leaping;
+      month = month_parts w.month;
+      day = w.day;
+      first = w.first;
+      last = w.last;
+    }
 
 abbrev pub header_said : RecurHeader → asked.RecurHeader
-header_said h = record { calendar = h.calendar; shown = h.shown; unit = h.unit; every = h.every; missing = h.missing; first = h.first; last = h.last }
+header_said h =
+    record {
+      calendar = h.calendar;
+      shown = h.shown;
+      unit = h.unit;
+      every = h.every;
+      missing = h.missing;
+      first = h.first;
+      last = h.last;
+    }
 
 abbrev pub recur_said : RecurWords → asked.RecurAsked
 recur_said w = record { header = header_said w.header; start = bag_of w.fields }

@@ -12,7 +12,8 @@ use Rattle.calspan_run.specs.declared.status.Status.TheVariants.{WriteFault}
 -- the text was written and the run ends with this status; or the sink counted a fault, and a prefix was written
 abbrev pub EndsWith : Status → Status → Option (List ℕ) → Option (List ℕ) → ℕ → ℕ → List ℕ → Type 0
 EndsWith result status before now faults more text =
-    ((result ≡ status) × Appends before now text) ⊎ ((result ≡ WriteFault) × WrotePrefix before now text × Rose faults more)
+    ((result ≡ status) × Appends before now text)
+    ⊎ ((result ≡ WriteFault) × WrotePrefix before now text × Rose faults more)
 
 -- a list was written, or the line that refuses it, or a prefix of one of the two
 abbrev pub Listed : Result Bool Failed → Option (List ℕ) → Option (List ℕ) → (List ℕ → Bool → Type 0) → Type 0

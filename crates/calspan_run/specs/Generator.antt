@@ -22,9 +22,11 @@ use Rattle.calspan_run.specs.declared.generated.totals.Totals.{Totals}
 -- the calendars in the order of their program names, but for `ethiopic`, which stands before `ethioaa`
 abbrev pub calendars : List AnyCalendarKind
 calendars =
-    calendar.Buddhist ∷ calendar.Chinese ∷ calendar.Coptic ∷ calendar.Dangi ∷ calendar.Ethiopian ∷ calendar.EthiopianAmeteAlem
-    ∷ calendar.Gregorian ∷ calendar.Hebrew ∷ calendar.Indian ∷ calendar.HijriTabularTypeIIFriday ∷ calendar.HijriSimulatedMecca ∷ calendar.HijriTabularTypeIIThursday
-    ∷ calendar.HijriUmmAlQura ∷ calendar.Iso ∷ calendar.Japanese ∷ calendar.Julian ∷ calendar.Persian ∷ calendar.Roc ∷ []
+    calendar.Buddhist ∷ calendar.Chinese ∷ calendar.Coptic ∷ calendar.Dangi ∷ calendar.Ethiopian
+    ∷ calendar.EthiopianAmeteAlem ∷ calendar.Gregorian ∷ calendar.Hebrew ∷ calendar.Indian
+    ∷ calendar.HijriTabularTypeIIFriday ∷ calendar.HijriSimulatedMecca ∷ calendar.HijriTabularTypeIIThursday
+    ∷ calendar.HijriUmmAlQura ∷ calendar.Iso ∷ calendar.Japanese ∷ calendar.Julian ∷ calendar.Persian
+    ∷ calendar.Roc ∷ []
 
 abbrev pub calendar_of : ℕ → AnyCalendarKind
 calendar_of n = slice_index_or calendars n calendar.Roc
@@ -96,7 +98,8 @@ with_answer t c (Err e) = with_refusal t
 -- the totals with one more request, in calendars without rows of tables
 pub record IsCounted (r : Request) (before after : Totals) : Type 0 where
   pub answer : Result SpanDates SpanError
-  pub span : IsSpan (kind_system no_contents r.calendar) (kind_system no_contents r.shown).list r.from r.to (options_of r) (largest_unit_of r.unit) answer
+  pub span : IsSpan (kind_system no_contents r.calendar) (kind_system no_contents r.shown).list r.from r.to
+      (options_of r) (largest_unit_of r.unit) answer
   pub counts : after ≡ with_answer before (kind_system no_contents r.calendar) answer
 
 -- the totals over the first n requests

@@ -12,5 +12,6 @@ use Rattle.calspan_run.specs.declared.status.Status.TheVariants.{NoMemory}
 -- the text of the answer was written, or a prefix of it; or there was no memory for a book, and nothing was written
 abbrev pub EndsHolidays : HolidaysAsked → Status → List ℕ → Option (List ℕ) → Option (List ℕ) → ℕ → ℕ → Type 0
 EndsHolidays asked result bytes before now faults more =
-    EndsWith result (status_of (is_refused (holidays_answer asked bytes))) before now faults more (list_text (holidays_answer asked bytes))
+    EndsWith result (status_of (is_refused (holidays_answer asked bytes))) before now faults more
+    (list_text (holidays_answer asked bytes))
     ⊎ ((result ≡ NoMemory) × (0 < length bytes) × Keeps before now)

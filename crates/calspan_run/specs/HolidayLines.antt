@@ -37,10 +37,12 @@ record_fault number field = codes "record " ++ decimal number ++ codes " field "
 
 -- a line for each holiday of a book in a window, in their order, over tables without rows
 abbrev pub holidays_by : HolidaysAsked → Result (List NamedRule) (ℕ × ℕ) → Result (List ℕ) (List ℕ)
-holidays_by asked (Ok rules) = Ok (lines_text (holiday_line rules) (holidays_in no_contents rules asked.first asked.last 0))
+holidays_by asked (Ok rules) =
+    Ok (lines_text (holiday_line rules) (holidays_in no_contents rules asked.first asked.last 0))
 holidays_by asked (Err (number, field)) = Err (record_fault number field)
 
 -- the answer over the text of a book: first the window is tested
 abbrev pub holidays_answer : HolidaysAsked → List ℕ → Result (List ℕ) (List ℕ)
 holidays_answer asked bytes =
-    if is_window asked.first asked.last then holidays_by asked (book_read 1 (book_records bytes)) else Err (codes "InvalidWindow")
+    if is_window asked.first asked.last then holidays_by asked (book_read 1 (book_records bytes))
+    else Err (codes "InvalidWindow")

@@ -31,7 +31,8 @@ abbrev pub HolidayEnds : HolidaysAsked → Status → Outside → Outside → Ty
 HolidayEnds asked Done old new = AllRead asked old new false
 HolidayEnds asked Refused old new = AllRead asked old new true
 HolidayEnds asked Words old new = ⊥
-HolidayEnds asked ReadFault old new = (bytes : List ℕ) × Rose old.read_faults new.read_faults × Exchanged old new bytes []
+HolidayEnds asked ReadFault old new =
+    (bytes : List ℕ) × Rose old.read_faults new.read_faults × Exchanged old new bytes []
 HolidayEnds asked WriteFault old new = StoppedWriting (holiday_rules asked) old new
 HolidayEnds asked NoMemory old new = (bytes : List ℕ) × (0 < length bytes) × Exchanged old new bytes []
 HolidayEnds asked TableRefused old new = ⊥

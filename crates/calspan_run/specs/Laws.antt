@@ -13,19 +13,26 @@ use Rattle.calspan_run.specs.declared.status.Status.{Status}
 
 -- to every input, and to what has come of one, a text and a status
 abbrev pub EveryInputHas : (List ℕ → Bool → List ℕ → Status → Type 0) → Type 0
-EveryInputHas Says = (bytes : List ℕ) (whole : Bool) → (text : List ℕ) × (status : Status) × Says bytes whole text status
+EveryInputHas Says =
+    (bytes : List ℕ) (whole : Bool) → (text : List ℕ) × (status : Status) × Says bytes whole text status
 
 -- to no input two texts or two statuses
 abbrev pub IsUnique : (List ℕ → Bool → List ℕ → Status → Type 0) → Type 0
-IsUnique Says = (bytes : List ℕ) (whole : Bool) (a b : List ℕ) (s t : Status) → Says bytes whole a s → Says bytes whole b t → (a ≡ b) × (s ≡ t)
+IsUnique Says =
+    (bytes : List ℕ) (whole : Bool) (a b : List ℕ) (s t : Status) → Says bytes whole a s → Says bytes whole b t
+    → (a ≡ b) × (s ≡ t)
 
 -- the text for what has come of an input is a prefix of the text for what comes of it later
 abbrev pub PrefixesHavePrefixes : (List ℕ → Bool → List ℕ → Status → Type 0) → Type 0
-PrefixesHavePrefixes Says = (bytes more : List ℕ) (whole : Bool) (a b : List ℕ) (s t : Status) → Says bytes false a s → Says (bytes ++ more) whole b t → IsPrefix a b
+PrefixesHavePrefixes Says =
+    (bytes more : List ℕ) (whole : Bool) (a b : List ℕ) (s t : Status) → Says bytes false a s
+    → Says (bytes ++ more) whole b t → IsPrefix a b
 
 -- what ends a run at a line, ends it whatever comes behind
 abbrev pub LinesEndForGood : Rules → Type 0
-LinesEndForGood c = (bytes more : List ℕ) (whole : Bool) (text : List ℕ) (status : Status) → c.EndsAtLine status → c.Says bytes false text status → c.Says (bytes ++ more) whole text status
+LinesEndForGood c =
+    (bytes more : List ℕ) (whole : Bool) (text : List ℕ) (status : Status) → c.EndsAtLine status
+    → c.Says bytes false text status → c.Says (bytes ++ more) whole text status
 
 -- where memory may be lacking, it may be lacking whatever comes behind
 abbrev pub LacksForGood : Rules → Type 0
@@ -39,16 +46,22 @@ pub record AreLasting (c : Rules) : Type 0 where
 -- over any tables there is one list, or one line that refuses it
 pub record IsList (Lists : TableContents → List ℕ → Bool → Type 0) : Type 0 where
   pub exists : (tables : TableContents) → (text : List ℕ) × (refused : Bool) × Lists tables text refused
-  pub unique : (tables : TableContents) (x y : List ℕ) (p q : Bool) → Lists tables x p → Lists tables y q → (x ≡ y) × (p ≡ q)
+  pub unique : (tables : TableContents) (x y : List ℕ) (p q : Bool) → Lists tables x p → Lists tables y q
+      → (x ≡ y) × (p ≡ q)
 
 -- how a run of a list ends, by what was read and written
 abbrev pub EndsAsList : (TableContents → List ℕ → Bool → Type 0) → Type 0
-EndsAsList Lists = (status : Status) (before now : Outside) → Serves (list_rules Lists) status before now → ListEnds Lists status before now
+EndsAsList Lists =
+    (status : Status) (before now : Outside) → Serves (list_rules Lists) status before now
+    → ListEnds Lists status before now
 
 -- how a run of `holidays` ends, by what was read and written
 abbrev pub EndsAsHolidays : HolidaysAsked → Type 0
-EndsAsHolidays asked = (status : Status) (before now : Outside) → Serves (holiday_rules asked) status before now → HolidayEnds asked status before now
+EndsAsHolidays asked =
+    (status : Status) (before now : Outside) → Serves (holiday_rules asked) status before now
+    → HolidayEnds asked status before now
 
 -- to every number of requests there is a line, and only one
 abbrev pub EveryNumberHasOneLine : Type 0
-EveryNumberHasOneLine = (n : ℕ) → ((text : List ℕ) × IsGenerated n text) × ((a b : List ℕ) → IsGenerated n a → IsGenerated n b → a ≡ b)
+EveryNumberHasOneLine =
+    (n : ℕ) → ((text : List ℕ) × IsGenerated n text) × ((a b : List ℕ) → IsGenerated n a → IsGenerated n b → a ≡ b)

@@ -18,7 +18,8 @@ use Rattle.calspan_run.specs.declared.status.Status.TheVariants.{Done, Refused, 
 use Rattle.table_rows.specs.declared.table.RowFault.{RowFault}
 
 -- the source was read to its end, its rows are accepted, and the list over them is written, or the line that refuses it
-pub record AllListed (Lists : TableContents → List ℕ → Bool → Type 0) (old new : Outside) (refused : Bool) : Type 0 where
+pub record AllListed (Lists : TableContents → List ℕ → Bool → Type 0) (old new : Outside)
+    (refused : Bool) : Type 0 where
   pub bytes : List ℕ
   pub text : List ℕ
   pub rows : TableRows
@@ -69,9 +70,11 @@ ListEnds Lists Done old new = AllListed Lists old new false
 ListEnds Lists Refused old new = AllListed Lists old new true ⊎ MetOther old new
 ListEnds Lists Words old new = ⊥
 ListEnds Lists ReadFault old new =
-    (bytes : List ℕ) × (rows : TableRows) × Rose old.read_faults new.read_faults × Exchanged old new bytes [] × AreRows (lines_in bytes false) rows
+    (bytes : List ℕ) × (rows : TableRows) × Rose old.read_faults new.read_faults × Exchanged old new bytes []
+    × AreRows (lines_in bytes false) rows
 ListEnds Lists WriteFault old new = StoppedWriting (list_rules Lists) old new
 ListEnds Lists NoMemory old new = WantedMemory (list_rules Lists) old new
 ListEnds Lists TableRefused old new = MetFaultyRow old new ⊎ TablesRefused old new
 ListEnds Lists TooLong old new =
-    (bytes : List ℕ) × (rows : TableRows) × (limit < length bytes) × Exchanged old new bytes [] × AreRows (lines_in (take limit bytes) false) rows
+    (bytes : List ℕ) × (rows : TableRows) × (limit < length bytes) × Exchanged old new bytes []
+    × AreRows (lines_in (take limit bytes) false) rows

@@ -12,4 +12,5 @@ ListsAnniversaries a tables text refused = IsListText (anniversary_answer a tabl
 
 -- the text of `recur`, and whether it is a refusal
 abbrev pub ListsOccurrences : RecurAsked → TableContents → List ℕ → Bool → Type 0
-ListsOccurrences a tables text refused = (answer : Result (List ℕ) (List ℕ)) × IsRecurAnswer a tables answer × IsListText answer text refused
+ListsOccurrences a tables text refused =
+    (answer : Result (List ℕ) (List ℕ)) × IsRecurAnswer a tables answer × IsListText answer text refused

@@ -18,8 +18,10 @@ abbrev pub no_options : DateFromFieldsOptions
 no_options = record { overflow = None; missing_fields_strategy = None }
 
 -- a line for each occurrence of a rule in a window, in their order; or why the fields name no start
-abbrev pub occurrence_lines : CalendarSystem → CalendarSystem → RecurAsked → Rule → Result Date DateFromFieldsError → Result (List ℕ) (List ℕ)
-occurrence_lines c shown a rule (Ok start) = Ok (lines_text (occurrence_line c shown) (occurrences c start rule a.header.first a.header.last))
+abbrev pub occurrence_lines : CalendarSystem → CalendarSystem → RecurAsked → Rule → Result Date DateFromFieldsError
+    → Result (List ℕ) (List ℕ)
+occurrence_lines c shown a rule (Ok start) =
+    Ok (lines_text (occurrence_line c shown) (occurrences c start rule a.header.first a.header.last))
 occurrence_lines c shown a rule (Err cause) = Err (cause_text cause)
 
 -- the answer by a rule
@@ -32,9 +34,11 @@ answer_by_rule a tables rule =
 abbrev pub IsAnswerByRule : RecurAsked → TableContents → Result (List ℕ) (List ℕ) → Type 0
 IsAnswerByRule a tables answer =
     MatchBool (a.header.every == 0) (answer ≡ Err (codes "Every"))
-    ((rule : Rule) × IsRule a.header.unit a.header.every a.header.missing rule × (answer ≡ answer_by_rule a tables rule))
+    ((rule : Rule) × IsRule a.header.unit a.header.every a.header.missing rule
+    × (answer ≡ answer_by_rule a tables rule))
 
 -- the answer over tables: first the window is tested, then the rule, then the start
 abbrev pub IsRecurAnswer : RecurAsked → TableContents → Result (List ℕ) (List ℕ) → Type 0
 IsRecurAnswer a tables answer =
-    MatchBool (is_window a.header.first a.header.last) (IsAnswerByRule a tables answer) (answer ≡ Err (codes "InvalidWindow"))
+    MatchBool (is_window a.header.first a.header.last) (IsAnswerByRule a tables answer)
+    (answer ≡ Err (codes "InvalidWindow"))

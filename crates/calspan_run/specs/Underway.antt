@@ -28,13 +28,17 @@ pub record AnswersBehind (rows : TableRows) (lines : List (List ℕ)) (text : Li
   pub answers : AreAnswers (contents_of rows) (line ∷ more) number (Answering false) text s
 
 -- a line was answered behind a text, or a write failed
-abbrev pub Responded : Result Answered Failed → TableRows → ℕ → Bool → List ℕ → Option (List ℕ) → Option (List ℕ) → List ℕ → List ℕ → Type 0
+abbrev pub Responded : Result Answered Failed → TableRows → ℕ → Bool → List ℕ → Option (List ℕ) → Option (List ℕ)
+    → List ℕ → List ℕ → Type 0
 Responded (Ok answered) rows number refused whole before now pending text =
-    (added : List ℕ) × IsAnswerTo (line_of whole) (contents_of rows) number (Answering refused) added (standing_of answered) × TextSoFar before now pending (text ++ added)
+    (added : List ℕ)
+    × IsAnswerTo (line_of whole) (contents_of rows) number (Answering refused) added (standing_of answered)
+    × TextSoFar before now pending (text ++ added)
 Responded (Err e) rows number refused whole before now pending text = WrotePrefix before now text
 
 -- these bytes were taken, these lines are answered, and this rest of a line is held
-pub record IsUnderway (old new : Outside) (r : Reader) (line : LineBuffer) (pending : List ℕ) (rows : TableRows) (s : Standing) : Type 0 where
+pub record IsUnderway (old new : Outside) (r : Reader) (line : LineBuffer) (pending : List ℕ) (rows : TableRows)
+    (s : Standing) : Type 0 where
   pub bytes : List ℕ
   pub lines : List (List ℕ)
   pub rest : List ℕ

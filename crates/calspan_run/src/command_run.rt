@@ -91,7 +91,8 @@ pub fn run<S: Source, K: Sink>(
         (outside (S.left source.new) (K.taken sink.new) (S.faults source.new) (K.faults sink.new)) result input) }
 
     // The lists, in the same way.
-    ensures anniversary { (asked : AnniversaryAsked) → command_of (map string_bytes words.now) ≡ Some (Anniversary asked)
+    ensures anniversary { (asked : AnniversaryAsked)
+        → command_of (map string_bytes words.now) ≡ Some (Anniversary asked)
         → RunsList (ListsAnniversaries asked) result
         (outside (S.left source.old) (K.taken sink.old) (S.faults source.old) (K.faults sink.old))
         (outside (S.left source.new) (K.taken sink.new) (S.faults source.new) (K.faults sink.new)) }

@@ -66,7 +66,8 @@ abbrev pub IsName : Option (List ℕ) → Type 0
 IsName None = ⊤
 IsName (Some name) = is_calendar_name name ≡ true
 
--- the text says this date and this name: year, month and day, with a minus between each two, and an annotation where there is a name
+-- the text says this date and this name: year, month and day, with a minus between each two,
+-- and an annotation where there is a name
 pub record IsDateText (bytes : List ℕ) (t : Date) (name : Option (List ℕ)) : Type 0 where
   pub form : YearForm
   pub number : ℕ
@@ -75,4 +76,5 @@ pub record IsDateText (bytes : List ℕ) (t : Date) (name : Option (List ℕ)) :
   pub exists : IsDate iso_list t
   pub critical : Bool
   pub named : IsName name
-  pub text : bytes ≡ year_text form number ++ (45 ∷ two_digits t.month ++ (45 ∷ two_digits t.day ++ annotation critical name))
+  pub text : bytes
+      ≡ year_text form number ++ (45 ∷ two_digits t.month ++ (45 ∷ two_digits t.day ++ annotation critical name))

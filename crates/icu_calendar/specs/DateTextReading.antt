@@ -75,7 +75,8 @@ behind_key text = option_or (behind (calendar_key false) text) (behind (calendar
 
 -- the text before a bracket at its end
 abbrev pub before_bracket : List ℕ → Option (List ℕ)
-before_bracket text = if bytes_eq (drop (length text - 1) text) (93 ∷ []) then Some (take (length text - 1) text) else None
+before_bracket text =
+    if bytes_eq (drop (length text - 1) text) (93 ∷ []) then Some (take (length text - 1) text) else None
 
 abbrev pub checked_name : List ℕ → Option (List ℕ)
 checked_name name = if is_calendar_name name then Some name else None
@@ -92,4 +93,5 @@ annotation_read (byte ∷ rest) = option_map Some (name_read (byte ∷ rest))
 -- a date, and at most one annotation
 unfoldable pub text_read : List ℕ → Option RecordParts
 text_read text =
-    option_and_then (λ t. option_map (λ name. record { date = Some t.0; calendar = name }) (annotation_read t.1)) (date_read text)
+    option_and_then (λ t. option_map (λ name. record { date = Some t.0; calendar = name }) (annotation_read t.1))
+    (date_read text)

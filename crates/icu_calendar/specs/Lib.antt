@@ -1,6 +1,5 @@
 pub mod SpanAnswers
 pub mod Clamping
-pub mod Comparing
 pub mod Answers
 pub mod PlacedFields
 pub mod DateText
@@ -52,7 +51,7 @@ pub use Rattle.cal_model.specs.Anniversary
 pub use Rattle.cal_arith.specs.Dates
 pub use Rattle.cal_arith.specs.Given
 pub use Rattle.cal_arith.specs.Ticks
-pub use Rattle.cal_base.specs.Compatibility
+pub use Rattle.cal_base.specs.laws.Compatibility
 pub use Rattle.cal_base.specs.GregorianList
 pub use Rattle.cal_base.specs.OffsetList
 pub use Rattle.cal_base.specs.laws.OffsetListLaws
@@ -112,3 +111,4 @@ pub use Rattle.cal_tables.specs.Kinds
 pub use Rattle.cal_spans.specs.Spans
 pub use Rattle.cal_kinds.specs.KindNames
 pub use Rattle.published_years.specs.Published
+pub mod laws

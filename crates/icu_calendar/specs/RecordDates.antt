@@ -27,7 +27,8 @@ date_numbers d = date d.year d.month d.day
 abbrev pub record_parts : IxdtfRecord → RecordParts
 record_parts r = record { date = option_map date_numbers r.date; calendar = option_map (λ name. name.now) r.calendar }
 
--- why there is no date: the text isn't of the form; there are no numbers; no calendar has the name; the name is another calendar's; or a number is out of its range
+-- why there is no date: the text isn't of the form; there are no numbers; no calendar has the name;
+-- the name is another calendar's; or a number is out of its range
 pub data ParseFault : Type 0 where
   NotOfForm : ParseFault
   NoNumbers : ParseFault
@@ -57,7 +58,8 @@ other_name expected (Some found) = OtherCalendar expected found
 abbrev pub calendar_fault : Option CalendarAlgorithm → Option (List ℕ) → Option ParseFault
 calendar_fault None name = None
 calendar_fault (Some expected) None = None
-calendar_fault (Some expected) (Some name) = if bytes_eq name (algorithm_name expected) then None else Some (other_name expected (algorithm_named name))
+calendar_fault (Some expected) (Some name) =
+    if bytes_eq name (algorithm_name expected) then None else Some (other_name expected (algorithm_named name))
 
 -- the date of the numbers, where the calendar isn't at fault
 abbrev pub dated : Option ParseFault → Result Date RangeParts → Result Date ParseFault
@@ -81,6 +83,8 @@ IsShownIn c (Err e) (Ok t) = ⊥
 IsShownIn c (Err e) (Err f) = e ≡ f
 
 -- what a text is answered with: a text of the form as its record, and any other as one that isn't of the form
-pub record AnswersText (c : CalendarList) (algorithm : Option CalendarAlgorithm) (bytes : List ℕ) (answer : Result Date ParseFault) : Type 0 where
-  pub read : (t : Date) (name : Option (List ℕ)) → IsDateText bytes t name → IsShownIn c (recorded algorithm (Some t) name) answer
+pub record AnswersText (c : CalendarList) (algorithm : Option CalendarAlgorithm) (bytes : List ℕ)
+    (answer : Result Date ParseFault) : Type 0 where
+  pub read : (t : Date) (name : Option (List ℕ)) → IsDateText bytes t name
+      → IsShownIn c (recorded algorithm (Some t) name) answer
   pub refused : ((t : Date) (name : Option (List ℕ)) → IsDateText bytes t name → ⊥) → answer ≡ Err NotOfForm

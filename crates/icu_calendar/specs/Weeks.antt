@@ -10,7 +10,8 @@ pub record IsThursdayOf (day thursday : ℤ) : Type 0 where
   pub monday : (thursday -ℤ pos 3) ≤ℤ day
   pub sunday : day ≤ℤ (thursday +ℤ pos 3)
 
--- a day is in this week of this year: the Thursday lies in the year, and the weeks are counted by its day of the year, from 0, in sevens
+-- a day is in this week of this year: the Thursday lies in the year, and the weeks are counted by its day of the year,
+-- from 0, in sevens
 pub record IsInWeek (day year : ℤ) (week : ℕ) : Type 0 where
   pub thursday : ℤ
   pub of : IsThursdayOf day thursday

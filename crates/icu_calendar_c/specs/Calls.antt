@@ -46,7 +46,8 @@ IsTold view (Ok parts) code max before now = (code ≡ 0) × (max ≡ 0) × (now
 IsTold view (Err why) code max before now = (code ≡ (view why).code) × (max ≡ (view why).max) × (now ≡ before)
 
 -- the date that fields name
-pub record NamesDate (s : CalendarSystem) (bag : Bag) (options : DateFromFieldsOptions) (code max : ℕ) (before now : CalendarDate) : Type 0 where
+pub record NamesDate (s : CalendarSystem) (bag : Bag) (options : DateFromFieldsOptions) (code max : ℕ)
+    (before now : CalendarDate) : Type 0 where
   pub answer : Result CalendarDate DateFromFieldsError
   pub resolved : IsResolved s bag options answer
   pub told : IsTold fields_fault answer code max before now
@@ -54,35 +55,44 @@ pub record NamesDate (s : CalendarSystem) (bag : Bag) (options : DateFromFieldsO
 abbrev pub fields_options : Option Overflow → Option MissingFieldsStrategy → DateFromFieldsOptions
 fields_options overflow missing = record { overflow = overflow; missing_fields_strategy = missing }
 
-abbrev pub NamesWith : CalendarSystem → Bag → Option Overflow → Option (Option MissingFieldsStrategy) → ℕ → ℕ → CalendarDate → CalendarDate → Type 0
-NamesWith s bag overflow (Some missing) code max before now = NamesDate s bag (fields_options overflow missing) code max before now
+abbrev pub NamesWith : CalendarSystem → Bag → Option Overflow → Option (Option MissingFieldsStrategy) → ℕ → ℕ
+    → CalendarDate → CalendarDate → Type 0
+NamesWith s bag overflow (Some missing) code max before now =
+    NamesDate s bag (fields_options overflow missing) code max before now
 NamesWith s bag overflow None code max before now = IsLeftWith 3 code max before now
 
-abbrev pub NamesIn : CalendarSystem → Bag → Option (Option Overflow) → Option (Option MissingFieldsStrategy) → ℕ → ℕ → CalendarDate → CalendarDate → Type 0
+abbrev pub NamesIn : CalendarSystem → Bag → Option (Option Overflow) → Option (Option MissingFieldsStrategy) → ℕ → ℕ
+    → CalendarDate → CalendarDate → Type 0
 NamesIn s bag (Some overflow) missing code max before now = NamesWith s bag overflow missing code max before now
 NamesIn s bag None missing code max before now = IsLeftWith 3 code max before now
 
 -- the date that a duration leads to from a day
-pub record AddsTo (s : CalendarSystem) (day : ℤ) (duration : DateDuration) (overflow : Overflow) (code max : ℕ) (before now : CalendarDate) : Type 0 where
+pub record AddsTo (s : CalendarSystem) (day : ℤ) (duration : DateDuration) (overflow : Overflow) (code max : ℕ)
+    (before now : CalendarDate) : Type 0 where
   pub answer : Result CalendarDate DateAddError
   pub added : IsAdded s day duration overflow answer
   pub told : IsTold sum_fault answer code max before now
 
-abbrev pub AddsIn : CalendarSystem → Option (Option Overflow) → ℤ → DateDuration → ℕ → ℕ → CalendarDate → CalendarDate → Type 0
+abbrev pub AddsIn : CalendarSystem → Option (Option Overflow) → ℤ → DateDuration → ℕ → ℕ → CalendarDate → CalendarDate
+    → Type 0
 AddsIn s (Some overflow) day duration code max before now =
-    MatchBool (is_valid_day day) (AddsTo s day duration (add_overflow_of overflow) code max before now) (IsLeftWith 4 code max before now)
+    MatchBool (is_valid_day day) (AddsTo s day duration (add_overflow_of overflow) code max before now)
+    (IsLeftWith 4 code max before now)
 AddsIn s None day duration code max before now = IsLeftWith 3 code max before now
 
 -- the difference of two days, which leads back
-pub record Differs (s : CalendarSystem) (first second : ℤ) (unit : DateDurationUnit) (code : ℕ) (now : CalendarDuration) : Type 0 where
+pub record Differs (s : CalendarSystem) (first second : ℤ) (unit : DateDurationUnit) (code : ℕ)
+    (now : CalendarDuration) : Type 0 where
   pub duration : DateDuration
   pub apart : IsApart s first second unit duration
   pub done : code ≡ 0
   pub told : now ≡ duration_told duration
 
-abbrev pub DiffersIn : CalendarSystem → Option (Option DateDurationUnit) → ℤ → ℤ → ℕ → CalendarDuration → CalendarDuration → Type 0
+abbrev pub DiffersIn : CalendarSystem → Option (Option DateDurationUnit) → ℤ → ℤ → ℕ → CalendarDuration
+    → CalendarDuration → Type 0
 DiffersIn s (Some unit) first second code before now =
-    MatchBool (is_valid_day first && is_valid_day second) (Differs s first second (largest_unit_of unit) code now) (IsLeft 4 code before now)
+    MatchBool (is_valid_day first && is_valid_day second) (Differs s first second (largest_unit_of unit) code now)
+    (IsLeft 4 code before now)
 DiffersIn s None first second code before now = IsLeft 3 code before now
 
 -- the code of the era of a day's year stands first in the room; or the room is too short, and as it was

@@ -15,9 +15,10 @@ use Rattle.published_years.specs.Published.{published_contents}
 -- the kinds that have codes, in the order of these
 abbrev pub kinds : List AnyCalendarKind
 kinds =
-    kind.Buddhist ∷ kind.Chinese ∷ kind.Coptic ∷ kind.Dangi ∷ kind.Ethiopian ∷ kind.EthiopianAmeteAlem ∷ kind.Gregorian ∷ kind.Hebrew ∷ kind.Indian
-    ∷ kind.HijriTabularTypeIIFriday ∷ kind.HijriSimulatedMecca ∷ kind.HijriTabularTypeIIThursday ∷ kind.HijriUmmAlQura ∷ kind.Iso ∷ kind.Japanese
-    ∷ kind.Julian ∷ kind.Persian ∷ kind.Roc ∷ []
+    kind.Buddhist ∷ kind.Chinese ∷ kind.Coptic ∷ kind.Dangi ∷ kind.Ethiopian ∷ kind.EthiopianAmeteAlem
+    ∷ kind.Gregorian ∷ kind.Hebrew ∷ kind.Indian ∷ kind.HijriTabularTypeIIFriday ∷ kind.HijriSimulatedMecca
+    ∷ kind.HijriTabularTypeIIThursday ∷ kind.HijriUmmAlQura ∷ kind.Iso ∷ kind.Japanese ∷ kind.Julian ∷ kind.Persian
+    ∷ kind.Roc ∷ []
 
 -- the kind of a code
 abbrev pub kind_of_code : ℕ → Option AnyCalendarKind

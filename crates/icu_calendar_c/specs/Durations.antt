@@ -25,17 +25,21 @@ duration_given d = record {
 
 -- what a caller is told of a duration
 abbrev pub duration_told : DateDuration → CalendarDuration
-duration_told d = record { years = d.years; months = d.months; weeks = d.weeks; days = d.days; is_negative = flag d.is_negative }
+duration_told d =
+    record { years = d.years; months = d.months; weeks = d.weeks; days = d.days; is_negative = flag d.is_negative }
 
 -- what the date says that a duration leads to from a day, or why there is none
-pub record IsAdded (s : CalendarSystem) (day : ℤ) (duration : DateDuration) (overflow : Overflow) (answer : Result CalendarDate DateAddError) : Type 0 where
+pub record IsAdded (s : CalendarSystem) (day : ℤ) (duration : DateDuration) (overflow : Overflow)
+    (answer : Result CalendarDate DateAddError) : Type 0 where
   pub from : Date
   pub on : IsOn s.list day from
-  pub sum : MatchResult answer (λ parts. (to : Date) × IsSum s.list s.year_shift from duration overflow (Ok to) × AreParts s to parts)
+  pub sum : MatchResult answer
+      (λ parts. (to : Date) × IsSum s.list s.year_shift from duration overflow (Ok to) × AreParts s to parts)
       (λ why. IsSum s.list s.year_shift from duration overflow (Err why))
 
 -- the difference from the date of a day to that of another one; it leads back
-pub record IsApart (s : CalendarSystem) (first second : ℤ) (unit : DateDurationUnit) (duration : DateDuration) : Type 0 where
+pub record IsApart (s : CalendarSystem) (first second : ℤ) (unit : DateDurationUnit)
+    (duration : DateDuration) : Type 0 where
   pub from : Date
   pub to : Date
   pub on_first : IsOn s.list first from

@@ -28,4 +28,6 @@ open_line bytes = last_of (parts_of bytes)
 
 -- the lines; of a whole text, what follows the last LF is a line too where it isn't empty
 abbrev pub lines_in : List ℕ → Bool → List (List ℕ)
-lines_in bytes whole = if whole && nat_lt 0 (length (open_line bytes)) then closed_lines bytes ++ open_line bytes ∷ [] else closed_lines bytes
+lines_in bytes whole =
+    if whole && nat_lt 0 (length (open_line bytes)) then closed_lines bytes ++ open_line bytes ∷ []
+    else closed_lines bytes

@@ -1,1 +1,3 @@
+pub mod LateStarts
 pub mod LateYears
+pub mod laws

@@ -2,7 +2,8 @@
 
 ghost use Rattle.std.specs.Prelude.{◌≡◌, pos, neg_ℤ, ◌+ℤ◌};
 ghost use Rattle.cal_days.specs.Day.{IsBetween};
-ghost use Rattle.lunar_tests.specs.LateYears.{late_month_starts, late_start};
+ghost use Rattle.lunar_tests.specs.LateYears.{late_month_starts};
+ghost use Rattle.lunar_tests.specs.LateStarts.{late_start};
 
 use cal_base::scaffold::UnstableSealed;
 use cal_days::{RataDie, islamic};
@@ -61,13 +62,14 @@ impl UnstableSealed for Late {}
 
 impl Rules for Late {
     ghost use Rattle.std.specs.Prelude.{true, refl};
-    ghost use Rattle.cal_base.specs.Compatibility.{all_alike, never_refused};
-    ghost use Rattle.cal_hijri.specs.HijriNames.{no-references};
+    ghost use Rattle.cal_base.specs.laws.Compatibility.{all_alike, never_refused};
+    ghost use Rattle.cal_hijri.specs.laws.HijriNameLaws.{no-references};
     ghost use Rattle.cal_model.specs.CalendarList.{day_number};
     ghost use Rattle.cal_hijri.specs.HijriSystem.{hijri_belongs, packed_date};
     ghost use Rattle.cal_hijri.specs.TableRules.{table_year, umm_al_qura_system};
     ghost use Rattle.cal_hijri.specs.TabularRules.{tabular_system, tabular_year};
-    ghost use Rattle.lunar_tests.specs.LateYears.{late_year, late-numbered, late-joins};
+    ghost use Rattle.lunar_tests.specs.LateYears.{late_year};
+    ghost use Rattle.lunar_tests.specs.laws.LateYearLaws.{late-numbered, late-joins};
 
     type DateCompatibilityError = Infallible;
 

@@ -35,7 +35,8 @@ impl Rules for MeanRules {
     ghost use Rattle.std.specs.Prelude.{None, codes};
     ghost use Rattle.std.specs.Ordering.{int_eq};
     ghost use Rattle.std.specs.Cmp.{on_equiv, int_eq_equiv};
-    ghost use Rattle.cal_east_asian.specs.MeanTraditionalYears.{mean_traditional_year, mean-years};
+    ghost use Rattle.cal_east_asian.specs.MeanTraditionalYears.{mean_traditional_year};
+    ghost use Rattle.cal_east_asian.specs.laws.MeanTraditionalLaws.{mean-years};
     ghost use Rattle.cal_east_asian.specs.laws.RuleLaws.{mean-shared, unimplemented-year, unimplemented-kind, unimplemented-leap_month};
 
     type DateCompatibilityError = OtherOffset;

@@ -45,16 +45,27 @@ field_read word =
 
 -- a bag with no fields
 abbrev pub no_fields : Bag
-no_fields = record { era = None; era_year = None; extended_year = None; month = None; month_code = None; ordinal_month = None; day = None }
+no_fields =
+    record {
+      era = None;
+      era_year = None;
+      extended_year = None;
+      month = None;
+      month_code = None;
+      ordinal_month = None;
+      day = None;
+    }
 
 -- the bag with one more field; none where it has that key
 abbrev pub with_field : Bag → Field → Option Bag
 with_field bag (Era x) = if is_none bag.era then Some (record bag { era = Some x }) else None
 with_field bag (EraYear x) = if is_none bag.era_year then Some (record bag { era_year = Some x }) else None
-with_field bag (ExtendedYear x) = if is_none bag.extended_year then Some (record bag { extended_year = Some x }) else None
+with_field bag (ExtendedYear x) =
+    if is_none bag.extended_year then Some (record bag { extended_year = Some x }) else None
 with_field bag (Month x) = if is_none bag.month then Some (record bag { month = Some x }) else None
 with_field bag (MonthCode x) = if is_none bag.month_code then Some (record bag { month_code = Some x }) else None
-with_field bag (OrdinalMonth x) = if is_none bag.ordinal_month then Some (record bag { ordinal_month = Some x }) else None
+with_field bag (OrdinalMonth x) =
+    if is_none bag.ordinal_month then Some (record bag { ordinal_month = Some x }) else None
 with_field bag (Day x) = if is_none bag.day then Some (record bag { day = Some x }) else None
 
 -- the bag with the field of one more word, of a key that is rarely given
@@ -69,7 +80,8 @@ with_word bag word = option_and_then (with_field bag) (field_read word)
 abbrev pub bag_before_to : Option Bag → List (List ℕ) → Read Bag
 bag_before_to None words = None
 bag_before_to (Some bag) [] = None
-bag_before_to (Some bag) (word ∷ words) = if is_text word (codes "to") then Some (bag, words) else bag_before_to (with_word bag word) words
+bag_before_to (Some bag) (word ∷ words) =
+    if is_text word (codes "to") then Some (bag, words) else bag_before_to (with_word bag word) words
 
 -- the bag of all words
 abbrev pub bag_of_all : Option Bag → List (List ℕ) → Option Bag

@@ -16,7 +16,9 @@ pub record RequestWords : Type 0 where
 
 -- `span CAL SHOWN UNIT OVERFLOW MISSING from FIELDS to FIELDS`
 abbrev pub all_words : RequestWords → List (List ℕ)
-all_words w = codes "span" ∷ w.calendar ∷ w.shown ∷ w.unit ∷ w.overflow ∷ w.missing_fields ∷ codes "from" ∷ (w.from ++ codes "to" ∷ w.to)
+all_words w =
+    codes "span" ∷ w.calendar ∷ w.shown ∷ w.unit ∷ w.overflow ∷ w.missing_fields ∷ codes "from"
+    ∷ (w.from ++ codes "to" ∷ w.to)
 
 -- what a request's words say
 pub record Says (w : RequestWords) (r : Request) : Type 0 where

@@ -47,7 +47,8 @@ SaysAs false false false text said = SaysRequest text said ⊎ SaysNone text sai
 
 -- what a line says, by its bytes without the LF
 abbrev pub IsLine : List ℕ → Line → Type 0
-IsLine line said = let text = strip_carriage_return line in SaysAs (is_silent line) (nat_lt 512 (length line)) (is_row text) text said
+IsLine line said =
+    let text = strip_carriage_return line in SaysAs (is_silent line) (nat_lt 512 (length line)) (is_row text) text said
 
 -- the same, as it is read word after word
 abbrev pub asked : Option Request → Line
@@ -58,4 +59,6 @@ abbrev pub said_by : List ℕ → Line
 said_by text = if is_row text then GivesRow (row_read (words_of text)) else asked (request_read (words_of text))
 
 abbrev pub line_of : List ℕ → Line
-line_of line = if is_silent line then Nothing else (if nat_lt 512 (length line) then Requests Long else said_by (strip_carriage_return line))
+line_of line =
+    if is_silent line then Nothing
+    else (if nat_lt 512 (length line) then Requests Long else said_by (strip_carriage_return line))

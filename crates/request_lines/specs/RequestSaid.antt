@@ -6,7 +6,14 @@ use Rattle.request_lines.specs.declared.request.Request.{Request}
 
 -- the header that the program's value stands for
 abbrev pub header_said : Header → requests.Header
-header_said h = record { calendar = h.calendar; shown = h.shown; unit = h.difference.largest_unit; overflow = h.options.overflow; missing_fields = h.options.missing_fields_strategy }
+header_said h =
+    record {
+      calendar = h.calendar;
+      shown = h.shown;
+      unit = h.difference.largest_unit;
+      overflow = h.options.overflow;
+      missing_fields = h.options.missing_fields_strategy;
+    }
 
 -- the request that the program's value stands for
 abbrev pub request_said : Request → requests.Request

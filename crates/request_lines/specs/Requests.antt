@@ -67,7 +67,16 @@ header_read words =
     and_then (next_word overflow_named words) (λ overflow words.
     and_then (next_word missing_fields_named words) (λ missing_fields words.
     and_then (next_word (fixed_word (codes "from")) words) (λ _ words.
-    Some (record { calendar = calendar; shown = shown; unit = unit; overflow = overflow; missing_fields = missing_fields }, words))))))))
+    Some (
+      record {
+        calendar = calendar;
+        shown = shown;
+        unit = unit;
+        overflow = overflow;
+        missing_fields = missing_fields;
+      },
+      words,
+    ))))))))
 
 -- a header and two bags
 abbrev pub request_of : Header → Bag → Bag → Request

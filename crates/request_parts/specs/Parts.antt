@@ -37,7 +37,8 @@ pub record IsShown (s : CalendarSystem) (day : ℤ) (p : DayParts) : Type 0 wher
   pub parts : IsDayParts s date p
 
 -- the parts are those of the dates that two bags name, and of their difference, which leads back
-pub record AreNamed (s : CalendarSystem) (first second : Bag) (options : DateFromFieldsOptions) (unit : DateDurationUnit) (p : SpanParts) : Type 0 where
+pub record AreNamed (s : CalendarSystem) (first second : Bag) (options : DateFromFieldsOptions)
+    (unit : DateDurationUnit) (p : SpanParts) : Type 0 where
   pub from_date : Date
   pub to_date : Date
   pub from : resolve_fields s first options ≡ Ok from_date
@@ -48,5 +49,6 @@ pub record AreNamed (s : CalendarSystem) (first second : Bag) (options : DateFro
   pub leads_back : IsSum s.list s.year_shift from_date p.duration Constrain (Ok to_date)
 
 -- a bag names no date, for this reason
-pub record AreRefused (s : CalendarSystem) (first second : Bag) (options : DateFromFieldsOptions) (e : SpanError) : Type 0 where
+pub record AreRefused (s : CalendarSystem) (first second : Bag) (options : DateFromFieldsOptions)
+    (e : SpanError) : Type 0 where
   pub refuses : RefusesBag s first second options e.side e.cause

@@ -11,15 +11,16 @@ use Rattle.cal_days.specs.Day.{IsBetween, is_between, IsRuleYear}
 use Rattle.cal_days.proofs.RangeLemmas.{is_between-true, true-is_between}
 use Rattle.cal_days.proofs.Signed.{signed, by_bool, by_lt}
 use Rattle.cal_hijri.specs.HijriRows.{row_year}
-use Rattle.cal_hijri.specs.HijriMonths.{IsNearMean, month_days-within}
+use Rattle.cal_hijri.specs.HijriMonths.{IsNearMean}
+use Rattle.cal_hijri.specs.laws.HijriMonthLaws.{month_days-within}
 use Rattle.cal_hijri.specs.MonthStarts as hijri
-use Rattle.cal_hijri.specs.SameYears.{year_of_starts}
+use Rattle.cal_hijri.specs.laws.SameYears.{year_of_starts}
 use Rattle.cal_hijri.proofs.LengthBits.{month_days-bit}
 use Rattle.cal_hijri.specs.declared.hijri_row.HijriRow.{HijriRow}
 use Rattle.cal_hijri.specs.declared.hijri_year.HijriYear.{HijriYear}
 use Rattle.cal_east_asian.specs.EastAsianYear.{IsNewYear, is_leap_place, months_of_year}
 use Rattle.cal_east_asian.specs.MonthStarts as east_asian
-use Rattle.cal_east_asian.specs.SameYears as same_years
+use Rattle.cal_east_asian.specs.laws.SameParts as same_years
 use Rattle.cal_east_asian.specs.declared.east_asian_traditional_year.EastAsianTraditionalYear.{EastAsianTraditionalYear}
 use Rattle.request_lines.specs.Rows.{YearRow}
 use Rattle.table_rows.specs.RowYears.{days_at, starts_of, IsHijriYear, IsEastAsianYear}

@@ -25,16 +25,19 @@ with_open_line closed open_line = if nat_lt 0 (length open_line) then closed ++ 
 
 -- what a line did that isn't silent, over the rows before it and those behind it
 abbrev pub IsSaidGathered : LineGathered → List ℕ → TableRows → TableRows → Type 0
-IsSaidGathered line.GoesOn whole old new = (row : Option Row) × IsLine whole (GivesRow row) × TakesRow old row (Kept new)
+IsSaidGathered line.GoesOn whole old new =
+    (row : Option Row) × IsLine whole (GivesRow row) × TakesRow old row (Kept new)
 IsSaidGathered line.Request whole old new = ((request : RequestLine) × IsLine whole (Requests request)) × (new ≡ old)
-IsSaidGathered (line.Refused why) whole old new = ((row : Option Row) × IsLine whole (GivesRow row) × TakesRow old row (Faulty why)) × (new ≡ old)
+IsSaidGathered (line.Refused why) whole old new =
+    ((row : Option Row) × IsLine whole (GivesRow row) × TakesRow old row (Faulty why)) × (new ≡ old)
 IsSaidGathered line.NoMemory whole old new = ((row : Option Row) × IsLine whole (GivesRow row)) × (new ≡ old)
 
 -- what a line did, over the rows before it and those behind it
 abbrev pub IsGathered : LineGathered → List ℕ → TableRows → TableRows → Type 0
 IsGathered line.GoesOn whole old new = KeepsLine whole old new
 IsGathered line.Request whole old new = ((request : RequestLine) × IsLine whole (Requests request)) × (new ≡ old)
-IsGathered (line.Refused why) whole old new = (row : Option Row) × IsLine whole (GivesRow row) × TakesRow old row (Faulty why)
+IsGathered (line.Refused why) whole old new =
+    (row : Option Row) × IsLine whole (GivesRow row) × TakesRow old row (Faulty why)
 IsGathered line.NoMemory whole old new = (row : Option Row) × IsLine whole (GivesRow row)
 
 -- row lines came: these bytes were taken, and these lines came
@@ -103,10 +106,15 @@ pub record MetOther (left now : Option (List ℕ)) (n : ℕ) (request : RequestL
 
 -- the source failed or gave too much, or there was no memory for a row
 abbrev pub Stops : Stop → Option (List ℕ) → Option (List ℕ) → ℕ → ℕ → Type 0
-Stops ReadFault left now faults more = (bytes : List ℕ) × (rows : TableRows) × Rose faults more × Consumes left now bytes × AreRows (lines_in bytes false) rows
-Stops TooLong left now faults more = (bytes : List ℕ) × (rows : TableRows) × (limit < length bytes) × Consumes left now bytes × AreRows (lines_in (take limit bytes) false) rows
+Stops ReadFault left now faults more =
+    (bytes : List ℕ) × (rows : TableRows) × Rose faults more × Consumes left now bytes
+    × AreRows (lines_in bytes false) rows
+Stops TooLong left now faults more =
+    (bytes : List ℕ) × (rows : TableRows) × (limit < length bytes) × Consumes left now bytes
+    × AreRows (lines_in (take limit bytes) false) rows
 Stops NoMemory left now faults more =
-    (bytes : List ℕ) × (whole : Bool) × Consumes left now bytes × RowComesFirst (lines_in (take limit bytes) whole) × (whole ≡ true → IsAtEnd now × (length bytes ≤ limit))
+    (bytes : List ℕ) × (whole : Bool) × Consumes left now bytes × RowComesFirst (lines_in (take limit bytes) whole)
+    × (whole ≡ true → IsAtEnd now × (length bytes ≤ limit))
 
 -- where the row lines came to an end
 abbrev pub Gathers : Gathered → Option (List ℕ) → Option (List ℕ) → ℕ → ℕ → Reader → LineBuffer → TableRows → Type 0

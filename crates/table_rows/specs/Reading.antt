@@ -27,7 +27,8 @@ IsOtherLine whole long = (request : RequestLine) × IsLine whole (Requests reque
 abbrev pub IsLineTaken : Result Bool RowError → List ℕ → rows.TableRows → rows.TableRows → Type 0
 IsLineTaken (Ok true) whole old new = (row : Option Row) × IsLine whole (GivesRow row) × TakesRow old row (Kept new)
 IsLineTaken (Ok false) whole old new = IsLine whole Nothing × (new ≡ old)
-IsLineTaken (Err (line.Row why)) whole old new = ((row : Option Row) × IsLine whole (GivesRow row) × TakesRow old row (Faulty why)) × (new ≡ old)
+IsLineTaken (Err (line.Row why)) whole old new =
+    ((row : Option Row) × IsLine whole (GivesRow row) × TakesRow old row (Faulty why)) × (new ≡ old)
 IsLineTaken (Err line.NoRow) whole old new = IsOtherLine whole false × (new ≡ old)
 IsLineTaken (Err line.LongLine) whole old new = IsOtherLine whole true × (new ≡ old)
 IsLineTaken (Err line.NoMemory) whole old new = ((row : Option Row) × IsLine whole (GivesRow row)) × (new ≡ old)
@@ -39,14 +40,17 @@ IsRowText whole = (kept : rows.TableRows) × AreRows (lines_in whole true) kept
 -- the row lines of a text end at the line of this number, which is no row line
 abbrev pub EndsAtOther : List ℕ → ℕ → Bool → Type 0
 EndsAtOther whole n long =
-    (kept : rows.TableRows) × (request : RequestLine) × (others : List (List ℕ)) × EndRows (AtRequest n request others) (lines_in whole true) kept × (is_long request ≡ long)
+    (kept : rows.TableRows) × (request : RequestLine) × (others : List (List ℕ))
+    × EndRows (AtRequest n request others) (lines_in whole true) kept × (is_long request ≡ long)
 
 -- the rows of a text were read; or its row lines end at a line that isn't taken, there was no memory for a row, or all
 -- lines within the limit are taken and more bytes follow
 abbrev pub IsTextRead : Result TableRows RowsError → List ℕ → Type 0
 IsTextRead (Ok r) whole = AreRows (lines_in whole true) (rows_said r)
-IsTextRead (Err (text.Row n why)) whole = (kept : rows.TableRows) × EndRows (AtFaultyRow n why) (lines_in whole true) kept
+IsTextRead (Err (text.Row n why)) whole =
+    (kept : rows.TableRows) × EndRows (AtFaultyRow n why) (lines_in whole true) kept
 IsTextRead (Err (text.NoRow n)) whole = EndsAtOther whole n false
 IsTextRead (Err (text.LongLine n)) whole = EndsAtOther whole n true
 IsTextRead (Err text.NoMemory) whole = RowComesFirst (lines_in whole true)
-IsTextRead (Err text.TooLong) whole = (kept : rows.TableRows) × (limit < length whole) × AreRows (lines_in (take limit whole) false) kept
+IsTextRead (Err text.TooLong) whole =
+    (kept : rows.TableRows) × (limit < length whole) × AreRows (lines_in (take limit whole) false) kept

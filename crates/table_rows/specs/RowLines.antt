@@ -15,7 +15,8 @@ pub data RowOutcome : Type 0 where
 
 -- a row whose year is found is kept, and one that has none is out of range
 abbrev pub TakesYear : {Y : Type 0} → (Y → Type 0) → (Y → TableRows) → RowOutcome → Type 0
-TakesYear {Y} IsYear with outcome = ((y : Y) × IsYear y × (outcome ≡ Kept (with y))) ⊎ (((y : Y) → IsYear y → ⊥) × (outcome ≡ Faulty Range))
+TakesYear {Y} IsYear with outcome =
+    ((y : Y) × IsYear y × (outcome ≡ Kept (with y))) ⊎ (((y : Y) → IsYear y → ⊥) × (outcome ≡ Faulty Range))
 
 -- the eras that a row names, where no row named any before
 abbrev pub TakesEras : TableRows → Option (List ListedEra) → Option (List ListedEra) → RowOutcome → Type 0
@@ -34,7 +35,9 @@ TakesRow rows (Some (Era r)) outcome = TakesEras rows rows.eras (eras_of_row r) 
 
 -- the line gives nothing, or a row that is kept
 abbrev pub KeepsLine : List ℕ → TableRows → TableRows → Type 0
-KeepsLine line rows next = (IsLine line Nothing × (next ≡ rows)) ⊎ ((row : Option Row) × IsLine line (GivesRow row) × TakesRow rows row (Kept next))
+KeepsLine line rows next =
+    (IsLine line Nothing × (next ≡ rows))
+    ⊎ ((row : Option Row) × IsLine line (GivesRow row) × TakesRow rows row (Kept next))
 
 -- each line gives nothing, or a row that is kept behind these rows
 abbrev pub AddRows : List (List ℕ) → TableRows → TableRows → Type 0
@@ -48,10 +51,12 @@ AreRows lines rows = AddRows lines no_rows rows
 -- the first line that gives anything is a row line
 abbrev pub RowComesFirst : List (List ℕ) → Type 0
 RowComesFirst [] = ⊥
-RowComesFirst (line ∷ more) = ((row : Option Row) × IsLine line (GivesRow row)) ⊎ (IsLine line Nothing × RowComesFirst more)
+RowComesFirst (line ∷ more) =
+    ((row : Option Row) × IsLine line (GivesRow row)) ⊎ (IsLine line Nothing × RowComesFirst more)
 
 -- the row lines end behind the first lines, at this one, which has this number
-pub record EndBefore (lines : List (List ℕ)) (rows : TableRows) (n : ℕ) (line : List ℕ) (more : List (List ℕ)) : Type 0 where
+pub record EndBefore (lines : List (List ℕ)) (rows : TableRows) (n : ℕ) (line : List ℕ)
+    (more : List (List ℕ)) : Type 0 where
   pub before : List (List ℕ)
   pub are_rows : AreRows before rows
   pub number : n ≡ length before + 1
@@ -68,6 +73,8 @@ pub data RowsEnd : Type 0 where
 abbrev pub EndRows : RowsEnd → List (List ℕ) → TableRows → Type 0
 EndRows WithLines lines rows = AreRows lines rows
 EndRows (AtFaultyRow n why) lines rows =
-    (line : List ℕ) × (more : List (List ℕ)) × EndBefore lines rows n line more × (row : Option Row) × IsLine line (GivesRow row) × TakesRow rows row (Faulty why)
+    (line : List ℕ) × (more : List (List ℕ)) × EndBefore lines rows n line more × (row : Option Row)
+    × IsLine line (GivesRow row) × TakesRow rows row (Faulty why)
 EndRows (AtRequest n request others) lines rows =
-    (line : List ℕ) × (more : List (List ℕ)) × EndBefore lines rows n line more × IsLine line (Requests request) × (others ≡ line ∷ more)
+    (line : List ℕ) × (more : List (List ℕ)) × EndBefore lines rows n line more × IsLine line (Requests request)
+    × (others ≡ line ∷ more)

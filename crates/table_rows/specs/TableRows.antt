@@ -30,16 +30,44 @@ no_rows = record { china = []; korea = []; hijri = []; persian = []; eras = None
 
 -- one more row of a table, behind the others
 abbrev pub with_china : TableRows → EastAsianTraditionalYear → TableRows
-with_china rows y = record { china = rows.china ++ y ∷ []; korea = rows.korea; hijri = rows.hijri; persian = rows.persian; eras = rows.eras }
+with_china rows y =
+    record {
+      china = rows.china ++ y ∷ [];
+      korea = rows.korea;
+      hijri = rows.hijri;
+      persian = rows.persian;
+      eras = rows.eras;
+    }
 
 abbrev pub with_korea : TableRows → EastAsianTraditionalYear → TableRows
-with_korea rows y = record { china = rows.china; korea = rows.korea ++ y ∷ []; hijri = rows.hijri; persian = rows.persian; eras = rows.eras }
+with_korea rows y =
+    record {
+      china = rows.china;
+      korea = rows.korea ++ y ∷ [];
+      hijri = rows.hijri;
+      persian = rows.persian;
+      eras = rows.eras;
+    }
 
 abbrev pub with_hijri : TableRows → HijriYear → TableRows
-with_hijri rows y = record { china = rows.china; korea = rows.korea; hijri = rows.hijri ++ y ∷ []; persian = rows.persian; eras = rows.eras }
+with_hijri rows y =
+    record {
+      china = rows.china;
+      korea = rows.korea;
+      hijri = rows.hijri ++ y ∷ [];
+      persian = rows.persian;
+      eras = rows.eras;
+    }
 
 abbrev pub with_persian : TableRows → ℤ → TableRows
-with_persian rows y = record { china = rows.china; korea = rows.korea; hijri = rows.hijri; persian = rows.persian ++ y ∷ []; eras = rows.eras }
+with_persian rows y =
+    record {
+      china = rows.china;
+      korea = rows.korea;
+      hijri = rows.hijri;
+      persian = rows.persian ++ y ∷ [];
+      eras = rows.eras;
+    }
 
 -- the listed eras of Japan with that of a row, where it may be listed
 abbrev pub eras_of_row : EraRow → Option (List ListedEra)
@@ -47,11 +75,19 @@ eras_of_row r = eras_with_last (record { year = r.start.year; month = r.start.mo
 
 -- the listed eras of Japan
 abbrev pub with_eras : TableRows → List ListedEra → TableRows
-with_eras rows eras = record { china = rows.china; korea = rows.korea; hijri = rows.hijri; persian = rows.persian; eras = Some eras }
+with_eras rows eras =
+    record { china = rows.china; korea = rows.korea; hijri = rows.hijri; persian = rows.persian; eras = Some eras }
 
 -- what the calendars stand on
 abbrev pub contents_of : TableRows → TableContents
-contents_of rows = record { china = rows.china; korea = rows.korea; hijri = rows.hijri; persian = rows.persian; eras = unwrap_or rows.eras (eras_up_to_reiwa []) }
+contents_of rows =
+    record {
+      china = rows.china;
+      korea = rows.korea;
+      hijri = rows.hijri;
+      persian = rows.persian;
+      eras = unwrap_or rows.eras (eras_up_to_reiwa []);
+    }
 
 -- the rows of a table are accepted
 abbrev pub IsTableAccepted : TableRows → Table → Type 0

@@ -29,7 +29,8 @@ minus n = neg_ℤ (pos n)
 
 -- an optional minus and one to nine digits
 abbrev pub int_of : List ℕ → Option ℤ
-int_of word = if slice_index word 0 == 45 then option_map minus (number_of 9 (drop 1 word)) else option_map pos (number_of 9 word)
+int_of word =
+    if slice_index word 0 == 45 then option_map minus (number_of 9 (drop 1 word)) else option_map pos (number_of 9 word)
 
 -- the number, where it fits a byte
 abbrev pub byte_from : ℕ → Option ℕ

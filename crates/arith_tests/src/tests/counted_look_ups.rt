@@ -2,8 +2,9 @@
 
 ghost use Rattle.std.specs.Prelude.{◌≡◌, ◌<◌, refl};
 ghost use Rattle.cal_days.specs.Day.{IsValidDay};
-ghost use Rattle.arith_tests.specs.AlternatingMonths.{alternating-lawful, alternating-near, alternating-ranged, alternating-apart, alternating-covered};
-ghost use Rattle.arith_tests.specs.AlternatingYears.{alternating_years, stored-year};
+ghost use Rattle.arith_tests.specs.laws.AlternatingMonthLaws.{alternating-lawful, alternating-near, alternating-ranged, alternating-apart, alternating-covered};
+ghost use Rattle.arith_tests.specs.AlternatingYears.{alternating_years};
+ghost use Rattle.arith_tests.specs.laws.AlternatingYearLaws.{stored-year};
 
 use crate::alternating_months::{AlternatingMonths, AlternatingYear};
 use crate::tests::expected::{assert_at, assert_holds};
@@ -109,7 +110,8 @@ impl DateFieldsResolver for CountedLookUps {
     ghost use Rattle.std.specs.Prelude.{codes, pos};
     ghost use Rattle.cal_model.proofs.EraLemmas.{only_era_reads-in_range, only_era_reads-covered};
     ghost use Rattle.cal_model.proofs.YearNameLemmas.{reference_of_known-stands};
-    ghost use Rattle.arith_tests.specs.AlternatingMonths.{alternating_names, alternating_reference-kind, is_plain};
+    ghost use Rattle.arith_tests.specs.AlternatingMonths.{alternating_names, is_plain};
+    ghost use Rattle.arith_tests.specs.laws.AlternatingMonthLaws.{alternating_reference-kind};
 
     ghost names = { λ _. alternating_names };
 

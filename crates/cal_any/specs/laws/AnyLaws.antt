@@ -36,16 +36,17 @@ use Rattle.cal_east_asian.specs.laws.EastAsianListLaws.{east_asian_list-lawful}
 use Rattle.cal_east_asian.specs.laws.EastAsianStartLaws as east_asian_bounds
 use Rattle.cal_east_asian.specs.SameYears.{same_year}
 use Rattle.cal_east_asian.specs.TableRules as tables
-use Rattle.cal_east_asian.specs.TableRules.{same_lists, same_year-alike}
+use Rattle.cal_east_asian.specs.laws.TableRuleLaws.{same_lists, same_year-alike, table-years}
 use Rattle.cal_east_asian.specs.TableYears.{chosen_year}
 use Rattle.cal_east_asian.specs.declared.sides.Side.{Side}
 use Rattle.cal_east_asian.specs.declared.sides.Side.TheVariants.{China, Korea}
 use Rattle.cal_hijri.specs.HijriRows as hijri_rows
 use Rattle.cal_hijri.specs.laws.HijriBounds as hijri_bounds
 use Rattle.cal_hijri.specs.HijriList.{hijri_list, has_parts_of}
-use Rattle.cal_hijri.specs.HijriNames.{years-named}
+use Rattle.cal_hijri.specs.laws.HijriNameLaws.{years-named}
 use Rattle.cal_hijri.specs.laws.HijriShapes.{hijri_list-lawful}
-use Rattle.cal_hijri.specs.TableRules.{table_year, table-numbered, table-joins, table-shared, same_rows-equivalence}
+use Rattle.cal_hijri.specs.TableRules.{table_year}
+use Rattle.cal_hijri.specs.laws.TableRuleLaws.{table-numbered, table-joins, table-shared, same_rows-equivalence}
 use Rattle.cal_hijri.specs.TabularRules.{tabular_year, tabular-numbered, tabular-joins, tabular-shared, same_rules-equivalence}
 use Rattle.cal_julian.specs.IndianList.{indian_list}
 use Rattle.cal_julian.specs.laws.IndianLaws as indian_bounds
@@ -62,7 +63,8 @@ use Rattle.cal_any.specs.AnySystem.{any_system, any_date, any_belongs, any_compa
 use Rattle.cal_any.specs.AnySystem.{kept_list, extended_date, is_kept, is_valid_kept, keeps_given_year}
 use Rattle.cal_any.specs.AnySystem.{corrected_of, tabular_rules_of, hijri_rows_of, east_asian_rows_of}
 use Rattle.cal_any.specs.AnyOrder.{kind_of, kept_date, keeps_hebrew_length, any_eq, any_cmp, hijri_year, east_asian_year}
-use Rattle.cal_any.specs.ByKind.{always-equivalence, equal_kinds, same_kind, test_of, by_kind-kinds, by_kind-test, by_kind-equivalence}
+use Rattle.cal_any.specs.ByKind.{test_of}
+use Rattle.cal_any.specs.laws.ByKindLaws.{always-equivalence, equal_kinds, same_kind, by_kind-kinds, by_kind-test, by_kind-equivalence}
 use Rattle.cal_any.specs.declared.any_calendar.AnyCalendar.{AnyCalendar}
 use Rattle.cal_any.specs.declared.any_calendar.AnyDateInner.{AnyDateInner}
 use Rattle.cal_any.specs.declared.any_calendar.AnyCalendar.TheVariants as calendar
@@ -89,9 +91,9 @@ any_lawful (calendar.Roc _) = offset_list-lawful roc_offset
 -- the extended years of valid dates are small
 pub any_ranged : (c : AnyCalendar) (t : Date) → IsValidDate (any_system c).list t → IsFieldYear t.year
 any_ranged (calendar.Buddhist _) t h = offset_list-ranged buddhist_offset (true-offset buddhist_offset refl) t h
-any_ranged (calendar.Chinese c) t h = (east_asian_bounds.years-ranged (tables.table_year c.0.table) (tables.table-years c.0.table) t h).0
+any_ranged (calendar.Chinese c) t h = (east_asian_bounds.years-ranged (tables.table_year c.0.table) (table-years c.0.table) t h).0
 any_ranged (calendar.Coptic _) t h = (coptic_bounds.years-ranged t h).0
-any_ranged (calendar.Dangi c) t h = (east_asian_bounds.years-ranged (tables.table_year c.0.table) (tables.table-years c.0.table) t h).0
+any_ranged (calendar.Dangi c) t h = (east_asian_bounds.years-ranged (tables.table_year c.0.table) (table-years c.0.table) t h).0
 any_ranged (calendar.Ethiopian c) t h = (ranged-renumbered (coptic_offset c.era_style) (coptic_offset-small c.era_style) coptic_list coptic_list-bounded t h).0
 any_ranged (calendar.Gregorian _) t h = offset_list-ranged (pos 0) (true-offset (pos 0) refl) t h
 any_ranged (calendar.Hebrew _) t h = (hebrew_bounds.years-ranged t h).0
@@ -109,9 +111,9 @@ any_ranged (calendar.Roc _) t h = offset_list-ranged roc_offset (true-offset roc
 -- so do these years as adding counts them
 pub any_shifted : (c : AnyCalendar) (t : Date) → IsValidDate (any_system c).list t → IsFieldYear (t.year +ℤ (any_system c).year_shift)
 any_shifted (calendar.Buddhist _) t h = offset_list-shifted buddhist_offset (true-offset buddhist_offset refl) t h
-any_shifted (calendar.Chinese c) t h = (east_asian_bounds.years-ranged (tables.table_year c.0.table) (tables.table-years c.0.table) t h).1
+any_shifted (calendar.Chinese c) t h = (east_asian_bounds.years-ranged (tables.table_year c.0.table) (table-years c.0.table) t h).1
 any_shifted (calendar.Coptic _) t h = (coptic_bounds.years-ranged t h).1
-any_shifted (calendar.Dangi c) t h = (east_asian_bounds.years-ranged (tables.table_year c.0.table) (tables.table-years c.0.table) t h).1
+any_shifted (calendar.Dangi c) t h = (east_asian_bounds.years-ranged (tables.table_year c.0.table) (table-years c.0.table) t h).1
 any_shifted (calendar.Ethiopian c) t h = (ranged-renumbered (coptic_offset c.era_style) (coptic_offset-small c.era_style) coptic_list coptic_list-bounded t h).1
 any_shifted (calendar.Gregorian _) t h = offset_list-shifted (pos 0) (true-offset (pos 0) refl) t h
 any_shifted (calendar.Hebrew _) t h = (hebrew_bounds.years-ranged t h).1
@@ -130,9 +132,9 @@ any_shifted (calendar.Roc _) t h = offset_list-shifted roc_offset (true-offset r
 pub any_covered : (c : AnyCalendar) (t : Date) → IsCoveredYear t.year → IsDate (any_system c).list t
     → IsValidDay (day_number (any_system c).list t)
 any_covered (calendar.Buddhist _) t y h = offset_list-covered buddhist_offset (true-offset buddhist_offset refl) t y h
-any_covered (calendar.Chinese c) t y h = east_asian_bounds.days-covered (tables.table_year c.0.table) (tables.table-years c.0.table) t y h
+any_covered (calendar.Chinese c) t y h = east_asian_bounds.days-covered (tables.table_year c.0.table) (table-years c.0.table) t y h
 any_covered (calendar.Coptic _) t y h = coptic_bounds.days-covered t y h
-any_covered (calendar.Dangi c) t y h = east_asian_bounds.days-covered (tables.table_year c.0.table) (tables.table-years c.0.table) t y h
+any_covered (calendar.Dangi c) t y h = east_asian_bounds.days-covered (tables.table_year c.0.table) (table-years c.0.table) t y h
 any_covered (calendar.Ethiopian c) t y h = covered-renumbered (coptic_offset c.era_style) (coptic_offset-small c.era_style) coptic_list coptic_list-bounded t y h
 any_covered (calendar.Gregorian _) t y h = offset_list-covered (pos 0) (true-offset (pos 0) refl) t y h
 any_covered (calendar.Hebrew _) t y h = hebrew_bounds.days-covered t y h

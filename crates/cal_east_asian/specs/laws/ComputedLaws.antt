@@ -6,10 +6,12 @@ use Rattle.cal_days.specs.Sums.{span}
 use Rattle.cal_days.proofs.Signed.{signed, by_bool}
 use Rattle.cal_days.proofs.SumLemmas.{span-unique}
 use Rattle.cal_east_asian.specs.EastAsianYear.{IsEastAsianYear, months_of_year}
-use Rattle.cal_east_asian.specs.EastAsianYears.{YearParts, end_of, has_leap, leap_in_three, AreYears, AreValid, year_from, years-from}
+use Rattle.cal_east_asian.specs.EastAsianYears.{YearParts, end_of, has_leap, leap_in_three, AreYears, AreValid, year_from}
+use Rattle.cal_east_asian.specs.laws.EastAsianYearLaws.{years-from}
 use Rattle.cal_east_asian.specs.MeanYears.{IsOffset, moon, term, last_moon, solstice_moon, month_start, lacks_term, leap_month, new_year, first_moon}
 use Rattle.cal_east_asian.specs.laws.MeanYearLaws.{first_moon-next}
-use Rattle.cal_east_asian.specs.MeanTraditionalYears.{mean_parts, mean-valid, mean-end, mean-leaps, month_total-place}
+use Rattle.cal_east_asian.specs.MeanParts.{mean_parts}
+use Rattle.cal_east_asian.specs.laws.MeanPartLaws.{mean-valid, mean-end, mean-leaps, month_total-place}
 use Rattle.cal_east_asian.specs.QingYears.{IsQingNumber, qing_parts}
 use Rattle.cal_east_asian.specs.laws.QingLaws.{qing-valid, qing-joins, qing-end, qing-leaps, qing_months_before, qing-months}
 use Rattle.cal_east_asian.specs.ComputedYears.{standard_offset, beijing_offset, computed_parts, computed_month_count}

@@ -9,7 +9,9 @@ use Rattle.cal_arith.specs.Given.{IsGiven}
 use Rattle.cal_arith.specs.Dates.{ymd}
 use Rattle.cal_base.specs.OwnYears.{IsSharedYear}
 use Rattle.cal_base.specs.laws.OwnYearLaws.{own_shared, shared_day}
-use Rattle.cal_east_asian.specs.EastAsianYears.{AreYears, rule_year, rule_year-same}
+use Rattle.cal_east_asian.specs.EastAsianYears.{AreYears}
+use Rattle.cal_east_asian.specs.RuleYears.{rule_year}
+use Rattle.cal_east_asian.specs.laws.RuleYearLaws.{rule_year-same}
 use Rattle.cal_east_asian.specs.EastAsianList.{east_asian_list, east_asian_years, entries_of}
 use Rattle.cal_east_asian.specs.laws.EastAsianListLaws.{leap_place_of, long_months_of}
 use Rattle.cal_east_asian.specs.laws.EastAsianStartLaws.{start-rule, years-ranged}

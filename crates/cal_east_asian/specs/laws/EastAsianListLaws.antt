@@ -11,7 +11,7 @@ use Rattle.cal_model.specs.CalendarList.{Entry, entry_at, days_before, month_len
 use Rattle.cal_model.proofs.ListLemmas.{days_before-first, days_before-next, place_of-own, place_of-some}
 use Rattle.cal_arith.specs.Places.{ordinal_month}
 use Rattle.cal_east_asian.specs.EastAsianYear.{is_leap_place, months_of_year}
-use Rattle.cal_east_asian.specs.EastAsianYears.{rule_year}
+use Rattle.cal_east_asian.specs.RuleYears.{rule_year}
 use Rattle.cal_east_asian.specs.EastAsianMonths.{month_in_place}
 use Rattle.cal_east_asian.specs.EastAsianPlaces.{is_east_asian_month, month_days, days_of_months, plain_month_place, absent_month_place, leap_month_place, east_asian_place}
 use Rattle.cal_east_asian.specs.laws.EastAsianEntryLaws.{entries-length, entries-at, entry_by, rank-rises, kind-in_place}

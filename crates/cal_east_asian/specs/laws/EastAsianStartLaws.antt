@@ -12,7 +12,8 @@ use Rattle.cal_days.proofs.SumLemmas.{span-same, span-up, span-down}
 use Rattle.cal_model.specs.CalendarList.{Date, month_count, month_number, days_of, start_of_year, year_length, day_number, IsDate, IsValidDate}
 use Rattle.cal_model.proofs.ListLemmas.{date-in_year, start_of_year-later, start_of_year-next, year_length-most}
 use Rattle.cal_east_asian.specs.EastAsianYear.{IsNewYear, months_of_year}
-use Rattle.cal_east_asian.specs.EastAsianYears.{AreYears, rule_year-same, leap_in_three, parts_of}
+use Rattle.cal_east_asian.specs.EastAsianYears.{AreYears, leap_in_three, parts_of}
+use Rattle.cal_east_asian.specs.laws.RuleYearLaws.{rule_year-same}
 use Rattle.cal_east_asian.specs.EastAsianList.{east_asian_list, entries_of}
 use Rattle.cal_east_asian.specs.laws.EastAsianListLaws.{east_asian_list-lawful, month_count-east_asian, count-small}
 use Rattle.cal_east_asian.specs.declared.east_asian_traditional_year.EastAsianTraditionalYear.{EastAsianTraditionalYear}

@@ -5,9 +5,10 @@ use Rattle.std.specs.Ordering.{int_eq}
 use Rattle.std.proofs.lemmas.Int.{ints}
 use Rattle.cal_errors.specs.declared.errors.EcmaReferenceYearError.{EcmaReferenceYearError}
 use Rattle.cal_errors.specs.declared.errors.EcmaReferenceYearError.TheVariants.{MonthNotInCalendar, UseRegularIfConstrain, Unimplemented}
-use Rattle.cal_east_asian.specs.EastAsianYears.{rule_year}
+use Rattle.cal_east_asian.specs.RuleYears.{rule_year}
 use Rattle.cal_east_asian.specs.MeanYears.{IsOffset}
-use Rattle.cal_east_asian.specs.MeanTraditionalYears.{mean_parts, mean_traditional_year}
+use Rattle.cal_east_asian.specs.MeanParts.{mean_parts}
+use Rattle.cal_east_asian.specs.MeanTraditionalYears.{mean_traditional_year}
 use Rattle.cal_east_asian.specs.laws.SameYearLaws.{same_parts}
 
 -- what isn't implemented gives no year, and no other refusal

@@ -6,7 +6,7 @@ use Rattle.std.proofs.lemmas.Int.{ints}
 use Rattle.std.proofs.lemmas.Bool.Decides.{nat_tests}
 use Rattle.cal_model.proofs.DateTests.{and-left, and-right, true-and}
 use Rattle.cal_east_asian.specs.SameYears.{same_year}
-pub use Rattle.cal_east_asian.specs.SameYears.{same_parts}
+pub use Rattle.cal_east_asian.specs.laws.SameParts.{same_parts}
 use Rattle.cal_east_asian.specs.declared.east_asian_traditional_year.EastAsianTraditionalYear.{EastAsianTraditionalYear}
 
 int-same : (a b : ℤ) → int_eq a b ≡ true → a ≡ b

@@ -13,7 +13,7 @@ use Rattle.cal_hijri.specs.laws.HijriBounds.{years-ranged}
 use Rattle.cal_hijri.specs.laws.GivenYears.{shared-given}
 use Rattle.cal_hijri.specs.HijriSystem.{hijri_belongs, packed_date}
 use Rattle.cal_hijri.specs.PackedYears.{packed_year}
-use Rattle.cal_hijri.specs.SameYears.{has_parts_of-tested}
+use Rattle.cal_hijri.specs.laws.SameYears.{has_parts_of-tested}
 use Rattle.cal_hijri.specs.declared.hijri_year.HijriYear.{HijriYear}
 use Rattle.cal_hijri.specs.declared.hijri_year.PackedHijriDate.{PackedHijriDate}
 

@@ -16,7 +16,8 @@ use Rattle.cal_base.specs.OwnYears.{IsSharedYear}
 use Rattle.cal_julian.specs.PersianRule.{AreCorrectable, is_persian_leap, persian_new_year}
 use Rattle.cal_julian.specs.laws.PersianRuleLaws.{int_eq-same, persian_new_year-first, persian_new_year-near, persian_new_year-next}
 use Rattle.cal_julian.specs.PersianList.{persian_list, persian_month_length, persian_days_before, persian_years}
-use Rattle.cal_julian.specs.PersianMonths.{month_of_day, month_of_day-place, month_found, persian_days, persian_month-at, persian_month_length-within}
+use Rattle.cal_julian.specs.PersianMonths.{month_of_day}
+use Rattle.cal_julian.specs.laws.PersianMonthLaws.{month_of_day-place, month_found, persian_days, persian_month-at, persian_month_length-within}
 use Rattle.cal_julian.specs.declared.persian.PersianYear.{PersianYear}
 
 module _ (years : List ℤ) where

@@ -114,7 +114,8 @@ fn read_header(words: &mut CommandWords) -> Option<RecurHeader>
 /// Sets the fields that all words that are left name. None where one of them isn't `KEY=VALUE` of a known key and a
 /// value of it, or a key is set twice.
 fn read_fields<'a>(fields: &mut DateFields<'a>, mut words: CommandWords<'a>) -> Option<()>
-    ensures { option_map (λ _. bag_of fields.new) result ≡ fields_of (Some (bag_of fields.old)) (words_left words.entry) }
+    ensures { option_map (λ _. bag_of fields.new) result
+        ≡ fields_of (Some (bag_of fields.old)) (words_left words.entry) }
 {
     while let Some(word) = words.next() {
         read_field(fields, word)?;

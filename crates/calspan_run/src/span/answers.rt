@@ -96,8 +96,8 @@ fn answer_request(
 ) -> bool
     requires { array_vec_len pending.old + 512 ≤ 8192 }
     ensures { (text : List ℕ) × (pending.new.items ≡ pending.old.items ++ text)
-        × IsRequestAnswer (table_contents tables.now) (request_line_said line.now (bag_of from.now) (bag_of to.now)) number
-        text result }
+        × IsRequestAnswer (table_contents tables.now) (request_line_said line.now (bag_of from.now) (bag_of to.now))
+        number text result }
 {
     match line {
         RequestLine::Asks(header) => reply(pending, header, from, to, tables),

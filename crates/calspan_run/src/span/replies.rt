@@ -50,7 +50,8 @@ pub fn reply(
     tables: &Tables<'_>,
 ) -> bool
     requires { array_vec_len text.old + 512 ≤ 8192 }
-    ensures { let r = request_of (header_said header.now) (bag_of from.now) (bag_of to.now) in let t = table_contents tables.now in
+    ensures { let r = request_of (header_said header.now) (bag_of from.now) (bag_of to.now) in
+        let t = table_contents tables.now in
         (answer : List ℕ) × (text.new.items ≡ text.old.items ++ answer)
         × IsReply (kind_system t r.calendar) (kind_system t r.shown) r answer result }
 {

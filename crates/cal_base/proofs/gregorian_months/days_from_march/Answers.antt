@@ -1,5 +1,5 @@
 use Rattle.std.proofs.Common.{ℕ, ◌-◌, ◌*◌, ◌/◌, ◌∙◌, ap}
-use Rattle.cal_base.specs.MarchMonths.{march_days_before-closed}
+use Rattle.cal_base.specs.laws.MarchMonths.{march_days_before-closed}
 use Rattle.cal_base.proofs.gregorian_months.days_from_march.Goals as goal
 
 pub returns-clause-value : goal.returns-clause-value

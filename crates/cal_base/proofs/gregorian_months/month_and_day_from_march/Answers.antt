@@ -1,5 +1,5 @@
 use Rattle.std.proofs.Common.{◌<◌, refl, arith}
-use Rattle.cal_base.specs.MarchMonths.{march_month_found, march_day_found}
+use Rattle.cal_base.specs.laws.MarchMonths.{march_month_found, march_day_found}
 use Rattle.cal_base.proofs.gregorian_months.month_and_day_from_march.Goals as goal
 
 pub returns-clause-day : goal.returns-clause-day

@@ -10,10 +10,13 @@ use Rattle.cal_east_asian.specs.laws.LeapMonthLaws.{new_year-is}
 use Rattle.cal_east_asian.specs.laws.MeanYearLaws.{three-years, months-are}
 use Rattle.cal_east_asian.specs.EastAsianYear.{IsNewYear, is_leap_place, months_of_year}
 use Rattle.cal_east_asian.specs.EastAsianMonths.{year_entries}
-use Rattle.cal_east_asian.specs.EastAsianYears.{YearParts, parts_of, end_of, rule_year-same}
+use Rattle.cal_east_asian.specs.EastAsianYears.{YearParts, parts_of, end_of}
+use Rattle.cal_east_asian.specs.laws.RuleYearLaws.{rule_year-same}
 use Rattle.cal_east_asian.specs.MeanPlaces.{place_from, month_bits}
 use Rattle.cal_east_asian.specs.laws.MeanMonthLaws.{bits, leap_place, place-months, mean_months-parts}
-use Rattle.cal_east_asian.specs.MeanTraditionalYears.{mean_traditional_year, mean_parts, new_year-is_new_year, mean-end}
+use Rattle.cal_east_asian.specs.MeanTraditionalYears.{mean_traditional_year}
+use Rattle.cal_east_asian.specs.MeanParts.{mean_parts}
+use Rattle.cal_east_asian.specs.laws.MeanPartLaws.{new_year-is_new_year, mean-end}
 use Rattle.cal_east_asian.specs.declared.east_asian_traditional_year.EastAsianTraditionalYear.{EastAsianTraditionalYear}
 use Rattle.cal_east_asian.specs.laws.SameYearLaws.{same_parts}
 use Rattle.cal_east_asian.proofs.MoonLemmas.{term-by, first-by, moon-by}

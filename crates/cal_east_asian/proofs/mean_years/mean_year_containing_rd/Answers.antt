@@ -1,7 +1,8 @@
 use Rattle.std.proofs.Common.{◌≡◌, pos, ◌-ℤ◌, ◌≤ℤ◌, ◌<ℤ◌, ℤ, to_z, of_z, w32, w64, arith}
 use Rattle.cal_days.proofs.Signed.{signed}
 use Rattle.cal_east_asian.specs.MeanYears.{IsOffset}
-use Rattle.cal_east_asian.specs.MeanTraditionalYears.{mean_traditional_year, mean-years}
+use Rattle.cal_east_asian.specs.MeanTraditionalYears.{mean_traditional_year}
+use Rattle.cal_east_asian.specs.laws.MeanTraditionalLaws.{mean-years}
 use Rattle.cal_east_asian.proofs.PartLemmas.{mean-by, mean-own}
 use Rattle.cal_east_asian.proofs.Finding.{IsFound, earlier, itself, new_year-small}
 use Rattle.cal_east_asian.proofs.mean_years.mean_year_containing_rd.Goals as goal

@@ -1,5 +1,5 @@
 use Rattle.std.proofs.Common.{◌∙◌}
-use Rattle.cal_east_asian.specs.EastAsianRows.{pointwise-years}
+use Rattle.cal_east_asian.specs.laws.EastAsianRowLaws.{pointwise-years}
 use Rattle.cal_east_asian.proofs.same_rows.have_same_rows.Goals as goal
 
 pub returns : goal.returns

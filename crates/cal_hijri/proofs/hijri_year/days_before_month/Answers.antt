@@ -1,5 +1,6 @@
 use Rattle.std.proofs.Common.{◌≡◌, ◌∙◌, sym, refl, arith}
-use Rattle.cal_hijri.specs.HijriMonths.{month_days, prior_days-next}
+use Rattle.cal_hijri.specs.HijriMonths.{month_days}
+use Rattle.cal_hijri.specs.laws.HijriMonthLaws.{prior_days-next}
 use Rattle.cal_hijri.proofs.hijri_year.days_before_month.Goals as goal
 
 pub months-init : goal.months-init

@@ -4,7 +4,7 @@ use Rattle.cal_days.specs.Islamic.{islamic_start}
 use Rattle.cal_days.proofs.IslamicLemmas.{mean_start-bounds}
 use Rattle.cal_days.proofs.Signed.{signed}
 use Rattle.cal_hijri.specs.HijriList.{tabular_long}
-use Rattle.cal_hijri.specs.SameYears.{same_parts}
+use Rattle.cal_hijri.specs.laws.SameYears.{same_parts}
 use Rattle.cal_hijri.specs.TabularRules.{epoch_day, epoch_day-known, tabular-near}
 use Rattle.cal_hijri.specs.declared.tabular_algorithm.TabularAlgorithm.{TabularAlgorithm}
 use Rattle.cal_hijri.proofs.tabular_algorithm.tabular_year.Goals as goal

@@ -3,7 +3,7 @@ use Rattle.cal_days.specs.Julian.{julian_leap, julian_first_of_march}
 use Rattle.cal_days.proofs.Signed.{signed}
 use Rattle.cal_julian.specs.JulianList.{julian_list}
 use Rattle.cal_julian.specs.laws.JulianLaws.{julian_list-months, start_of_year-julian}
-use Rattle.cal_base.specs.MarchMonths.{on-march, on-next}
+use Rattle.cal_base.specs.laws.MarchMonths.{on-march, on-next}
 use Rattle.cal_julian.proofs.julian.date_on.Goals as goal
 
 pub returns-then-month-gt12-clause-on : goal.returns-then-month-gt12-clause-on

@@ -6,7 +6,7 @@ use Rattle.cal_days.proofs.JulianLemmas.{julian_start-bounds}
 use Rattle.cal_model.proofs.PlainMonthLemmas.{plain-place}
 use Rattle.cal_julian.specs.JulianList.{julian_list}
 use Rattle.cal_julian.specs.laws.JulianLaws.{julian_list-months, julian_list-plain, start_of_year-julian}
-use Rattle.cal_base.specs.MarchMonths.{day_number-in_march_year}
+use Rattle.cal_base.specs.laws.MarchMonths.{day_number-in_march_year}
 use Rattle.cal_julian.proofs.julian.day_number.Goals as goal
 
 pub in_march_year-march_year-requires-clause-month : goal.in_march_year-march_year-requires-clause-month

@@ -1,5 +1,5 @@
 use Rattle.std.proofs.Common.{arith}
-use Rattle.cal_julian.specs.PersianMonths.{days_before-closed}
+use Rattle.cal_julian.specs.laws.PersianMonthLaws.{days_before-closed}
 use Rattle.cal_julian.proofs.persian_months.days_before_month.Goals as goal
 
 pub returns-clause-value : goal.returns-clause-value

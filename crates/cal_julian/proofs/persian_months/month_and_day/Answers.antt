@@ -1,5 +1,5 @@
 use Rattle.std.proofs.Common.{◌+◌, ◌-◌, ◌/◌, ◌≤◌, arith}
-use Rattle.cal_julian.specs.PersianMonths.{days_before-long, days_before-short}
+use Rattle.cal_julian.specs.laws.PersianMonthLaws.{days_before-long, days_before-short}
 use Rattle.cal_julian.proofs.persian_months.month_and_day.Goals as goal
 
 pub returns-then-day_of_year-lt-DAYS_IN_LONG_MONTHS-clause-day : goal.returns-then-day_of_year-lt-DAYS_IN_LONG_MONTHS-clause-day

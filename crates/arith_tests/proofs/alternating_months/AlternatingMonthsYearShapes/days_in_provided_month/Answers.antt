@@ -1,5 +1,5 @@
 use Rattle.std.proofs.Common.{sym, arith}
-use Rattle.arith_tests.specs.AlternatingMonths.{month_count-alternating, month_length-alternating}
+use Rattle.arith_tests.specs.laws.AlternatingMonthLaws.{month_count-alternating, month_length-alternating}
 use Rattle.arith_tests.proofs.alternating_months.AlternatingMonthsYearShapes.days_in_provided_month.Goals as goal
 
 pub returns : goal.returns

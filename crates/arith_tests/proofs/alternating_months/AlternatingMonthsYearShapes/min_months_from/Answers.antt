@@ -1,6 +1,6 @@
 use Rattle.std.proofs.Common.{◌≡◌, pos, ◌*ℤ◌, to_z, of_z, w32, unsigned_abs, arith}
 use Rattle.cal_days.proofs.Signed.{signed}
-use Rattle.arith_tests.specs.AlternatingMonths.{total-alternating}
+use Rattle.arith_tests.specs.laws.AlternatingMonthLaws.{total-alternating}
 use Rattle.arith_tests.proofs.alternating_months.AlternatingMonthsYearShapes.min_months_from.Goals as goal
 
 pub returns-clause-least : goal.returns-clause-least

@@ -1,6 +1,6 @@
 use Rattle.std.proofs.Common.{◌≡◌, ◌≤◌, ℕ, min, ap, sym, ◌∙◌, false, arith}
 use Rattle.cal_types.specs.Month.{MonthParts}
-use Rattle.arith_tests.specs.AlternatingMonths.{month_at-alternating, month_count-alternating}
+use Rattle.arith_tests.specs.laws.AlternatingMonthLaws.{month_at-alternating, month_count-alternating}
 use Rattle.arith_tests.proofs.alternating_months.AlternatingMonthsYearShapes.month_from_ordinal.Goals as goal
 
 of_number : ℕ → MonthParts

@@ -1,6 +1,6 @@
 use Rattle.std.proofs.Common.{refl, sym, ◌∙◌}
 use Rattle.cal_types.specs.MonthParts.{month_parts}
-use Rattle.arith_tests.specs.AlternatingMonths.{ordinal_month-alternating, ordinal_month-none}
+use Rattle.arith_tests.specs.laws.AlternatingMonthLaws.{ordinal_month-alternating, ordinal_month-none}
 use Rattle.arith_tests.proofs.alternating_months.AlternatingMonthsYearShapes.ordinal_from_month.Goals as goal
 
 pub returns-then-is_plain_month : goal.returns-then-is_plain_month

@@ -1,6 +1,6 @@
 use Rattle.std.proofs.Common.{◌≤◌, arith}
 use Rattle.cal_days.proofs.Signed.{signed}
-use Rattle.arith_tests.specs.AlternatingMonths.{days_before-alternating, month_count-alternating, start_of_year-alternating}
+use Rattle.arith_tests.specs.laws.AlternatingMonthLaws.{days_before-alternating, month_count-alternating, start_of_year-alternating}
 use Rattle.arith_tests.proofs.alternating_months.AlternatingMonthsYearShapes.to_rata_die_inner.Goals as goal
 
 pub returns : goal.returns

@@ -1,6 +1,6 @@
 use Rattle.std.proofs.Common.{◌∙◌, sym}
 use Rattle.cal_types.specs.MonthParts.{month_parts}
-use Rattle.cal_base.specs.PlainPlaces.{ordinal_month-plain}
+use Rattle.cal_base.specs.laws.PlainPlaceLaws.{ordinal_month-plain}
 use Rattle.cal_base.specs.OffsetList.{offset_list, extended_year_from}
 use Rattle.cal_base.specs.laws.OffsetListLaws.{offset_list-plain}
 use Rattle.cal_base.proofs.abstract_gregorian.AbstractGregorianYearShapes.ordinal_from_month.Goals as goal

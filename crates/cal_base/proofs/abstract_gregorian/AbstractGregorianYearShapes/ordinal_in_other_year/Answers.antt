@@ -1,5 +1,5 @@
 use Rattle.std.proofs.Common.{sym}
-use Rattle.cal_base.specs.PlainPlaces.{spot-plain}
+use Rattle.cal_base.specs.laws.PlainPlaceLaws.{spot-plain}
 use Rattle.cal_base.specs.OffsetList.{offset_list, extended_year_from}
 use Rattle.cal_base.specs.laws.OffsetListLaws.{offset_list-plain}
 use Rattle.cal_base.proofs.abstract_gregorian.AbstractGregorianYearShapes.ordinal_in_other_year.Goals as goal

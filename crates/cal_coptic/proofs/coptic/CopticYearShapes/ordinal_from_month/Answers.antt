@@ -1,6 +1,6 @@
 use Rattle.std.proofs.Common.{◌∙◌, sym}
 use Rattle.cal_types.specs.MonthParts.{month_parts}
-use Rattle.cal_base.specs.PlainPlaces.{ordinal_month-plain}
+use Rattle.cal_base.specs.laws.PlainPlaceLaws.{ordinal_month-plain}
 use Rattle.cal_coptic.specs.CopticList.{coptic_list}
 use Rattle.cal_coptic.specs.laws.CopticLaws.{coptic_list-plain}
 use Rattle.cal_coptic.proofs.coptic.CopticYearShapes.ordinal_from_month.Goals as goal

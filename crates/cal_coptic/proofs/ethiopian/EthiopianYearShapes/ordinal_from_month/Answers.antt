@@ -1,6 +1,6 @@
 use Rattle.std.proofs.Common.{◌∙◌, ◌-ℤ◌, sym}
 use Rattle.cal_types.specs.MonthParts.{month_parts}
-use Rattle.cal_base.specs.PlainPlaces.{ordinal_month-plain}
+use Rattle.cal_base.specs.laws.PlainPlaceLaws.{ordinal_month-plain}
 use Rattle.cal_coptic.specs.EthiopianList.{coptic_offset, ethiopian_list}
 use Rattle.cal_coptic.specs.laws.EthiopianLaws.{ethiopian_list-plain}
 use Rattle.cal_coptic.proofs.ethiopian.EthiopianYearShapes.ordinal_from_month.Goals as goal

@@ -4,8 +4,8 @@ use Rattle.cal_days.proofs.Signed.{signed}
 use Rattle.cal_days.specs.Gregorian.{gregorian_start}
 use Rattle.cal_east_asian.specs.EastAsianRows.{row_year}
 use Rattle.cal_east_asian.specs.EastAsianYear.{january_19}
-use Rattle.cal_east_asian.specs.EastAsianYears.{rule_year}
-use Rattle.cal_east_asian.specs.SameYears.{same_parts}
+use Rattle.cal_east_asian.specs.RuleYears.{rule_year}
+use Rattle.cal_east_asian.specs.laws.SameParts.{same_parts}
 use Rattle.cal_east_asian.proofs.east_asian_row.EastAsianRow.year.Goals as goal
 
 pub returns : goal.returns

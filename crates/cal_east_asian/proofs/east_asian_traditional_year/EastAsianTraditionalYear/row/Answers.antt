@@ -3,10 +3,11 @@ use Rattle.cal_days.proofs.GregorianLemmas.{gregorian_start-bounds}
 use Rattle.cal_days.proofs.Signed.{signed, signed_casts}
 use Rattle.cal_days.specs.Day.{IsRuleYear}
 use Rattle.cal_days.specs.Gregorian.{gregorian_start}
-use Rattle.cal_east_asian.specs.EastAsianRows.{place_or_none}
+use Rattle.cal_east_asian.specs.RowParts.{place_or_none}
 use Rattle.cal_east_asian.specs.EastAsianYear.{is_leap_place, january_19}
-use Rattle.cal_east_asian.specs.EastAsianYears.{rule_year, rule_year-same}
-use Rattle.cal_east_asian.specs.SameYears.{same_parts}
+use Rattle.cal_east_asian.specs.RuleYears.{rule_year}
+use Rattle.cal_east_asian.specs.laws.RuleYearLaws.{rule_year-same}
+use Rattle.cal_east_asian.specs.laws.SameParts.{same_parts}
 use Rattle.cal_east_asian.proofs.east_asian_traditional_year.EastAsianTraditionalYear.row.Goals as goal
 
 -- January 1 of the number

@@ -4,7 +4,7 @@ use Rattle.cal_days.proofs.GregorianLemmas.{gregorian_start-bounds}
 use Rattle.cal_days.proofs.Signed.{signed}
 use Rattle.cal_arith.specs.Dates.{ymd}
 use Rattle.cal_east_asian.specs.EastAsianYear.{IsNewYear}
-use Rattle.cal_east_asian.specs.SameYears.{same_parts}
+use Rattle.cal_east_asian.specs.laws.SameParts.{same_parts}
 use Rattle.cal_east_asian.specs.declared.east_asian_traditional_year.EastAsianTraditionalYear.{EastAsianTraditionalYear}
 use Rattle.cal_east_asian.proofs.east_asian_traditional_year.EastAsianTraditionalYearPackWithMD.pack.Goals as goal
 

@@ -1,5 +1,5 @@
 use Rattle.std.proofs.Common.{◌∙◌}
-use Rattle.cal_hijri.specs.HijriRows.{pointwise-years}
+use Rattle.cal_hijri.specs.laws.HijriRowLaws.{pointwise-years}
 use Rattle.cal_hijri.proofs.hijri_table.HijriTable.has_rows_of.Goals as goal
 
 pub returns : goal.returns

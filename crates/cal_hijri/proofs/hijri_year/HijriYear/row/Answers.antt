@@ -3,8 +3,9 @@ use Rattle.cal_days.proofs.Signed.{signed, signed_casts}
 use Rattle.cal_days.proofs.IslamicLemmas.{mean_start-bounds}
 use Rattle.cal_days.specs.Day.{IsRuleYear}
 use Rattle.cal_days.specs.Islamic.{islamic_mean_start}
-use Rattle.cal_hijri.specs.HijriRows.{nearest_rule_year, nearest_rule_year-same, start_after}
-use Rattle.cal_hijri.specs.SameYears.{same_parts}
+use Rattle.cal_hijri.specs.RowStarts.{nearest_rule_year, start_after}
+use Rattle.cal_hijri.specs.laws.RowStartLaws.{nearest_rule_year-same}
+use Rattle.cal_hijri.specs.laws.SameYears.{same_parts}
 use Rattle.cal_hijri.proofs.hijri_year.HijriYear.row.Goals as goal
 
 -- the mean year of the number starts there

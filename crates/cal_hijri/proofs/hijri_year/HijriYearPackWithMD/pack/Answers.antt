@@ -4,7 +4,7 @@ use Rattle.cal_days.proofs.IslamicLemmas.{mean_start-bounds}
 use Rattle.cal_days.proofs.Signed.{signed}
 use Rattle.cal_arith.specs.Dates.{ymd}
 use Rattle.cal_hijri.specs.HijriMonths.{IsNearMean}
-use Rattle.cal_hijri.specs.SameYears.{same_parts}
+use Rattle.cal_hijri.specs.laws.SameYears.{same_parts}
 use Rattle.cal_hijri.specs.declared.hijri_year.HijriYear.{HijriYear}
 use Rattle.cal_hijri.proofs.hijri_year.HijriYearPackWithMD.pack.Goals as goal
 

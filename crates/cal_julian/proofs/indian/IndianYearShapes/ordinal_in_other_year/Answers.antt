@@ -1,5 +1,5 @@
 use Rattle.std.proofs.Common.{sym}
-use Rattle.cal_base.specs.PlainPlaces.{spot-plain}
+use Rattle.cal_base.specs.laws.PlainPlaceLaws.{spot-plain}
 use Rattle.cal_julian.specs.IndianList.{indian_list}
 use Rattle.cal_julian.specs.laws.IndianLaws.{indian_list-plain}
 use Rattle.cal_julian.proofs.indian.IndianYearShapes.ordinal_in_other_year.Goals as goal

@@ -5,7 +5,7 @@ use Rattle.cal_base.specs.laws.GregorianMonths.{leap_is}
 use Rattle.cal_julian.specs.PersianCorrected.{corrected_years}
 use Rattle.cal_julian.specs.PersianList.{persian_list, persian_month_length}
 use Rattle.cal_julian.specs.laws.PersianLaws.{month_length-persian, persian_list-plain}
-use Rattle.cal_julian.specs.PersianMonths.{month_length-others}
+use Rattle.cal_julian.specs.laws.PersianMonthLaws.{month_length-others}
 use Rattle.cal_julian.specs.PersianRule.{is_persian_leap}
 use Rattle.cal_julian.proofs.persian.PersianYearShapes.days_in_provided_month.Goals as goal
 

@@ -1,6 +1,6 @@
 use Rattle.std.proofs.Common.{◌∙◌, sym}
 use Rattle.cal_types.specs.MonthParts.{month_parts}
-use Rattle.cal_base.specs.PlainPlaces.{ordinal_month-plain}
+use Rattle.cal_base.specs.laws.PlainPlaceLaws.{ordinal_month-plain}
 use Rattle.cal_julian.specs.PersianList.{persian_list}
 use Rattle.cal_julian.specs.laws.PersianLaws.{persian_list-plain}
 use Rattle.cal_julian.specs.PersianCorrected.{corrected_years}

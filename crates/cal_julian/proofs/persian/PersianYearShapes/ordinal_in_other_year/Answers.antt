@@ -1,5 +1,5 @@
 use Rattle.std.proofs.Common.{sym}
-use Rattle.cal_base.specs.PlainPlaces.{spot-plain}
+use Rattle.cal_base.specs.laws.PlainPlaceLaws.{spot-plain}
 use Rattle.cal_julian.specs.PersianList.{persian_list}
 use Rattle.cal_julian.specs.laws.PersianLaws.{persian_list-plain}
 use Rattle.cal_julian.specs.PersianCorrected.{corrected_years}

@@ -2,8 +2,10 @@ use Rattle.std.proofs.Common.{◌≡◌, ◌∙◌, ℤ, List, pos, neg_ℤ, ◌
 use Rattle.cal_days.specs.Day.{IsBetween, IsRuleYear}
 use Rattle.cal_days.proofs.Signed.{signed}
 use Rattle.cal_hijri.specs.MonthStarts.{AreMonthStarts, HasLengthsOf, start_at}
-use Rattle.lunar_tests.specs.LateYears.{late_month_starts, late_start, late_year, late-few, late-lengths, late-starts}
-use Rattle.cal_hijri.specs.SameYears.{year_of_starts}
+use Rattle.lunar_tests.specs.LateYears.{late_month_starts, late_year}
+use Rattle.lunar_tests.specs.LateStarts.{late_start}
+use Rattle.lunar_tests.specs.laws.LateYearLaws.{late-few, late-lengths, late-starts}
+use Rattle.cal_hijri.specs.laws.SameYears.{year_of_starts}
 use Rattle.lunar_tests.proofs.late_rules.LateRules.year.Goals as goal
 
 number : (y : ℤ) → IsRuleYear y → to_z w32 (of_z w32 y) ≡ y

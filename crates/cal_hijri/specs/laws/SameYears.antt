@@ -6,7 +6,8 @@ use Rattle.std.proofs.Props.{props}
 use Rattle.std.proofs.lemmas.Int.{ints}
 use Rattle.std.proofs.lemmas.Bool.Decides.{nat_tests}
 use Rattle.cal_model.proofs.DateTests.{and-left, and-right, true-and}
-use Rattle.cal_hijri.specs.HijriMonths.{IsNearMean, long_months-once, month_days}
+use Rattle.cal_hijri.specs.HijriMonths.{IsNearMean, month_days}
+use Rattle.cal_hijri.specs.laws.HijriMonthLaws.{long_months-once}
 use Rattle.cal_hijri.specs.MonthStarts.{HasLengthsOf}
 use Rattle.cal_days.proofs.Signed.{signed}
 use Rattle.cal_hijri.specs.HijriList.{has_parts_of}

@@ -1,0 +1,2 @@
+pub mod AlternatingMonthLaws
+pub mod AlternatingYearLaws

@@ -1,0 +1,2 @@
+pub mod LateStartLaws
+pub mod LateYearLaws
