@@ -1,7 +1,8 @@
 -- The years beside a table: the tabular years from Friday on.
 use Rattle.std.specs.Prelude.{ℤ}
 use Rattle.cal_hijri.specs.HijriList.{Joins, Numbered}
-use Rattle.cal_hijri.specs.TabularRules.{tabular_year, tabular-numbered, tabular-joins}
+use Rattle.cal_hijri.specs.TabularRules.{tabular_year}
+use Rattle.cal_hijri.specs.laws.TabularRuleLaws.{tabular-numbered, tabular-joins}
 use Rattle.cal_hijri.specs.declared.hijri_year.HijriYear.{HijriYear}
 use Rattle.cal_hijri.specs.declared.tabular_algorithm.TabularAlgorithm.{TabularAlgorithm}
 use Rattle.cal_hijri.specs.declared.tabular_algorithm.TabularAlgorithmEpoch.TheVariants.{Friday}

@@ -18,10 +18,11 @@ use Rattle.cal_hijri.specs.HijriNames.{AreReferences}
 use Rattle.cal_hijri.specs.HijriSystem.{hijri_system}
 use Rattle.cal_hijri.specs.SameRows.{are_same_rows}
 use Rattle.cal_hijri.specs.SameYears.{has_parts_of-same}
-use Rattle.cal_hijri.specs.TabularRules.{known-references, tabular_reference_year, tabular_reference_year-range}
+use Rattle.cal_hijri.specs.TabularRules.{tabular_reference_year}
 use Rattle.cal_hijri.specs.TableFriday.{friday_year, friday-numbered, friday-joins}
 use Rattle.cal_hijri.specs.TableYears.{chosen}
 use Rattle.cal_hijri.specs.TableAccepted.{IsAccepted}
+use Rattle.cal_hijri.specs.laws.TabularRuleLaws.{known-references, tabular_reference_year-range}
 use Rattle.cal_hijri.specs.laws.TableLaws.{chosen-numbered, chosen-joins}
 use Rattle.cal_hijri.specs.declared.hijri_year.HijriYear.{HijriYear}
 use Rattle.cal_hijri.specs.declared.tabular_algorithm.TabularAlgorithmEpoch.TheVariants.{Friday}

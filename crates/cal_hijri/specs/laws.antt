@@ -1,6 +1,9 @@
+pub mod TypeILaws
+pub mod TabularYearLaws
 pub mod HijriShapes
 pub mod HijriLaws
 pub mod HijriBounds
 pub mod GivenYears
 pub mod HijriSystemLaws
 pub mod TableLaws
+pub mod TabularRuleLaws
