@@ -46,7 +46,8 @@ use Rattle.cal_hijri.specs.HijriList.{hijri_list, has_parts_of}
 use Rattle.cal_hijri.specs.HijriNames.{years-named}
 use Rattle.cal_hijri.specs.laws.HijriShapes.{hijri_list-lawful}
 use Rattle.cal_hijri.specs.TableRules.{table_year, table-numbered, table-joins, table-shared, same_rows-equivalence}
-use Rattle.cal_hijri.specs.TabularRules.{tabular_year, tabular-numbered, tabular-joins, tabular-shared, same_rules-equivalence}
+use Rattle.cal_hijri.specs.TabularRules.{tabular_year}
+use Rattle.cal_hijri.specs.laws.TabularRuleLaws.{tabular-numbered, tabular-joins, tabular-shared, same_rules-equivalence}
 use Rattle.cal_julian.specs.IndianList.{indian_list}
 use Rattle.cal_julian.specs.laws.IndianLaws as indian_bounds
 use Rattle.cal_julian.specs.laws.IndianLaws.{indian_list-lawful}
