@@ -34,7 +34,7 @@ use Rattle.cal_hijri.specs.HijriList.{hijri_list, has_parts_of}
 use Rattle.cal_hijri.specs.SameRows.{are_same_rows}
 use Rattle.cal_hijri.specs.TableFriday.{friday_rules}
 use Rattle.cal_hijri.specs.TableRules.{table_year, table_system}
-use Rattle.cal_hijri.specs.TabularRules.{tabular_year, tabular_system, are_same_rules, algorithm_of_epoch}
+use Rattle.cal_hijri.specs.TabularRules.{tabular_year, tabular_system, are_same_rules, algorithm_of_rules}
 use Rattle.cal_hijri.specs.declared.hijri_year.HijriYear.{HijriYear}
 use Rattle.cal_hijri.specs.declared.tabular_algorithm.TabularAlgorithm.{TabularAlgorithm}
 use Rattle.cal_algorithms.specs.declared.algorithm.HijriCalendarAlgorithm.TheVariants.{Umalqura}
@@ -255,7 +255,7 @@ any_algorithm (calendar.Ethiopian c) = Some (ethiopian_algorithm c.era_style)
 any_algorithm (calendar.Gregorian _) = Some algorithm.Gregory
 any_algorithm (calendar.Hebrew _) = Some algorithm.Hebrew
 any_algorithm (calendar.HijriSimulated _) = None
-any_algorithm (calendar.HijriTabular c) = algorithm_of_epoch c.0.epoch
+any_algorithm (calendar.HijriTabular c) = algorithm_of_rules c.0
 any_algorithm (calendar.HijriUmmAlQura _) = Some (algorithm.Hijri (Some Umalqura))
 any_algorithm (calendar.Indian _) = Some algorithm.Indian
 any_algorithm (calendar.Iso _) = None

@@ -4,6 +4,8 @@ use Rattle.cal_coptic.specs.declared.ethiopian.EthiopianEraStyle.{EthiopianEraSt
 use Rattle.cal_coptic.specs.declared.ethiopian.EthiopianEraStyle.TheVariants.{AmeteMihret, AmeteAlem}
 use Rattle.cal_hijri.specs.declared.tabular_algorithm.TabularAlgorithmEpoch.{TabularAlgorithmEpoch}
 use Rattle.cal_hijri.specs.declared.tabular_algorithm.TabularAlgorithmEpoch.TheVariants.{Friday, Thursday}
+use Rattle.cal_hijri.specs.declared.tabular_algorithm.TabularAlgorithmLeapYears.{TabularAlgorithmLeapYears}
+use Rattle.cal_hijri.specs.declared.tabular_algorithm.TabularAlgorithmLeapYears.TheVariants.{TypeI, TypeII}
 use Rattle.cal_any.specs.declared.any_calendar.AnyCalendar.{AnyCalendar}
 use Rattle.cal_any.specs.declared.any_calendar.AnyCalendar.TheVariants as calendar
 use Rattle.cal_kinds.specs.declared.any_calendar_kind.AnyCalendarKind.{AnyCalendarKind}
@@ -13,9 +15,11 @@ abbrev pub kind_of_style : EthiopianEraStyle → AnyCalendarKind
 kind_of_style AmeteMihret = kind.Ethiopian
 kind_of_style AmeteAlem = kind.EthiopianAmeteAlem
 
-abbrev pub kind_of_epoch : TabularAlgorithmEpoch → AnyCalendarKind
-kind_of_epoch Friday = kind.HijriTabularTypeIIFriday
-kind_of_epoch Thursday = kind.HijriTabularTypeIIThursday
+abbrev pub kind_of_tabular : TabularAlgorithmLeapYears → TabularAlgorithmEpoch → AnyCalendarKind
+kind_of_tabular TypeI Friday = kind.HijriTabularTypeIFriday
+kind_of_tabular TypeI Thursday = kind.HijriTabularTypeIThursday
+kind_of_tabular TypeII Friday = kind.HijriTabularTypeIIFriday
+kind_of_tabular TypeII Thursday = kind.HijriTabularTypeIIThursday
 
 -- both variants of the Japanese calendar are of the kind Japanese
 abbrev pub kind_held : AnyCalendar → AnyCalendarKind
@@ -27,7 +31,7 @@ kind_held (calendar.Ethiopian c) = kind_of_style c.era_style
 kind_held (calendar.Gregorian _) = kind.Gregorian
 kind_held (calendar.Hebrew _) = kind.Hebrew
 kind_held (calendar.HijriSimulated _) = kind.HijriSimulatedMecca
-kind_held (calendar.HijriTabular c) = kind_of_epoch c.0.epoch
+kind_held (calendar.HijriTabular c) = kind_of_tabular c.0.leap_years c.0.epoch
 kind_held (calendar.HijriUmmAlQura _) = kind.HijriUmmAlQura
 kind_held (calendar.Indian _) = kind.Indian
 kind_held (calendar.Iso _) = kind.Iso

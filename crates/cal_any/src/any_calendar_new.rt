@@ -3,9 +3,8 @@
 ghost use Rattle.std.specs.Prelude.{◌≡◌, false};
 ghost use Rattle.cal_coptic.specs.EthiopianSystem.{ethiopian_system};
 ghost use Rattle.cal_hijri.specs.TabularRules.{tabular_system};
-ghost use Rattle.cal_hijri.specs.declared.tabular_algorithm.TabularAlgorithmLeapYears.TheVariants.{TypeII};
 ghost use Rattle.cal_any.specs.AnySystem.{any_system};
-ghost use Rattle.cal_any.specs.KindHeld.{is_extended, kind_held, kind_made, kind_of_epoch, kind_of_style};
+ghost use Rattle.cal_any.specs.KindHeld.{is_extended, kind_held, kind_made, kind_of_style, kind_of_tabular};
 ghost use Rattle.cal_any.specs.TablesHeld.{HoldsTable};
 ghost use Rattle.cal_tables.specs.Kinds.{kind_system, table_contents};
 ghost use Rattle.cal_tables.specs.declared.tables.Tables.{Tables};
@@ -30,14 +29,17 @@ fn ethiopian<'t>(style: EthiopianEraStyle) -> AnyCalendar<'t>
     AnyCalendar::Ethiopian(Ethiopian::new_with_era_style(style))
 }
 
-/// The tabular Hijri calendar with the leap years of type II, from a day on.
-fn tabular<'t>(epoch: TabularAlgorithmEpoch) -> AnyCalendar<'t>
-    ensures system { any_system result ≡ tabular_system (record { leap_years = TypeII; epoch = epoch }) }
-    ensures held { kind_held result ≡ kind_of_epoch epoch }
+/// The tabular Hijri calendar with these leap years, from a day on.
+fn tabular<'t>(
+    leap_years: TabularAlgorithmLeapYears,
+    epoch: TabularAlgorithmEpoch,
+) -> AnyCalendar<'t>
+    ensures system { any_system result ≡ tabular_system (record { leap_years = leap_years; epoch = epoch }) }
+    ensures held { kind_held result ≡ kind_of_tabular leap_years epoch }
     ensures variant { is_extended result ≡ false }
     ensures table { (tables : Tables) → HoldsTable result tables }
 {
-    AnyCalendar::HijriTabular(Hijri::new_tabular(TabularAlgorithmLeapYears::TypeII, epoch))
+    AnyCalendar::HijriTabular(Hijri::new_tabular(leap_years, epoch))
 }
 
 impl<'t> AnyCalendar<'t> {
@@ -63,11 +65,21 @@ impl<'t> AnyCalendar<'t> {
             AnyCalendarKind::Gregorian => AnyCalendar::Gregorian(Gregorian),
             AnyCalendarKind::Hebrew => AnyCalendar::Hebrew(Hebrew),
             AnyCalendarKind::Indian => AnyCalendar::Indian(Indian),
-            AnyCalendarKind::HijriTabularTypeIIFriday => tabular(TabularAlgorithmEpoch::Friday),
+            AnyCalendarKind::HijriTabularTypeIIFriday => {
+                tabular(
+                    TabularAlgorithmLeapYears::TypeII,
+                    TabularAlgorithmEpoch::Friday,
+                )
+            }
             AnyCalendarKind::HijriSimulatedMecca => {
                 AnyCalendar::HijriSimulated(tables.simulated_mecca())
             }
-            AnyCalendarKind::HijriTabularTypeIIThursday => tabular(TabularAlgorithmEpoch::Thursday),
+            AnyCalendarKind::HijriTabularTypeIIThursday => {
+                tabular(
+                    TabularAlgorithmLeapYears::TypeII,
+                    TabularAlgorithmEpoch::Thursday,
+                )
+            }
             AnyCalendarKind::HijriUmmAlQura => AnyCalendar::HijriUmmAlQura(tables.umm_al_qura()),
             AnyCalendarKind::Iso => AnyCalendar::Iso(Iso),
             AnyCalendarKind::Japanese | AnyCalendarKind::JapaneseExtended => {
@@ -76,6 +88,18 @@ impl<'t> AnyCalendar<'t> {
             AnyCalendarKind::Julian => AnyCalendar::Julian(Julian),
             AnyCalendarKind::Persian => AnyCalendar::Persian(tables.persian()),
             AnyCalendarKind::Roc => AnyCalendar::Roc(Roc),
+            AnyCalendarKind::HijriTabularTypeIFriday => {
+                tabular(
+                    TabularAlgorithmLeapYears::TypeI,
+                    TabularAlgorithmEpoch::Friday,
+                )
+            }
+            AnyCalendarKind::HijriTabularTypeIThursday => {
+                tabular(
+                    TabularAlgorithmLeapYears::TypeI,
+                    TabularAlgorithmEpoch::Thursday,
+                )
+            }
         }
     }
 }

@@ -1,14 +1,12 @@
 //! The kind of a calendar.
 
 ghost use Rattle.std.specs.Prelude.{◌≡◌};
-ghost use Rattle.cal_any.specs.KindHeld.{kind_held, kind_of_epoch, kind_of_style};
+ghost use Rattle.cal_any.specs.KindHeld.{kind_held, kind_of_style, kind_of_tabular};
 
 use crate::any_calendar::AnyCalendar;
-use cal_base::Calendar;
 use cal_coptic::EthiopianEraStyle;
-use cal_hijri::{Hijri, TabularAlgorithm};
+use cal_hijri::{TabularAlgorithmEpoch, TabularAlgorithmLeapYears, epoch_of, leap_years_of};
 use cal_kinds::AnyCalendarKind;
-use cal_types::{CalendarAlgorithm, HijriCalendarAlgorithm};
 
 /// The kind of the Ethiopian calendar in a style.
 fn kind_of_style(style: EthiopianEraStyle) -> AnyCalendarKind
@@ -20,23 +18,35 @@ fn kind_of_style(style: EthiopianEraStyle) -> AnyCalendarKind
     }
 }
 
-/// The kind of a tabular Hijri calendar.
-fn kind_of_tabular(calendar: &Hijri<TabularAlgorithm>) -> AnyCalendarKind
-    ensures { result ≡ kind_of_epoch calendar.now.0.epoch }
+/// The kind of the tabular Hijri calendar with these leap years, from a day on.
+fn kind_of_tabular(
+    leap_years: TabularAlgorithmLeapYears,
+    epoch: TabularAlgorithmEpoch,
+) -> AnyCalendarKind
+    ensures { result ≡ kind_of_tabular leap_years epoch }
 {
-    let from_thursday = Some(CalendarAlgorithm::Hijri(Some(HijriCalendarAlgorithm::Tbla)));
-    if calendar.calendar_algorithm() == from_thursday {
-        AnyCalendarKind::HijriTabularTypeIIThursday
-    } else {
-        AnyCalendarKind::HijriTabularTypeIIFriday
+    match (leap_years, epoch) {
+        (TabularAlgorithmLeapYears::TypeI, TabularAlgorithmEpoch::Friday) => {
+            AnyCalendarKind::HijriTabularTypeIFriday
+        }
+        (TabularAlgorithmLeapYears::TypeI, TabularAlgorithmEpoch::Thursday) => {
+            AnyCalendarKind::HijriTabularTypeIThursday
+        }
+        (TabularAlgorithmLeapYears::TypeII, TabularAlgorithmEpoch::Friday) => {
+            AnyCalendarKind::HijriTabularTypeIIFriday
+        }
+        (TabularAlgorithmLeapYears::TypeII, TabularAlgorithmEpoch::Thursday) => {
+            AnyCalendarKind::HijriTabularTypeIIThursday
+        }
     }
 }
 
 impl<'t> AnyCalendar<'t> {
     /// The kind that the calendar is of.
     ///
-    /// The kinds of the Ethiopian calendar differ by its style, and those of the tabular Hijri calendar by the day on
-    /// which its year 1 starts. Both variants of the Japanese calendar are of the kind `Japanese`.
+    /// The kinds of the Ethiopian calendar differ by its style, and those of the tabular Hijri calendar by its leap
+    /// years and by the day on which its year 1 starts. Both variants of the Japanese calendar are of the kind
+    /// `Japanese`.
     pub fn kind(&self) -> AnyCalendarKind
         ensures { result ≡ kind_held self.now }
     {
@@ -49,7 +59,9 @@ impl<'t> AnyCalendar<'t> {
             AnyCalendar::Gregorian(_) => AnyCalendarKind::Gregorian,
             AnyCalendar::Hebrew(_) => AnyCalendarKind::Hebrew,
             AnyCalendar::HijriSimulated(_) => AnyCalendarKind::HijriSimulatedMecca,
-            AnyCalendar::HijriTabular(calendar) => kind_of_tabular(calendar),
+            AnyCalendar::HijriTabular(calendar) => {
+                kind_of_tabular(leap_years_of(calendar.0), epoch_of(calendar.0))
+            }
             AnyCalendar::HijriUmmAlQura(_) => AnyCalendarKind::HijriUmmAlQura,
             AnyCalendar::Indian(_) => AnyCalendarKind::Indian,
             AnyCalendar::Iso(_) => AnyCalendarKind::Iso,

@@ -3,7 +3,7 @@ use Rattle.std.proofs.Common.{◌≡◌, ◌∙◌, ℕ, ap, sym, subst, ℤ}
 use Rattle.cal_days.specs.Day.{IsRuleYear}
 use Rattle.cal_east_asian.specs.EastAsianYears.{YearParts, parts_of, AreValid, year_from}
 use Rattle.cal_east_asian.specs.laws.RuleYearLaws.{rule_year-same}
-use Rattle.cal_east_asian.specs.laws.SameYearLaws.{same_parts}
+use Rattle.cal_east_asian.specs.laws.SameParts.{same_parts}
 use Rattle.cal_east_asian.specs.MeanYears.{IsOffset}
 use Rattle.cal_east_asian.specs.MeanTraditionalYears.{IsMeanYear, mean_traditional_year}
 use Rattle.cal_east_asian.specs.MeanParts.{mean_parts}

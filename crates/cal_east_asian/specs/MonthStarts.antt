@@ -1,6 +1,5 @@
 -- The first days of the months of a year and of the next year's first month.
-use Rattle.std.specs.Prelude.{ℕ, ◌+◌, ◌-◌, ◌≤◌, ◌&&◌, nat_le, if◌then◌else◌, List, slice_index_or, Option, Some, None, ℤ, pos, ◌-ℤ◌}
-use Rattle.std.specs.Prelude.{◌≡◌}
+use Rattle.std.specs.Prelude.{ℕ, ◌+◌, ◌-◌, ◌≤◌, ◌&&◌, nat_le, if◌then◌else◌, List, slice_index_or, Option, Some, None, ℤ, pos, ◌-ℤ◌, ◌≡◌}
 use Rattle.cal_days.specs.Day.{IsBetween, IsRuleYear}
 use Rattle.cal_east_asian.specs.EastAsianYear.{IsNewYear, months_of_year}
 use Rattle.cal_east_asian.specs.EastAsianPlaces.{month_days}

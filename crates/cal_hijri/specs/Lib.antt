@@ -7,6 +7,8 @@ pub mod HijriRows
 pub mod PackedYears
 pub mod HijriSystem
 pub mod RuleOrder
+pub mod TypeIYears
+pub mod TabularYears
 pub mod TabularRules
 pub mod TableFriday
 pub mod TableYears

@@ -1,3 +1,5 @@
+pub mod TypeILaws
+pub mod TabularYearLaws
 pub mod HijriShapes
 pub mod HijriLaws
 pub mod HijriBounds
@@ -11,3 +13,4 @@ pub mod RowStartLaws
 pub mod HijriRowLaws
 pub mod TableFridayLaws
 pub mod TableRuleLaws
+pub mod TabularRuleLaws

@@ -10,6 +10,7 @@ pub mod laws;
 mod rules;
 mod table_references;
 mod tabular_algorithm;
+mod type_i_years;
 mod umm_al_qura;
 
 pub use astronomical_simulation::AstronomicalSimulation;
@@ -18,5 +19,7 @@ pub use hijri_row::HijriRow;
 pub use hijri_table::HijriTable;
 pub use hijri_year::{HijriYear, PackedHijriDate};
 pub use rules::Rules;
-pub use tabular_algorithm::{TabularAlgorithm, TabularAlgorithmEpoch, TabularAlgorithmLeapYears};
+pub use tabular_algorithm::{
+    TabularAlgorithm, TabularAlgorithmEpoch, TabularAlgorithmLeapYears, epoch_of, leap_years_of,
+};
 pub use umm_al_qura::UmmAlQura;

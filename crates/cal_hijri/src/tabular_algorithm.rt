@@ -1,13 +1,14 @@
 //! The tabular rules: 11 of 30 years are leap years (Reingold and Dershowitz, Calendrical Calculations, chapter 7).
 
-ghost use Rattle.std.specs.Prelude.{◌≡◌};
+ghost use Rattle.std.specs.Prelude.{◌≡◌, ◌↔◌, IsTrue};
 ghost use Rattle.cal_days.specs.Day.{IsRuleYear};
 ghost use Rattle.cal_days.specs.Islamic.{IsIslamicEpoch};
-ghost use Rattle.cal_hijri.specs.HijriList.{tabular_long};
-ghost use Rattle.cal_hijri.specs.TabularRules.{epoch_day, tabular_reference_year, tabular_year};
+ghost use Rattle.cal_hijri.specs.TabularRules.{tabular_reference_year, tabular_year};
+ghost use Rattle.cal_hijri.specs.TabularYears.{epoch_day, is_leap, long_by, tabular_start};
 
 use crate::hijri_year::HijriYear;
 use crate::rules::Rules;
+use crate::type_i_years;
 use cal_base::plain_months::is_plain;
 use cal_base::scaffold::UnstableSealed;
 use cal_days::islamic;
@@ -21,6 +22,8 @@ use cal_types::{
 pub enum TabularAlgorithmLeapYears {
     /// The years 2, 5, 7, 10, 13, 16, 18, 21, 24, 26 and 29.
     TypeII,
+    /// The years 2, 5, 7, 10, 13, 15, 18, 21, 24, 26 and 29.
+    TypeI,
 }
 
 /// The day on which year 1 starts.
@@ -34,8 +37,9 @@ pub enum TabularAlgorithmEpoch {
 
 /// The tabular rules: odd months have 30 days and even ones 29, and the last month of a leap year has 30.
 ///
-/// CLDR's name for the calendar is `islamic-civil` where year 1 starts on a Friday, and `islamic-tbla` where it
-/// starts on a Thursday. Dates under two such rules can be compared where the rules are the same.
+/// CLDR's name for the calendar with the leap years of type II is `islamic-civil` where year 1 starts on a Friday,
+/// and `islamic-tbla` where it starts on a Thursday. Dates under two such rules can be compared where the rules are
+/// the same.
 #[derive(Clone, Copy, Debug, PartialEq, Eq, PartialOrd, Ord, Hash)]
 pub struct TabularAlgorithm {
     leap_years: TabularAlgorithmLeapYears,
@@ -55,6 +59,20 @@ impl TabularAlgorithm {
     }
 }
 
+/// The leap years of tabular rules.
+pub fn leap_years_of(rules: TabularAlgorithm) -> TabularAlgorithmLeapYears
+    ensures { result ≡ rules.leap_years }
+{
+    rules.leap_years
+}
+
+/// The day on which year 1 of tabular rules starts.
+pub fn epoch_of(rules: TabularAlgorithm) -> TabularAlgorithmEpoch
+    ensures { result ≡ rules.epoch }
+{
+    rules.epoch
+}
+
 impl TabularAlgorithmEpoch {
     /// The day number of the day.
     fn to_i64_date(self) -> i64
@@ -68,14 +86,40 @@ impl TabularAlgorithmEpoch {
     }
 }
 
-/// The months of a tabular year that have 30 days, as bits, the first month's the lowest.
-fn long_months(year: i32) -> u16
-    ensures { result ≡ tabular_long year }
+impl TabularAlgorithmLeapYears {
+    /// Whether a year has 355 days and not 354.
+    fn is_leap_year(self, year: i32) -> bool
+        ensures { IsTrue result ↔ IsTrue (is_leap self year) }
+    {
+        match self {
+            TabularAlgorithmLeapYears::TypeI => type_i_years::is_leap_year(year),
+            TabularAlgorithmLeapYears::TypeII => islamic::is_leap_year(year),
+        }
+    }
+
+    /// The months of a year that have 30 days, as bits, the first month's the lowest.
+    fn long_months(self, year: i32) -> u16
+        ensures { result ≡ long_by (is_leap self year) }
+    {
+        if self.is_leap_year(year) {
+            0b1101_0101_0101
+        } else {
+            0b0101_0101_0101
+        }
+    }
+}
+
+/// The day number of the first day of an extended year from -8000000 to 8000000.
+fn year_start(rules: TabularAlgorithm, extended_year: i32) -> i64
+    requires { IsRuleYear extended_year }
+    ensures { result ≡ tabular_start rules extended_year }
 {
-    if islamic::is_leap_year(year) {
-        0b1101_0101_0101
-    } else {
-        0b0101_0101_0101
+    let epoch = rules.epoch.to_i64_date();
+    match rules.leap_years {
+        TabularAlgorithmLeapYears::TypeI => type_i_years::year_start(extended_year, epoch),
+        TabularAlgorithmLeapYears::TypeII => {
+            islamic::year_start(extended_year, epoch).to_i64_date()
+        }
     }
 }
 
@@ -84,11 +128,10 @@ pub(crate) fn tabular_year(rules: TabularAlgorithm, extended_year: i32) -> Hijri
     requires { IsRuleYear extended_year }
     ensures { result ≡ tabular_year rules extended_year }
 {
-    let start = islamic::year_start(extended_year, rules.epoch.to_i64_date());
     HijriYear {
         extended_year,
-        first_day: start.to_i64_date(),
-        long_months: long_months(extended_year),
+        first_day: year_start(rules, extended_year),
+        long_months: rules.leap_years.long_months(extended_year),
     }
 }
 
@@ -113,7 +156,8 @@ pub(crate) fn reference_year(epoch: TabularAlgorithmEpoch, month: u8, day: u8) -
 impl UnstableSealed for TabularAlgorithm {}
 
 impl Rules for TabularAlgorithm {
-    ghost use Rattle.cal_hijri.specs.TabularRules.{tabular_reference, are_same_rules, same_rules-equivalence, algorithm_of_epoch, name_of_epoch, tabular-numbered, tabular-joins, tabular-references, tabular-shared};
+    ghost use Rattle.cal_hijri.specs.TabularRules.{tabular_reference, are_same_rules, algorithm_of_rules, name_of_rules};
+    ghost use Rattle.cal_hijri.specs.laws.TabularRuleLaws.{same_rules-equivalence, tabular-numbered, tabular-joins, tabular-references, tabular-shared};
 
     type DateCompatibilityError = MismatchedCalendarError;
 
@@ -123,9 +167,9 @@ impl Rules for TabularAlgorithm {
 
     ghost compatible = { λ s t. are_same_rules s t };
 
-    ghost algorithm = { λ s. algorithm_of_epoch s.epoch };
+    ghost algorithm = { λ s. algorithm_of_rules s };
 
-    ghost name = { λ s. name_of_epoch s.epoch };
+    ghost name = { λ s. name_of_rules s };
 
     fn year(&self, extended_year: i32) -> HijriYear {
         tabular_year(*self, extended_year)
@@ -148,17 +192,27 @@ impl Rules for TabularAlgorithm {
     }
 
     fn calendar_algorithm(&self) -> Option<CalendarAlgorithm> {
-        let kind = match self.epoch {
-            TabularAlgorithmEpoch::Thursday => HijriCalendarAlgorithm::Tbla,
-            TabularAlgorithmEpoch::Friday => HijriCalendarAlgorithm::Civil,
+        let kind = match (self.leap_years, self.epoch) {
+            (TabularAlgorithmLeapYears::TypeI, _) => return None,
+            (TabularAlgorithmLeapYears::TypeII, TabularAlgorithmEpoch::Thursday) => {
+                HijriCalendarAlgorithm::Tbla
+            }
+            (TabularAlgorithmLeapYears::TypeII, TabularAlgorithmEpoch::Friday) => {
+                HijriCalendarAlgorithm::Civil
+            }
         };
         Some(CalendarAlgorithm::Hijri(Some(kind)))
     }
 
     fn debug_name(&self) -> &'static str {
-        match self.epoch {
-            TabularAlgorithmEpoch::Thursday => "Hijri (astronomical)",
-            TabularAlgorithmEpoch::Friday => "Hijri (civil)",
+        match (self.leap_years, self.epoch) {
+            (TabularAlgorithmLeapYears::TypeI, TabularAlgorithmEpoch::Thursday) =>
+                "Hijri (Type I, Thursday)",
+            (TabularAlgorithmLeapYears::TypeI, TabularAlgorithmEpoch::Friday) =>
+                "Hijri (Type I, Friday)",
+            (TabularAlgorithmLeapYears::TypeII, TabularAlgorithmEpoch::Thursday) =>
+                "Hijri (astronomical)",
+            (TabularAlgorithmLeapYears::TypeII, TabularAlgorithmEpoch::Friday) => "Hijri (civil)",
         }
     }
 

@@ -1,1 +1,2 @@
 mod NamePlaceLemmas
+mod KindPlaceLemmas

@@ -22,10 +22,10 @@ StandInPlace [] = Unit {0}
 StandInPlace (named ∷ others) = (named_at (place_of named.0) ≡ Some named) × StandInPlace others
 
 names-kinds : HaveTheirKinds program_names
-names-kinds = (refl, (refl, (refl, (refl, (refl, (refl, (refl, (refl, (refl, (refl, (refl, (refl, (refl, (refl, (refl, (refl, (refl, (refl, tt))))))))))))))))))
+names-kinds = (refl, (refl, (refl, (refl, (refl, (refl, (refl, (refl, (refl, (refl, (refl, (refl, (refl, (refl, (refl, (refl, (refl, (refl, (refl, (refl, tt))))))))))))))))))))
 
 names-places : StandInPlace program_names
-names-places = (refl, (refl, (refl, (refl, (refl, (refl, (refl, (refl, (refl, (refl, (refl, (refl, (refl, (refl, (refl, (refl, (refl, (refl, tt))))))))))))))))))
+names-places = (refl, (refl, (refl, (refl, (refl, (refl, (refl, (refl, (refl, (refl, (refl, (refl, (refl, (refl, (refl, (refl, (refl, (refl, (refl, (refl, tt))))))))))))))))))))
 
 is_code-same : (word code : List ℕ) → is_code word code ≡ true → word ≡ code
 is_code-same word code h = (pointwise_decides Decides-eqb word code).0 h

@@ -28,6 +28,8 @@ program_names =
     ∷ (codes "japanese", kind.Japanese)
     ∷ (codes "persian", kind.Persian)
     ∷ (codes "roc", kind.Roc)
+    ∷ (codes "islamic-type1-friday", kind.HijriTabularTypeIFriday)
+    ∷ (codes "islamic-type1-thursday", kind.HijriTabularTypeIThursday)
     ∷ []
 
 -- the kind of the first of the names that is the word
@@ -59,6 +61,8 @@ variant_name kind.JapaneseExtended = codes "JapaneseExtended"
 variant_name kind.Julian = codes "Julian"
 variant_name kind.Persian = codes "Persian"
 variant_name kind.Roc = codes "Roc"
+variant_name kind.HijriTabularTypeIFriday = codes "HijriTabularTypeIFriday"
+variant_name kind.HijriTabularTypeIThursday = codes "HijriTabularTypeIThursday"
 
 -- the kind of calendar that CLDR's name stands for; `islamic` and `islamic-rgsa` stand for none
 abbrev pub kind_of_algorithm : CalendarAlgorithm → Option AnyCalendarKind

@@ -25,3 +25,5 @@ kind_place kind.JapaneseExtended = 15
 kind_place kind.Julian = 16
 kind_place kind.Persian = 17
 kind_place kind.Roc = 18
+kind_place kind.HijriTabularTypeIFriday = 19
+kind_place kind.HijriTabularTypeIThursday = 20

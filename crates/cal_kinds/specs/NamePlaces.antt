@@ -7,7 +7,7 @@ use Rattle.cal_kinds.specs.declared.any_calendar_kind.AnyCalendarKind.{AnyCalend
 
 -- the place that a word would have, from its length, its first byte and its last
 abbrev pub place_of : List ℕ → ℕ
-place_of word = (4 * (length word % 8) + 2 * get_or word 0 0 + 3 * get_or word (length word - 1) 0) % 32
+place_of word = (2 * (length word % 16) + get_or word 0 0 + get_or word (length word - 1) 0) % 64
 
 -- the name that has the place
 abbrev pub named_at : ℕ → Option (List ℕ × AnyCalendarKind)

@@ -51,6 +51,10 @@ pub enum AnyCalendarKind {
     Persian,
     /// The ROC calendar.
     Roc,
+    /// The tabular Hijri calendar with the leap years of type I, from Friday on.
+    HijriTabularTypeIFriday,
+    /// The tabular Hijri calendar with the leap years of type I, from Thursday on.
+    HijriTabularTypeIThursday,
 }
 
 /// Whether a text is a name: of its length, and with its bytes.
@@ -79,7 +83,7 @@ fn place_of(word: &[u8]) -> usize
 {
     let first = usize::from(word[0]);
     let last = usize::from(word[word.len() - 1]);
-    (4 * (word.len() % 8) + 2 * first + 3 * last) % 32
+    (2 * (word.len() % 16) + first + last) % 64
 }
 
 /// The name that has a place in the table of names, and its kind.
@@ -87,24 +91,32 @@ fn named_at(place: usize) -> Option<(&'static [u8], AnyCalendarKind)>
     ensures { option_map (λ named. (named.0.now, named.1)) result ≡ named_at place }
 {
     match place {
-        0 => Some((b"buddhist", AnyCalendarKind::Buddhist)),
-        2 => Some((b"islamic-simulated", AnyCalendarKind::HijriSimulatedMecca)),
-        3 => Some((b"japanese", AnyCalendarKind::Japanese)),
-        5 => Some((b"islamic-tbla", AnyCalendarKind::HijriTabularTypeIIThursday)),
-        6 => Some((b"persian", AnyCalendarKind::Persian)),
-        7 => Some((b"coptic", AnyCalendarKind::Coptic)),
-        9 => Some((b"ethioaa", AnyCalendarKind::EthiopianAmeteAlem)),
-        10 => Some((b"islamic-civil", AnyCalendarKind::HijriTabularTypeIIFriday)),
-        11 => Some((b"iso", AnyCalendarKind::Iso)),
-        13 => Some((b"hebrew", AnyCalendarKind::Hebrew)),
-        17 => Some((b"chinese", AnyCalendarKind::Chinese)),
-        19 => Some((b"ethiopic", AnyCalendarKind::Ethiopian)),
-        20 => Some((b"indian", AnyCalendarKind::Indian)),
-        21 => Some((b"islamic-umalqura", AnyCalendarKind::HijriUmmAlQura)),
-        22 => Some((b"julian", AnyCalendarKind::Julian)),
+        10 => Some((b"islamic-umalqura", AnyCalendarKind::HijriUmmAlQura)),
+        15 => Some((b"islamic-simulated", AnyCalendarKind::HijriSimulatedMecca)),
+        18 => Some((b"coptic", AnyCalendarKind::Coptic)),
+        20 => Some((b"ethioaa", AnyCalendarKind::EthiopianAmeteAlem)),
+        22 => Some((b"chinese", AnyCalendarKind::Chinese)),
         23 => Some((b"dangi", AnyCalendarKind::Dangi)),
-        25 => Some((b"roc", AnyCalendarKind::Roc)),
-        28 => Some((b"gregorian", AnyCalendarKind::Gregorian)),
+        24 => Some((b"ethiopic", AnyCalendarKind::Ethiopian)),
+        27 => Some((b"roc", AnyCalendarKind::Roc)),
+        30 => Some((b"iso", AnyCalendarKind::Iso)),
+        31 => Some((b"japanese", AnyCalendarKind::Japanese)),
+        34 => Some((b"islamic-tbla", AnyCalendarKind::HijriTabularTypeIIThursday)),
+        35 => Some((b"indian", AnyCalendarKind::Indian)),
+        36 => Some((b"julian", AnyCalendarKind::Julian)),
+        38 => Some((b"buddhist", AnyCalendarKind::Buddhist)),
+        39 => Some((b"gregorian", AnyCalendarKind::Gregorian)),
+        42 => Some((
+            b"islamic-type1-friday",
+            AnyCalendarKind::HijriTabularTypeIFriday,
+        )),
+        43 => Some((b"hebrew", AnyCalendarKind::Hebrew)),
+        44 => Some((b"persian", AnyCalendarKind::Persian)),
+        46 => Some((
+            b"islamic-type1-thursday",
+            AnyCalendarKind::HijriTabularTypeIThursday,
+        )),
+        47 => Some((b"islamic-civil", AnyCalendarKind::HijriTabularTypeIIFriday)),
         _ => None,
     }
 }
@@ -114,7 +126,7 @@ impl AnyCalendarKind {
     ///
     /// The names are `iso`, `gregorian`, `julian`, `buddhist`, `chinese`, `coptic`, `dangi`, `ethiopic`, `ethioaa`,
     /// `hebrew`, `indian`, `islamic-civil`, `islamic-simulated`, `islamic-tbla`, `islamic-umalqura`, `japanese`,
-    /// `persian` and `roc`. None for any other text: `JapaneseExtended` has no name.
+    /// `persian`, `roc`, `islamic-type1-friday` and `islamic-type1-thursday`. None for any other text: `JapaneseExtended` has no name.
     pub fn from_program_name(bytes: &[u8]) -> Option<AnyCalendarKind>
         ensures { result ≡ kind_named bytes.now }
     {
@@ -165,13 +177,15 @@ impl fmt::Display for AnyCalendarKind {
             JapaneseExtended,
             Julian,
             Persian,
-            Roc
+            Roc,
+            HijriTabularTypeIFriday,
+            HijriTabularTypeIThursday
         ))
     }
 }
 
 /// The kind that CLDR's name of a calendar stands for (UTS 35, the key `ca`). An error exactly for `islamic` and
-/// `islamic-rgsa`, which stand for no kind.
+/// `islamic-rgsa`, which stand for no kind. The tabular calendars with the leap years of type I have no name of CLDR's.
 impl TryFrom<CalendarAlgorithm> for AnyCalendarKind {
     type Error = ();
 

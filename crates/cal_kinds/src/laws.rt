@@ -9,7 +9,7 @@ use std::cmp::Ordering;
 
 /// The order of two kinds: Buddhist, Chinese, Coptic, Dangi, Ethiopian, EthiopianAmeteAlem, Gregorian, Hebrew, Indian,
 /// HijriTabularTypeIIFriday, HijriSimulatedMecca, HijriTabularTypeIIThursday, HijriUmmAlQura, Iso, Japanese,
-/// JapaneseExtended, Julian, Persian, Roc.
+/// JapaneseExtended, Julian, Persian, Roc, HijriTabularTypeIFriday, HijriTabularTypeIThursday.
 pub fn order_of_kinds(first: AnyCalendarKind, second: AnyCalendarKind) -> Ordering
     ensures { result ≡ nat_cmp (kind_place first) (kind_place second) }
 {

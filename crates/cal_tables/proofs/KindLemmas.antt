@@ -17,7 +17,7 @@ use Rattle.cal_hijri.specs.laws.HijriShapes.{hijri_list-lawful}
 use Rattle.cal_hijri.specs.TableRules.{table_year}
 use Rattle.cal_hijri.specs.TabularRules.{tabular_year}
 use Rattle.cal_hijri.specs.declared.tabular_algorithm.TabularAlgorithmEpoch.TheVariants.{Friday, Thursday}
-use Rattle.cal_hijri.specs.declared.tabular_algorithm.TabularAlgorithmLeapYears.TheVariants.{TypeII}
+use Rattle.cal_hijri.specs.declared.tabular_algorithm.TabularAlgorithmLeapYears.TheVariants.{TypeI, TypeII}
 use Rattle.cal_julian.specs.laws.IndianLaws.{indian_list-lawful}
 use Rattle.cal_julian.specs.laws.JulianLaws.{julian_list-lawful}
 use Rattle.cal_julian.specs.laws.PersianLaws.{persian_list-lawful}
@@ -45,3 +45,5 @@ kind_lawful t kind.JapaneseExtended = offset_list-lawful (pos 0)
 kind_lawful t kind.Julian = julian_list-lawful
 kind_lawful t kind.Persian = persian_list-lawful t.persian
 kind_lawful t kind.Roc = offset_list-lawful roc_offset
+kind_lawful t kind.HijriTabularTypeIFriday = hijri_list-lawful (tabular_year (record { leap_years = TypeI; epoch = Friday }))
+kind_lawful t kind.HijriTabularTypeIThursday = hijri_list-lawful (tabular_year (record { leap_years = TypeI; epoch = Thursday }))

@@ -28,7 +28,7 @@ use Rattle.cal_hijri.specs.TabularRules.{tabular_system}
 use Rattle.cal_hijri.specs.declared.hijri_table.HijriTable.{HijriTable}
 use Rattle.cal_hijri.specs.declared.hijri_year.HijriYear.{HijriYear}
 use Rattle.cal_hijri.specs.declared.tabular_algorithm.TabularAlgorithmEpoch.TheVariants.{Friday, Thursday}
-use Rattle.cal_hijri.specs.declared.tabular_algorithm.TabularAlgorithmLeapYears.TheVariants.{TypeII}
+use Rattle.cal_hijri.specs.declared.tabular_algorithm.TabularAlgorithmLeapYears.TheVariants.{TypeI, TypeII}
 use Rattle.cal_julian.specs.IndianSystem.{indian_system}
 use Rattle.cal_julian.specs.JulianSystem.{julian_system}
 use Rattle.cal_julian.specs.PersianSystem.{corrected_system}
@@ -91,3 +91,5 @@ kind_system t kind.JapaneseExtended = listed_system t.eras
 kind_system t kind.Julian = julian_system
 kind_system t kind.Persian = corrected_system t.persian
 kind_system t kind.Roc = roc_system
+kind_system t kind.HijriTabularTypeIFriday = tabular_system (record { leap_years = TypeI; epoch = Friday })
+kind_system t kind.HijriTabularTypeIThursday = tabular_system (record { leap_years = TypeI; epoch = Thursday })

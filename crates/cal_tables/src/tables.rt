@@ -23,7 +23,7 @@ pub struct Tables<'t> {
 
 impl<'t> Tables<'t> {
     ghost use Rattle.std.specs.Prelude.{[], IsSome, IfSome, ◌↔◌};
-    ghost use Rattle.cal_tables.specs.Kinds.{table_contents, no_contents, contents_of};
+    ghost use Rattle.cal_tables.specs.Kinds.{table_contents, no_contents, contents_of, kind_system};
     ghost use Rattle.cal_east_asian.specs.EastAsianReferences.{side_reference};
     ghost use Rattle.cal_east_asian.specs.EastAsianSystem.{east_asian_system};
     ghost use Rattle.cal_east_asian.specs.TableRules.{table_year};
@@ -31,7 +31,6 @@ impl<'t> Tables<'t> {
     ghost use Rattle.cal_hijri.specs.HijriRows.{years_of};
     ghost use Rattle.cal_hijri.specs.TableRules.{umm_al_qura_system, simulated_mecca_system};
     ghost use Rattle.cal_julian.specs.PersianSystem.{persian_system};
-    ghost use Rattle.cal_tables.specs.Kinds.{kind_system};
     ghost use Rattle.cal_kinds.specs.declared.any_calendar_kind.AnyCalendarKind.TheVariants as kind;
 
     /// No table has a row, no Persian year is corrected, and the eras are those up to Reiwa.

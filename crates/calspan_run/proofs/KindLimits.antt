@@ -27,11 +27,12 @@ use Rattle.cal_hijri.specs.TableAccepted as hijri
 use Rattle.cal_hijri.specs.TableFriday.{friday_year}
 use Rattle.cal_hijri.specs.TableRules.{table_year, table_system}
 use Rattle.cal_hijri.specs.laws.TableRuleLaws.{table-numbered, table-joins}
-use Rattle.cal_hijri.specs.TabularRules.{tabular_year, tabular_system, tabular-numbered, tabular-joins}
+use Rattle.cal_hijri.specs.TabularRules.{tabular_year, tabular_system}
+use Rattle.cal_hijri.specs.laws.TabularRuleLaws.{tabular-numbered, tabular-joins}
 use Rattle.cal_hijri.specs.declared.hijri_year.HijriYear.{HijriYear}
 use Rattle.cal_hijri.specs.declared.tabular_algorithm.TabularAlgorithm.{TabularAlgorithm}
 use Rattle.cal_hijri.specs.declared.tabular_algorithm.TabularAlgorithmEpoch.TheVariants.{Friday, Thursday}
-use Rattle.cal_hijri.specs.declared.tabular_algorithm.TabularAlgorithmLeapYears.TheVariants.{TypeII}
+use Rattle.cal_hijri.specs.declared.tabular_algorithm.TabularAlgorithmLeapYears.TheVariants.{TypeI, TypeII}
 use Rattle.cal_julian.proofs.CorrectionLemmas.{accepted-correctable}
 use Rattle.cal_julian.specs.laws.IndianLaws as indian_bounds
 use Rattle.cal_julian.specs.laws.JulianLaws as julian_bounds
@@ -127,3 +128,5 @@ kind_limits rows accepted kind.Roc = record {
 -- so is that of each kind without rows
 pub plain_limits : (k : AnyCalendarKind) → IsWithinLimits (kind_system no_contents k)
 plain_limits k = kind_limits no_rows no_rows_accepted k
+kind_limits rows accepted kind.HijriTabularTypeIFriday = tabular_limits (record { leap_years = TypeI; epoch = Friday })
+kind_limits rows accepted kind.HijriTabularTypeIThursday = tabular_limits (record { leap_years = TypeI; epoch = Thursday })

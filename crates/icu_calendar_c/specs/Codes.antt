@@ -18,7 +18,7 @@ kinds =
     kind.Buddhist ∷ kind.Chinese ∷ kind.Coptic ∷ kind.Dangi ∷ kind.Ethiopian ∷ kind.EthiopianAmeteAlem
     ∷ kind.Gregorian ∷ kind.Hebrew ∷ kind.Indian ∷ kind.HijriTabularTypeIIFriday ∷ kind.HijriSimulatedMecca
     ∷ kind.HijriTabularTypeIIThursday ∷ kind.HijriUmmAlQura ∷ kind.Iso ∷ kind.Japanese ∷ kind.Julian ∷ kind.Persian
-    ∷ kind.Roc ∷ []
+    ∷ kind.Roc ∷ kind.HijriTabularTypeIFriday ∷ kind.HijriTabularTypeIThursday ∷ []
 
 -- the kind of a code
 abbrev pub kind_of_code : ℕ → Option AnyCalendarKind

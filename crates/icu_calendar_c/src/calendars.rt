@@ -2,7 +2,6 @@
 
 ghost use Rattle.std.specs.Prelude.{◌≡◌};
 ghost use Rattle.cal_hijri.specs.TabularRules.{tabular_system};
-ghost use Rattle.cal_hijri.specs.declared.tabular_algorithm.TabularAlgorithmLeapYears.TheVariants.{TypeII};
 ghost use Rattle.cal_tables.specs.Kinds.{kind_system, table_contents};
 ghost use Rattle.icu_calendar_c.specs.Calendars.{calendar_of, choice_system, chosen_system};
 
@@ -54,13 +53,13 @@ macro_rules! with_calendar {
             AnyCalendarKind::Hebrew => with_made!(Hebrew, $calendar => $answer),
             AnyCalendarKind::Indian => with_made!(Indian, $calendar => $answer),
             AnyCalendarKind::HijriTabularTypeIIFriday => {
-                with_made!(tabular(TabularAlgorithmEpoch::Friday), $calendar => $answer)
+                with_made!(tabular(TabularAlgorithmLeapYears::TypeII, TabularAlgorithmEpoch::Friday), $calendar => $answer)
             }
             AnyCalendarKind::HijriSimulatedMecca => {
                 with_made!($tables.simulated_mecca(), $calendar => $answer)
             }
             AnyCalendarKind::HijriTabularTypeIIThursday => {
-                with_made!(tabular(TabularAlgorithmEpoch::Thursday), $calendar => $answer)
+                with_made!(tabular(TabularAlgorithmLeapYears::TypeII, TabularAlgorithmEpoch::Thursday), $calendar => $answer)
             }
             AnyCalendarKind::HijriUmmAlQura => {
                 with_made!($tables.umm_al_qura(), $calendar => $answer)
@@ -73,6 +72,12 @@ macro_rules! with_calendar {
             AnyCalendarKind::Julian => with_made!(Julian, $calendar => $answer),
             AnyCalendarKind::Persian => with_made!($tables.persian(), $calendar => $answer),
             AnyCalendarKind::Roc => with_made!(Roc, $calendar => $answer),
+            AnyCalendarKind::HijriTabularTypeIFriday => {
+                with_made!(tabular(TabularAlgorithmLeapYears::TypeI, TabularAlgorithmEpoch::Friday), $calendar => $answer)
+            }
+            AnyCalendarKind::HijriTabularTypeIThursday => {
+                with_made!(tabular(TabularAlgorithmLeapYears::TypeI, TabularAlgorithmEpoch::Thursday), $calendar => $answer)
+            }
         }
     };
 }
@@ -84,11 +89,14 @@ macro_rules! with_made {
     }};
 }
 
-// The tabular Hijri calendar with the leap years of type II, from a day on.
-fn tabular(epoch: TabularAlgorithmEpoch) -> Hijri<TabularAlgorithm>
-    ensures { tabular_system result.0 ≡ tabular_system (record { leap_years = TypeII; epoch = epoch }) }
+// The tabular Hijri calendar with these leap years, from a day on.
+fn tabular(
+    leap_years: TabularAlgorithmLeapYears,
+    epoch: TabularAlgorithmEpoch,
+) -> Hijri<TabularAlgorithm>
+    ensures { tabular_system result.0 ≡ tabular_system (record { leap_years = leap_years; epoch = epoch }) }
 {
-    Hijri::new_tabular(TabularAlgorithmLeapYears::TypeII, epoch)
+    Hijri::new_tabular(leap_years, epoch)
 }
 
 // What a question is answered in the calendar of a kind over tables.

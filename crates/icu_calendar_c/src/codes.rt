@@ -32,6 +32,8 @@ pub(crate) fn kind_of(code: u8) -> Option<AnyCalendarKind>
         15 => Some(AnyCalendarKind::Julian),
         16 => Some(AnyCalendarKind::Persian),
         17 => Some(AnyCalendarKind::Roc),
+        18 => Some(AnyCalendarKind::HijriTabularTypeIFriday),
+        19 => Some(AnyCalendarKind::HijriTabularTypeIThursday),
         _ => None,
     }
 }

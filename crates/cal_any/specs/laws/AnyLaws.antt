@@ -47,7 +47,8 @@ use Rattle.cal_hijri.specs.laws.HijriNameLaws.{years-named}
 use Rattle.cal_hijri.specs.laws.HijriShapes.{hijri_list-lawful}
 use Rattle.cal_hijri.specs.TableRules.{table_year}
 use Rattle.cal_hijri.specs.laws.TableRuleLaws.{table-numbered, table-joins, table-shared, same_rows-equivalence}
-use Rattle.cal_hijri.specs.TabularRules.{tabular_year, tabular-numbered, tabular-joins, tabular-shared, same_rules-equivalence}
+use Rattle.cal_hijri.specs.TabularRules.{tabular_year}
+use Rattle.cal_hijri.specs.laws.TabularRuleLaws.{tabular-numbered, tabular-joins, tabular-shared, same_rules-equivalence}
 use Rattle.cal_julian.specs.IndianList.{indian_list}
 use Rattle.cal_julian.specs.laws.IndianLaws as indian_bounds
 use Rattle.cal_julian.specs.laws.IndianLaws.{indian_list-lawful}
@@ -59,9 +60,7 @@ use Rattle.cal_julian.specs.PersianCorrected.{corrected_years}
 use Rattle.cal_julian.specs.PersianList.{persian_list}
 use Rattle.cal_julian.specs.laws.PersianLaws as persian_bounds
 use Rattle.cal_julian.specs.laws.PersianLaws.{persian_list-lawful, same_years}
-use Rattle.cal_any.specs.AnySystem.{any_system, any_date, any_belongs, any_compatible, calendar_kind, table_tests}
-use Rattle.cal_any.specs.AnySystem.{kept_list, extended_date, is_kept, is_valid_kept, keeps_given_year}
-use Rattle.cal_any.specs.AnySystem.{corrected_of, tabular_rules_of, hijri_rows_of, east_asian_rows_of}
+use Rattle.cal_any.specs.AnySystem.{any_system, any_date, any_belongs, any_compatible, calendar_kind, table_tests, kept_list, extended_date, is_kept, is_valid_kept, keeps_given_year, corrected_of, tabular_rules_of, hijri_rows_of, east_asian_rows_of}
 use Rattle.cal_any.specs.AnyOrder.{kind_of, kept_date, keeps_hebrew_length, any_eq, any_cmp, hijri_year, east_asian_year}
 use Rattle.cal_any.specs.ByKind.{test_of}
 use Rattle.cal_any.specs.laws.ByKindLaws.{always-equivalence, equal_kinds, same_kind, by_kind-kinds, by_kind-test, by_kind-equivalence}

@@ -9,7 +9,7 @@ use Rattle.cal_east_asian.specs.RuleYears.{rule_year}
 use Rattle.cal_east_asian.specs.MeanYears.{IsOffset}
 use Rattle.cal_east_asian.specs.MeanParts.{mean_parts}
 use Rattle.cal_east_asian.specs.MeanTraditionalYears.{mean_traditional_year}
-use Rattle.cal_east_asian.specs.laws.SameYearLaws.{same_parts}
+use Rattle.cal_east_asian.specs.laws.SameParts.{same_parts}
 
 -- what isn't implemented gives no year, and no other refusal
 pub unimplemented-year : {Q : Type 0} (y : ℤ) → ◌≡◌ {A = Result ℤ EcmaReferenceYearError} (Err Unimplemented) (Ok y) → Q

@@ -11,7 +11,7 @@ use Rattle.cal_hijri.specs.HijriList.{Joins, Numbered, has_parts_of}
 use Rattle.cal_hijri.specs.HijriNames.{AreReferences}
 use Rattle.cal_hijri.specs.SameRows.{are_same_rows}
 use Rattle.cal_hijri.specs.laws.SameYears.{has_parts_of-same}
-use Rattle.cal_hijri.specs.TabularRules.{known-references, tabular_reference_year-range}
+use Rattle.cal_hijri.specs.laws.TabularRuleLaws.{known-references, tabular_reference_year-range}
 use Rattle.cal_hijri.specs.TableFriday.{friday_year}
 use Rattle.cal_hijri.specs.laws.TableFridayLaws.{friday-numbered, friday-joins}
 use Rattle.cal_hijri.specs.TableAccepted.{IsAccepted}

@@ -18,7 +18,7 @@ use Rattle.cal_east_asian.specs.MeanTraditionalYears.{mean_traditional_year}
 use Rattle.cal_east_asian.specs.MeanParts.{mean_parts}
 use Rattle.cal_east_asian.specs.laws.MeanPartLaws.{new_year-is_new_year, mean-end}
 use Rattle.cal_east_asian.specs.declared.east_asian_traditional_year.EastAsianTraditionalYear.{EastAsianTraditionalYear}
-use Rattle.cal_east_asian.specs.laws.SameYearLaws.{same_parts}
+use Rattle.cal_east_asian.specs.laws.SameParts.{same_parts}
 use Rattle.cal_east_asian.proofs.MoonLemmas.{term-by, first-by, moon-by}
 use Rattle.cal_east_asian.proofs.PlaceLemmas.{place-mean, bits-mean}
 use Rattle.cal_east_asian.proofs.mean_years.mean_year.Goals as goal

@@ -49,3 +49,17 @@ returns-in-HijriTabularTypeIIFriday-clause-named c =
 pub returns-in-HijriTabularTypeIIThursday-clause-named : goal.returns-in-HijriTabularTypeIIThursday-clause-named
 returns-in-HijriTabularTypeIIThursday-clause-named c =
     named_in _ _ _ _ (largest_unit_of c.args.difference.largest_unit) c.name_in-in-HijriTabularTypeIIThursday.new.parts (table_contents c.args.tables.now) _ _ _ c.tabular-calendar-in-HijriTabularTypeIIThursday.ensures c.in-HijriTabularTypeIIThursday.is c.name_in-in-HijriTabularTypeIIThursday.ensures.named
+
+pub returns-in-HijriTabularTypeIFriday-clause-refused : goal.returns-in-HijriTabularTypeIFriday-clause-refused
+returns-in-HijriTabularTypeIFriday-clause-refused c = refused_in _ _ _ _ (table_contents c.args.tables.now) _ _ _ c.tabular-calendar-in-HijriTabularTypeIFriday.ensures c.in-HijriTabularTypeIFriday.is c.name_in-in-HijriTabularTypeIFriday.ensures.refused
+
+pub returns-in-HijriTabularTypeIThursday-clause-refused : goal.returns-in-HijriTabularTypeIThursday-clause-refused
+returns-in-HijriTabularTypeIThursday-clause-refused c = refused_in _ _ _ _ (table_contents c.args.tables.now) _ _ _ c.tabular-calendar-in-HijriTabularTypeIThursday.ensures c.in-HijriTabularTypeIThursday.is c.name_in-in-HijriTabularTypeIThursday.ensures.refused
+
+pub returns-in-HijriTabularTypeIFriday-clause-named : goal.returns-in-HijriTabularTypeIFriday-clause-named
+returns-in-HijriTabularTypeIFriday-clause-named c =
+    named_in _ _ _ _ (largest_unit_of c.args.difference.largest_unit) c.name_in-in-HijriTabularTypeIFriday.new.parts (table_contents c.args.tables.now) _ _ _ c.tabular-calendar-in-HijriTabularTypeIFriday.ensures c.in-HijriTabularTypeIFriday.is c.name_in-in-HijriTabularTypeIFriday.ensures.named
+
+pub returns-in-HijriTabularTypeIThursday-clause-named : goal.returns-in-HijriTabularTypeIThursday-clause-named
+returns-in-HijriTabularTypeIThursday-clause-named c =
+    named_in _ _ _ _ (largest_unit_of c.args.difference.largest_unit) c.name_in-in-HijriTabularTypeIThursday.new.parts (table_contents c.args.tables.now) _ _ _ c.tabular-calendar-in-HijriTabularTypeIThursday.ensures c.in-HijriTabularTypeIThursday.is c.name_in-in-HijriTabularTypeIThursday.ensures.named

@@ -21,3 +21,13 @@ pub returns-in-HijriTabularTypeIIThursday-clause-listed : goal.returns-in-HijriT
 returns-in-HijriTabularTypeIIThursday-clause-listed g c =
     let t = table_contents c.args.tables.now in
     listed_in _ _ _ (λ s. g.L.CalendarListing.lists_in c.args.list.now s t) t _ _ _ c.tabular-calendar-in-HijriTabularTypeIIThursday.ensures c.in-HijriTabularTypeIIThursday.is c.write_in-in-HijriTabularTypeIIThursday.ensures.listed
+
+pub returns-in-HijriTabularTypeIFriday-clause-listed : goal.returns-in-HijriTabularTypeIFriday-clause-listed
+returns-in-HijriTabularTypeIFriday-clause-listed g c =
+    let t = table_contents c.args.tables.now in
+    listed_in _ _ _ (λ s. g.L.CalendarListing.lists_in c.args.list.now s t) t _ _ _ c.tabular-calendar-in-HijriTabularTypeIFriday.ensures c.in-HijriTabularTypeIFriday.is c.write_in-in-HijriTabularTypeIFriday.ensures.listed
+
+pub returns-in-HijriTabularTypeIThursday-clause-listed : goal.returns-in-HijriTabularTypeIThursday-clause-listed
+returns-in-HijriTabularTypeIThursday-clause-listed g c =
+    let t = table_contents c.args.tables.now in
+    listed_in _ _ _ (λ s. g.L.CalendarListing.lists_in c.args.list.now s t) t _ _ _ c.tabular-calendar-in-HijriTabularTypeIThursday.ensures c.in-HijriTabularTypeIThursday.is c.write_in-in-HijriTabularTypeIThursday.ensures.listed

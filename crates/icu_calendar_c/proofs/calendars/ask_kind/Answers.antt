@@ -17,3 +17,13 @@ pub returns-in-HijriTabularTypeIIThursday : goal.returns-in-HijriTabularTypeIITh
 returns-in-HijriTabularTypeIIThursday g c =
     asked_in (λ s. g.Q.Question.answers c.args.question.now s c.ask-in-HijriTabularTypeIIThursday.result) (table_contents c.args.tables.now) _ _ _
     c.tabular-calendar-in-HijriTabularTypeIIThursday.ensures c.in-HijriTabularTypeIIThursday.is c.ask-in-HijriTabularTypeIIThursday.ensures
+
+pub returns-in-HijriTabularTypeIFriday : goal.returns-in-HijriTabularTypeIFriday
+returns-in-HijriTabularTypeIFriday g c =
+    asked_in (λ s. g.Q.Question.answers c.args.question.now s c.ask-in-HijriTabularTypeIFriday.result) (table_contents c.args.tables.now) _ _ _
+    c.tabular-calendar-in-HijriTabularTypeIFriday.ensures c.in-HijriTabularTypeIFriday.is c.ask-in-HijriTabularTypeIFriday.ensures
+
+pub returns-in-HijriTabularTypeIThursday : goal.returns-in-HijriTabularTypeIThursday
+returns-in-HijriTabularTypeIThursday g c =
+    asked_in (λ s. g.Q.Question.answers c.args.question.now s c.ask-in-HijriTabularTypeIThursday.result) (table_contents c.args.tables.now) _ _ _
+    c.tabular-calendar-in-HijriTabularTypeIThursday.ensures c.in-HijriTabularTypeIThursday.is c.ask-in-HijriTabularTypeIThursday.ensures
