@@ -15,4 +15,5 @@ pub mod TableYears
 pub mod TableAccepted
 pub mod SameRows
 pub mod TableRules
+pub mod LengthenedTables
 pub mod laws

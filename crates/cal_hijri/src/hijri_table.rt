@@ -6,6 +6,7 @@ ghost use Rattle.std.specs.Cmp.Lexicographic.{pointwise};
 ghost use Rattle.cal_hijri.specs.HijriRows.{is_same_row, years_of};
 ghost use Rattle.cal_hijri.specs.TableFriday as beside;
 ghost use Rattle.cal_hijri.specs.TableYears as table;
+ghost use Rattle.cal_hijri.specs.LengthenedTables.{is_equal_year, IsLengthenFault, KeepsYears, Lengthens};
 ghost use Rattle.cal_hijri.specs.SameRows.{are_same_rows};
 ghost use Rattle.cal_hijri.specs.TableAccepted.{IsRow, IsTableYear, row_before, is_next, end_day, follows, joins, ends, meets, MeetsAll, IsAccepted, IsFirstBroken, IsFirstFault};
 ghost use Rattle.cal_hijri.specs.declared.hijri_year.HijriYear.{HijriYear};
@@ -16,7 +17,8 @@ use crate::hijri_year::{HijriYear, days_before_month};
 use crate::tabular_algorithm::{
     TabularAlgorithm, TabularAlgorithmEpoch, TabularAlgorithmLeapYears, tabular_year,
 };
-use cal_types::{TableFault, TablePart};
+use cal_rows::{Row, first_difference};
+use cal_types::{LengthenFault, TableFault, TablePart};
 
 /// Years in a row, each of which takes the place of the tabular year from Friday on.
 ///
@@ -63,6 +65,34 @@ impl<'t> HijriTable<'t> {
         }
     }
 
+    /// The table of longer rows: they begin with this table's rows, and are accepted. Each year that isn't among the
+    /// rows that were added keeps its first day and its months.
+    ///
+    /// Rows are equal where the years are that they are read as: in number, first day and the lengths of their months.
+    ///
+    /// [`LengthenFault::Differs`] names the first of this table's rows, counted from 1, to which the longer ones have
+    /// none equal in its place, as where they are fewer. Where there is no such row, [`LengthenFault::Table`] has the
+    /// fault that [`HijriTable::try_new`] finds in the longer ones. No memory is taken.
+    ///
+    /// ```
+    /// let table = HijriTable::try_new(&rows[..50])?;
+    /// let lengthened = table.lengthened(&rows)?;
+    /// ```
+    pub fn lengthened<'u>(&self, rows: &'u [HijriRow]) -> Result<HijriTable<'u>, LengthenFault>
+        ensures first { MatchResult result (λ made. made.rows.now ≡ rows.now)
+            (IsLengthenFault self.now.rows.now rows.now) }
+        ensures exact { IsOk result ↔ Lengthens self.now.rows.now rows.now }
+        ensures kept { IsOk result → KeepsYears self.now.rows.now rows.now }
+    {
+        if let Some(row) = first_difference(self.rows, rows) {
+            return Err(LengthenFault::Differs { row });
+        }
+        match HijriTable::try_new(rows) {
+            Ok(table) => Ok(table),
+            Err(fault) => Err(LengthenFault::Table(fault)),
+        }
+    }
+
     /// The rows.
     pub fn rows(&self) -> &'t [HijriRow]
         ensures { result.now ≡ self.now.rows.now }
@@ -87,6 +117,25 @@ impl<'t> HijriTable<'t> {
             → row.extended_year ≢ extended_year) → result ≡ beside.friday_year extended_year }
     {
         chosen(self.rows, extended_year)
+    }
+}
+
+/// Whether two years are equal in number, first day and the lengths of their months.
+fn is_equal_year(year: HijriYear, other: HijriYear) -> bool
+    ensures { result ≡ is_equal_year year other }
+{
+    year.extended_year == other.extended_year
+        && year.first_day == other.first_day
+        && year.long_months % 4096 == other.long_months % 4096
+}
+
+impl Row for HijriRow {
+    ghost use Rattle.cal_hijri.specs.LengthenedTables.{is_equal_row};
+
+    ghost equal = { is_equal_row };
+
+    fn is_equal_row(self, other: HijriRow) -> bool {
+        is_equal_year(self.year(), other.year())
     }
 }
 

@@ -1,19 +1,23 @@
 //! Rows that lengthen a table.
 
-ghost use Rattle.std.specs.Prelude.{◌≡◌, ◌↔◌, IsTrue, MatchOption, slice_get};
-ghost use Rattle.cal_rows.specs.Rows.{IsRow};
-ghost use Rattle.cal_rows.specs.Lengthening.{BeginWith, IsFirstDifference};
+ghost use Rattle.std.specs.Prelude.{◌≡◌, MatchOption, slice_get};
+ghost use Rattle.cal_rows.specs.Lengthening.{BeginWith, IsFirstDifference, is_like, stands_in};
 
 /// A row of a table.
 pub trait Row: Copy {
-    /// Whether another row is the same in all its parts.
-    fn is_same_row(self, other: Self) -> bool
-        ensures { IsTrue result ↔ (self ≡ other) };
+    ghost use Rattle.std.specs.Prelude.{Bool};
+
+    /// Whether two rows are equal.
+    ghost equal: { Self → Self → Bool };
+
+    /// Whether another row is equal to this one.
+    fn is_equal_row(self, other: Self) -> bool
+        ensures { result ≡ equal self other };
 }
 
-/// The first of some rows, counted from 1, that others don't have in its place.
+/// The first of some rows, counted from 1, to which others have none equal in its place.
 pub fn first_difference<Y: Row>(old: &[Y], rows: &[Y]) -> Option<usize>
-    ensures { MatchOption result (BeginWith old.now rows.now) (IsFirstDifference old.now rows.now) }
+    ensures { MatchOption result (BeginWith Y.equal old.now rows.now) (IsFirstDifference Y.equal old.now rows.now) }
 {
     for (index, row) in old.iter().enumerate() {
         if !has_row(rows, index, *row) {
@@ -23,12 +27,19 @@ pub fn first_difference<Y: Row>(old: &[Y], rows: &[Y]) -> Option<usize>
     None
 }
 
-/// Whether rows have this one in a place, counted from 0.
+/// Whether rows have one equal to this in a place, counted from 0.
 fn has_row<Y: Row>(rows: &[Y], index: usize, row: Y) -> bool
-    ensures { IsTrue result ↔ IsRow rows.now index row }
+    ensures { result ≡ stands_in Y.equal rows.now index row }
 {
-    match row_at(rows, index) {
-        Some(there) => there.is_same_row(row),
+    is_like(row_at(rows, index), row)
+}
+
+/// Whether a row is there and equal to another one.
+fn is_like<Y: Row>(there: Option<Y>, row: Y) -> bool
+    ensures { result ≡ is_like Y.equal there row }
+{
+    match there {
+        Some(there) => row.is_equal_row(there),
         None => false,
     }
 }
