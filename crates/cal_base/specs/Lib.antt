@@ -7,5 +7,6 @@ pub mod NumberedYears
 pub mod Compatibility
 pub mod OffsetList
 pub mod IsoEra
+pub mod PackedDates
 pub mod OffsetSystem
 pub mod laws

@@ -1,5 +1,5 @@
 -- Rows of a table by plain numbers, and the years that they are.
-use Rattle.std.proofs.Common.{◌≡◌, ℕ, ◌≤◌, min, Bool, ◌&&◌, List, [], ◌∷◌, refl, ap, arith, ℤ, pos, ◌+ℤ◌, ◌-ℤ◌}
+use Rattle.std.proofs.Common.{◌≡◌, ℕ, ◌≤◌, ◌<◌, ◌%◌, min, Bool, ◌&&◌, List, [], ◌∷◌, refl, ap, arith, ℤ, pos, ◌+ℤ◌, ◌-ℤ◌}
 use Rattle.std.specs.Prelude.{false, map, if◌then◌else◌, int_lt, neg_ℤ}
 use Rattle.std.specs.Cmp.Lexicographic.{pointwise}
 use Rattle.cal_days.proofs.Signed.{signed, by_bool}
@@ -31,13 +31,18 @@ start-near y offset =
     let few : min offset 10 ≤ 10 = omega arith in
     (omega (arith, signed), omega (arith, signed, few))
 
+-- the bits above the twelfth month's are of no month
+row-twelve : (bits : ℕ) → bits % 4096 < 4096
+row-twelve bits = omega arith
+
 -- the year of a row
 abbrev pub row_year : HijriRow → HijriYear
 row_year row = record {
   extended_year = nearest_rule_year row.extended_year;
   first_day = start_after (nearest_rule_year row.extended_year) row.start_offset;
-  long_months = row.long_months;
+  long_months = row.long_months % 4096;
   near = start-near (nearest_rule_year row.extended_year) row.start_offset;
+  twelve = row-twelve row.long_months;
 }
 
 -- the years of rows

@@ -1,6 +1,6 @@
 -- The tabular rules: which day year 1 starts on, the months of a year, and the reference years.
 -- Source: Reingold and Dershowitz, Calendrical Calculations, chapter 7. A reference year is the latest in which the day falls on or before 1972-12-31 of the ISO calendar, as ECMAScript Temporal's NonISOMonthDayToISOReferenceDate has it; that day is the 25th of the month 11 of 1392 where year 1 starts on a Friday, and the 26th where it starts on a Thursday.
-use Rattle.std.proofs.Common.{◌≡◌, ℕ, ◌+◌, ◌*◌, Bool, true, false, if◌then◌else◌, refl, sym, ap, subst, ◌∙◌, arith, ℤ, pos, ◌+ℤ◌, Some, Option, Result, Ok, Err, List}
+use Rattle.std.proofs.Common.{◌≡◌, ℕ, ◌+◌, ◌*◌, ◌<◌, Bool, true, false, if◌then◌else◌, refl, sym, ap, subst, ◌∙◌, arith, ℤ, pos, ◌+ℤ◌, Some, Option, Result, Ok, Err, List}
 use Rattle.std.specs.Prelude.{IsTrue, nat_eq, nat_le, codes}
 use Rattle.std.proofs.lemmas.Cmp.{on_equiv, nat_eq_equiv}
 use Rattle.std.specs.Cmp.{IsEquivalence}
@@ -43,9 +43,17 @@ tabular-near s y =
     let near = islamic_start-near (epoch_day s.epoch) y (epoch_day-known s.epoch) in
     (omega (arith, signed, near), omega (arith, signed, near))
 
+few-by : (leap : Bool) → (if leap then 3413 else 1365) < 4096
+few-by true = omega arith
+few-by false = omega arith
+
+-- and has twelve months
+pub tabular-twelve : (y : ℤ) → tabular_long y < 4096
+tabular-twelve y = few-by (islamic_leap y)
+
 -- the year of a number
 abbrev pub tabular_year : TabularAlgorithm → ℤ → HijriYear
-tabular_year s y = record { extended_year = y; first_day = islamic_start (epoch_day s.epoch) y; long_months = tabular_long y; near = tabular-near s y }
+tabular_year s y = record { extended_year = y; first_day = islamic_start (epoch_day s.epoch) y; long_months = tabular_long y; near = tabular-near s y; twelve = tabular-twelve y }
 
 pub tabular-numbered : (s : TabularAlgorithm) → Numbered (tabular_year s)
 tabular-numbered s y rule = refl

@@ -1,3 +1,4 @@
+pub mod PackedLaws
 pub mod HijriShapes
 pub mod HijriLaws
 pub mod HijriBounds

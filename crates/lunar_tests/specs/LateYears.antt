@@ -22,8 +22,15 @@ late_long y = if int_eq (late_start (y +ℤ pos 1) -ℤ late_start y) (pos 355) 
 pub late-near : (y : ℤ) → IsNearMean y (late_start y)
 late-near y = (omega (arith, signed), omega (arith, signed))
 
+few_by : (b : Bool) → (if b then 3413 else 1365) < 4096
+few_by true = omega arith
+few_by false = omega arith
+
+pub late-few : (y : ℤ) → late_long y < 4096
+late-few y = few_by (int_eq (late_start (y +ℤ pos 1) -ℤ late_start y) (pos 355))
+
 abbrev pub late_year : ℤ → HijriYear
-late_year y = record { extended_year = y; first_day = late_start y; long_months = late_long y; near = late-near y }
+late_year y = record { extended_year = y; first_day = late_start y; long_months = late_long y; near = late-near y; twelve = late-few y }
 
 pub late-numbered : Numbered late_year
 late-numbered y rule = refl
@@ -66,13 +73,6 @@ late-lengths y =
     lengths_by (late_start y) (late_start (y +ℤ pos 1)) (int_eq (late_start (y +ℤ pos 1) -ℤ late_start y) (pos 355))
     (joined (late_start y) (late_start (y +ℤ pos 1)) (int_eq (late_start (y +ℤ pos 1) -ℤ late_start y) (pos 355)) refl
     (shifted (islamic_mean_start (y +ℤ pos 1)) (islamic_mean_start y) (mean_start-next y)))
-
-few_by : (b : Bool) → (if b then 3413 else 1365) < 4096
-few_by true = omega arith
-few_by false = omega arith
-
-pub late-few : (y : ℤ) → late_long y < 4096
-late-few y = few_by (int_eq (late_start (y +ℤ pos 1) -ℤ late_start y) (pos 355))
 
 -- and are those of a year
 pub late-starts : (y : ℤ) → IsRuleYear y → AreMonthStarts y (late_month_starts (late_start y) (late_start (y +ℤ pos 1)))

@@ -1,11 +1,11 @@
-use Rattle.std.proofs.Common.{◌≡◌, ◌∙◌, ℤ, ap, to_z, of_z, w32, w64, arith}
+use Rattle.std.proofs.Common.{◌≡◌, ◌∙◌, ◌<◌, ℕ, ℤ, ap, sym, subst, to_z, of_z, w32, w64, arith}
 use Rattle.cal_days.specs.Day.{IsRuleYear}
 use Rattle.cal_days.specs.Islamic.{islamic_start}
 use Rattle.cal_days.proofs.IslamicLemmas.{mean_start-bounds}
 use Rattle.cal_days.proofs.Signed.{signed}
 use Rattle.cal_hijri.specs.HijriList.{tabular_long}
 use Rattle.cal_hijri.specs.SameYears.{same_parts}
-use Rattle.cal_hijri.specs.TabularRules.{epoch_day, epoch_day-known, tabular-near}
+use Rattle.cal_hijri.specs.TabularRules.{epoch_day, epoch_day-known, tabular-near, tabular-twelve}
 use Rattle.cal_hijri.specs.declared.tabular_algorithm.TabularAlgorithm.{TabularAlgorithm}
 use Rattle.cal_hijri.proofs.tabular_algorithm.tabular_year.Goals as goal
 
@@ -25,7 +25,10 @@ invariant_of-result c =
     let y = c.args.extended_year in
     let s = c.args.rules in
     let day = first s y c.to_i64_date.result c.year_start-start.result c.to_i64_date-2.result c.requires c.to_i64_date.ensures.day c.year_start-start.ensures.formula c.to_i64_date-2.ensures.value in
-    record { near = rw (number y c.requires, day) (tabular-near s y) }
+    record {
+      near = rw (number y c.requires, day) (tabular-near s y);
+      twelve = subst (λ (n : ℕ). n < 4096) (sym c.long_months.ensures) (tabular-twelve (to_z w32 (of_z w32 y)));
+    }
 
 pub returns : goal.returns
 returns c =
