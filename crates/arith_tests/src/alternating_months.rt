@@ -4,10 +4,9 @@ ghost use Rattle.std.specs.Prelude.{◌≡◌, ◌≤◌, ◌+◌, ◌-◌, ◌*
 ghost use Rattle.cal_types.specs.MonthParts.{month_parts};
 ghost use Rattle.arith_tests.specs.AlternatingMonths.{is_plain};
 ghost use Rattle.arith_tests.specs.laws.AlternatingMonthLaws.{alternating-lawful, alternating-near, alternating-ranged, alternating-apart, alternating-covered};
-ghost use Rattle.cal_arith.specs.Dates.{ymd};
 
 use cal_arith::eras::year_in_only_era;
-use cal_arith::{DateFieldsResolver, PackWithMD, Steps, YearShapes, Years};
+use cal_arith::{DateFieldsResolver, PackWithMD, Steps, YearShapes, Years, Ymd};
 use cal_days::RataDie;
 use cal_types::{EcmaReferenceYearError, Month, MonthError, Overflow, UnknownEraError};
 use std::sync::ledger::Ledger;
@@ -26,14 +25,6 @@ pub struct AlternatingYear {
 ghost use Rattle.arith_tests.specs.AlternatingYears.{alternating_years};
 ghost use Rattle.arith_tests.specs.laws.AlternatingYearLaws.{stored-year};
 
-/// A year, the place of a month and a day.
-#[derive(Clone, Copy, Debug)]
-pub struct Parts {
-    year: AlternatingYear,
-    month: u8,
-    day: u8,
-}
-
 /// Whether a month is a plain month from 1 to 12.
 fn is_plain_month(month: Month) -> bool
     ensures { result ≡ is_plain (month_parts month) }
@@ -42,30 +33,42 @@ fn is_plain_month(month: Month) -> bool
 }
 
 impl PackWithMD for AlternatingYear {
-    type Packed = Parts;
+    type Packed = Ymd<AlternatingYear>;
+
+    type Kept = Ymd<AlternatingYear>;
 
     ghost stored = { λ y. y.number };
 
-    ghost parts = { λ p. ymd p.year p.month p.day };
+    ghost unpacked = { λ p. p };
 
-    fn pack(self, month: u8, day: u8) -> Parts {
-        Parts {
+    ghost parts = { λ p. p };
+
+    fn pack(self, month: u8, day: u8) -> Ymd<AlternatingYear> {
+        Ymd {
             year: self,
             month,
             day,
         }
     }
 
-    fn unpack_year(packed: Parts) -> AlternatingYear {
+    fn unpack_year(packed: Ymd<AlternatingYear>) -> AlternatingYear {
         packed.year
     }
 
-    fn unpack_month(packed: Parts) -> u8 {
+    fn unpack_month(packed: Ymd<AlternatingYear>) -> u8 {
         packed.month
     }
 
-    fn unpack_day(packed: Parts) -> u8 {
+    fn unpack_day(packed: Ymd<AlternatingYear>) -> u8 {
         packed.day
+    }
+
+    fn keep(self, month: u8, day: u8) -> Ymd<AlternatingYear> {
+        self.pack(month, day)
+    }
+
+    fn read(kept: Ymd<AlternatingYear>) -> Ymd<AlternatingYear> {
+        kept
     }
 }
 

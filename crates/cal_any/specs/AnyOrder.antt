@@ -3,7 +3,7 @@ use Rattle.std.specs.Prelude.{ℕ, pos, Bool, true, ◌&&◌, ◌==◌, Option, 
 use Rattle.std.specs.declared.cmp.Ordering.{Ordering}
 use Rattle.cal_model.specs.CalendarList.{Date}
 use Rattle.cal_model.specs.DateOrder.{date_eq, date_cmp}
-use Rattle.cal_base.specs.OffsetSystem.{packed_date}
+use Rattle.cal_base.specs.PackedDates.{packed_date}
 use Rattle.cal_coptic.specs.CopticSystem.{coptic_date}
 use Rattle.cal_coptic.specs.EthiopianSystem.{kept_date as in_coptic_years}
 use Rattle.cal_hebrew.specs.HebrewSystem.{hebrew_date, has_hebrew_length}
@@ -69,15 +69,15 @@ keeps_hebrew_length _ = true
 
 -- the year that a Hijri date keeps; of other dates, any
 abbrev pub hijri_year : AnyDateInner → HijriYear
-hijri_year (inner.HijriSimulated d) = packed_hijri.packed_year d.0.packed
-hijri_year (inner.HijriTabular d) = packed_hijri.packed_year d.0.packed
-hijri_year (inner.HijriUmmAlQura d) = packed_hijri.packed_year d.0.packed
+hijri_year (inner.HijriSimulated d) = packed_hijri.kept_year d.0.packed
+hijri_year (inner.HijriTabular d) = packed_hijri.kept_year d.0.packed
+hijri_year (inner.HijriUmmAlQura d) = packed_hijri.kept_year d.0.packed
 hijri_year _ = friday_year (pos 1)
 
 -- the year that a Chinese or Korean date keeps; of other dates, any
 abbrev pub east_asian_year : AnyDateInner → EastAsianTraditionalYear
-east_asian_year (inner.Chinese d) = packed_east_asian.packed_year d.0.packed
-east_asian_year (inner.Dangi d) = packed_east_asian.packed_year d.0.packed
+east_asian_year (inner.Chinese d) = packed_east_asian.kept_year d.0.packed
+east_asian_year (inner.Dangi d) = packed_east_asian.kept_year d.0.packed
 east_asian_year _ = computed_year China (pos 1)
 
 -- equal dates of one kind of calendar

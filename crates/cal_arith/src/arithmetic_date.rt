@@ -1,4 +1,4 @@
-//! Packed dates of any calendar.
+//! Dates of any calendar, as they are kept.
 
 ghost use Rattle.std.specs.Prelude.{◌≡◌, ⊤, pos, ◌+◌, ◌≤◌, ◌<◌, ◌-ℤ◌, ◌++◌, ◌==◌, unsigned_abs, Ok, IfOk};
 ghost use Rattle.std.proofs.Common.{rules};
@@ -29,11 +29,11 @@ use std::hash::{Hash, Hasher};
 use std::marker::{Brand, PhantomData};
 use std::sync::ledger::{Blank, Ledger};
 
-/// A packed date of a calendar: a year, the place of a month in it, and a day of that month.
+/// A date of a calendar as it is kept: a year, the place of a month in it, and a day of that month.
 ///
 /// It belongs to a calendar where its year is one that the calendar gave, the calendar has the date, and its
 /// day number is in the valid range. Dates are equal and ordered by year, month's place and day.
-pub struct ArithmeticDate<C, P = <<C as YearShapes>::YearInfo as PackWithMD>::Packed> {
+pub struct ArithmeticDate<C, P = <<C as YearShapes>::YearInfo as PackWithMD>::Kept> {
     pub(crate) packed: P,
     pub(crate) of: PhantomData<C>,
 }
@@ -88,21 +88,21 @@ impl<C: DateFieldsResolver> ArithmeticDate<C> {
     pub fn year(self) -> C::YearInfo
         ensures { result ≡ (C.YearInfo.parts self.packed).year }
     {
-        <C::YearInfo as PackWithMD>::unpack_year(self.packed)
+        parts::<C>(self.packed).year
     }
 
     /// The place of the month in its year, from 1.
     pub fn month(self) -> u8
         ensures { result ≡ (C.YearInfo.parts self.packed).month }
     {
-        <C::YearInfo as PackWithMD>::unpack_month(self.packed)
+        parts::<C>(self.packed).month
     }
 
     /// The day of the month, from 1.
     pub fn day(self) -> u8
         ensures { result ≡ (C.YearInfo.parts self.packed).day }
     {
-        <C::YearInfo as PackWithMD>::unpack_day(self.packed)
+        parts::<C>(self.packed).day
     }
 
     /// The date with a duration added, as ECMAScript Temporal's NonISODateAdd; the default of the option
@@ -224,21 +224,17 @@ impl<C: DateFieldsResolver> ArithmeticDate<C> {
         ensures { C.YearInfo.parts result.packed ≡ date }
     {
         ArithmeticDate {
-            packed: date.year.pack(date.month, date.day),
+            packed: date.year.keep(date.month, date.day),
             of: PhantomData,
         }
     }
 }
 
-/// The parts of a packed date.
-pub(crate) fn parts<C: YearShapes>(packed: <C::YearInfo as PackWithMD>::Packed) -> Ymd<C::YearInfo>
-    ensures { result ≡ C.YearInfo.parts packed }
+/// The parts of a date as it is kept.
+pub(crate) fn parts<C: YearShapes>(kept: <C::YearInfo as PackWithMD>::Kept) -> Ymd<C::YearInfo>
+    ensures { result ≡ C.YearInfo.parts kept }
 {
-    Ymd {
-        year: <C::YearInfo as PackWithMD>::unpack_year(packed),
-        month: <C::YearInfo as PackWithMD>::unpack_month(packed),
-        day: <C::YearInfo as PackWithMD>::unpack_day(packed),
-    }
+    <C::YearInfo as PackWithMD>::read(kept)
 }
 
 /// Which overflow the options of adding ask for.
@@ -260,12 +256,9 @@ impl<C: DateFieldsResolver> PartialEq for ArithmeticDate<C> {
     ghost laws = { Prim.search (comparing, rules, C.YearInfo.PartialEq.laws) };
 
     fn eq(&self, other: &Self) -> bool {
-        <C::YearInfo as PackWithMD>::unpack_year(self.packed)
-            == <C::YearInfo as PackWithMD>::unpack_year(other.packed)
-            && <C::YearInfo as PackWithMD>::unpack_month(self.packed)
-                == <C::YearInfo as PackWithMD>::unpack_month(other.packed)
-            && <C::YearInfo as PackWithMD>::unpack_day(self.packed)
-                == <C::YearInfo as PackWithMD>::unpack_day(other.packed)
+        let a = parts::<C>(self.packed);
+        let b = parts::<C>(other.packed);
+        a.year == b.year && a.month == b.month && a.day == b.day
     }
 }
 
@@ -288,14 +281,7 @@ impl<C: DateFieldsResolver> Ord for ArithmeticDate<C> {
     ghost matches_eq = { Prim.search (comparing, rules, C.YearInfo.matches_eq) };
 
     fn cmp(&self, other: &Self) -> Ordering {
-        <C::YearInfo as PackWithMD>::unpack_year(self.packed)
-            .cmp(&<C::YearInfo as PackWithMD>::unpack_year(other.packed))
-            .then(<C::YearInfo as PackWithMD>::unpack_month(self.packed).cmp(
-                &<C::YearInfo as PackWithMD>::unpack_month(other.packed),
-            ))
-            .then(<C::YearInfo as PackWithMD>::unpack_day(self.packed).cmp(
-                &<C::YearInfo as PackWithMD>::unpack_day(other.packed),
-            ))
+        C::order(self.packed, other.packed)
     }
 }
 
@@ -324,14 +310,15 @@ impl<C: DateFieldsResolver> Hash for ArithmeticDate<C> {
     ghost respects_eq = { Prim.search (hashing, rules, C.YearInfo.respects_eq) };
 
     fn hash<H: Hasher>(&self, state: &mut H) {
-        <C::YearInfo as PackWithMD>::unpack_year(self.packed).hash(state);
-        <C::YearInfo as PackWithMD>::unpack_month(self.packed).hash(state);
-        <C::YearInfo as PackWithMD>::unpack_day(self.packed).hash(state);
+        let date = parts::<C>(self.packed);
+        date.year.hash(state);
+        date.month.hash(state);
+        date.day.hash(state);
     }
 }
 
 impl<C: DateFieldsResolver> Debug for ArithmeticDate<C> {
     fn fmt<W: fmt::Write>(&self, f: &mut fmt::Formatter<W>) -> fmt::Result {
-        self.packed.fmt(f)
+        parts::<C>(self.packed).fmt(f)
     }
 }

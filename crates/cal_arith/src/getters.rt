@@ -9,7 +9,7 @@ ghost use Rattle.cal_arith.specs.Given.{IsGiven};
 
 use crate::arithmetic_date::{ArithmeticDate, parts};
 use crate::dates::{Ymd, to_rata_die};
-use crate::years::{DateFieldsResolver, PackWithMD, YearShapes};
+use crate::years::{DateFieldsResolver, YearShapes};
 use cal_days::RataDie;
 use cal_days::ranges::{is_covered_year, is_valid_day};
 use cal_types::Month;
@@ -20,7 +20,7 @@ impl<C: DateFieldsResolver> ArithmeticDate<C> {
         requires { Belongs (C.years cal.now) (C.YearInfo.parts self.packed) }
         ensures { result ≡ (C.years cal.now).extended (C.YearInfo.parts self.packed).year }
     {
-        cal.extended_from_year_info(<C::YearInfo as PackWithMD>::unpack_year(self.packed))
+        cal.extended_from_year_info(parts::<C>(self.packed).year)
     }
 
     /// How many months the date's year has, 12 or 13.
@@ -29,7 +29,7 @@ impl<C: DateFieldsResolver> ArithmeticDate<C> {
         ensures { let y = C.years cal.now in
             result ≡ month_count y.list (y.extended (C.YearInfo.parts self.packed).year) }
     {
-        cal.months_in_provided_year(<C::YearInfo as PackWithMD>::unpack_year(self.packed))
+        cal.months_in_provided_year(parts::<C>(self.packed).year)
     }
 
     /// How many days the date's year has, at most 403.
@@ -38,7 +38,7 @@ impl<C: DateFieldsResolver> ArithmeticDate<C> {
         ensures { let y = C.years cal.now in
             result ≡ year_length y.list (y.extended (C.YearInfo.parts self.packed).year) }
     {
-        days_of_year(<C::YearInfo as PackWithMD>::unpack_year(self.packed), cal)
+        days_of_year(parts::<C>(self.packed).year, cal)
     }
 
     /// How many days the date's month has, from 1 to 31.

@@ -25,5 +25,6 @@ mod years_between;
 
 pub use adding::can_be_named;
 pub use arithmetic_date::ArithmeticDate;
+pub use dates::Ymd;
 pub use steps::Steps;
 pub use years::{DateFieldsResolver, PackWithMD, YearShapes, Years};

@@ -1,7 +1,7 @@
 //! What a calendar offers of its years.
 
 ghost use Rattle.std.specs.Prelude.{◌≡◌, ℕ, ℤ, ◌+◌, ◌<◌, ◌≤◌, ◌↔◌, ◌≤ℤ◌, ◌<ℤ◌, ◌+ℤ◌, ◌-ℤ◌, pos, neg_ℤ, unsigned_abs, false, Some, Err, IfOk, IsTrue, List};
-ghost use Rattle.std.specs.Ordering.{int_cmp, int_eq};
+ghost use Rattle.std.specs.Ordering.{int_cmp, int_eq, nat_cmp, on, then_cmp};
 ghost use Rattle.cal_days.specs.Day.{IsBetween, IsValidDay, IsFieldYear, IsRuleYear, IsCoveredYear, IsConstructorYear};
 ghost use Rattle.cal_days.specs.Sums.{total};
 ghost use Rattle.cal_types.specs.Month.{MonthParts};
@@ -15,46 +15,105 @@ ghost use Rattle.cal_arith.specs.Dates.{date_of, ymd, IsGivenDate};
 ghost use Rattle.cal_arith.specs.declared.dates.Ymd.{Ymd};
 ghost use Rattle.cal_arith.specs.Places.{ordinal_month};
 
-use crate::dates::month_by_month;
+use crate::dates::{Ymd, month_by_month};
 use crate::steps::Steps;
 use cal_days::RataDie;
 use cal_types::{EcmaReferenceYearError, Month, MonthError, Overflow, UnknownEraError};
+use std::cmp::Ordering;
 use std::fmt::Debug;
 use std::hash::Hash;
 use std::sync::ledger::Ledger;
 
-/// A year that packs into a few bytes, together with a month and a day.
+/// A year that packs into a few bytes, together with the place of a month and a day.
 ///
 /// A year knows one number by itself, its stored one: the ISO year in the Gregorian family, the Coptic year
-/// in the Coptic and the Ethiopian calendar, and otherwise the extended year.
+/// in the Coptic and the Ethiopian calendar, and otherwise the extended year. It may be any from -1040000 to 1040000.
+///
+/// A packed form has to keep all that the year knows, since the year that is unpacked is the one that was packed: a
+/// Julian year is its number alone, but a year of a table also knows the lengths of its months and its first day.
+/// Unpacking has no condition: any packed value gives some year.
+///
+/// Dates are kept in a form of their own, which may be the packed one. Where a year takes long to unpack, dates keep it
+/// as it is: a [`Ymd`] does for any year.
+///
+/// ```text
+/// #[derive(Clone, Copy)]
+/// struct Year(i32);
+///
+/// impl PackWithMD for Year {
+///     type Packed = [u8; 4];
+///     type Kept = Ymd<Year>;
+///
+///     fn pack(self, month: u8, day: u8) -> [u8; 4] {
+///         (512 * self.0 + 32 * i32::from(month) + i32::from(day)).to_le_bytes()
+///     }
+///
+///     fn unpack_year(packed: [u8; 4]) -> Year {
+///         Year(i32::from_le_bytes(packed) >> 9)
+///     }
+///
+///     fn unpack_month(packed: [u8; 4]) -> u8 {
+///         ((u32::from_le_bytes(packed) >> 5) & 15) as u8
+///     }
+///
+///     fn unpack_day(packed: [u8; 4]) -> u8 {
+///         packed[0] & 31
+///     }
+///
+///     fn keep(self, month: u8, day: u8) -> Ymd<Year> {
+///         Ymd { year: self, month, day }
+///     }
+///
+///     fn read(kept: Ymd<Year>) -> Ymd<Year> {
+///         kept
+///     }
+/// }
+/// ```
 pub trait PackWithMD: Copy {
-    /// A year, the place of a month, and a day.
+    /// A year, the place of a month and a day in a few bytes.
     type Packed: Copy + Debug;
+
+    /// A year, the place of a month and a day as dates keep them.
+    type Kept: Copy;
 
     /// The number that the year knows by itself.
     ghost stored: { Self → ℤ };
 
     /// The year, the place of the month and the day that are packed.
-    ghost parts: { Self.Packed → Ymd Self };
+    ghost unpacked: { Self.Packed → Ymd Self };
+
+    /// The year, the place of the month and the day that are kept.
+    ghost parts: { Self.Kept → Ymd Self };
 
     /// Packs a year with a month's place from 1 to 13 and a day from 1 to 31; unpacking gives them back.
     fn pack(self, month: u8, day: u8) -> Self::Packed
         requires storable { IsFieldYear (stored self) }
         requires month { (1 ≤ month) × (month ≤ 13) }
         requires day { (1 ≤ day) × (day ≤ 31) }
+        ensures parts { unpacked result ≡ ymd self month day };
+
+    /// The year of a packed date.
+    fn unpack_year(packed: Self::Packed) -> Self
+        ensures { result ≡ (unpacked packed).year };
+
+    /// The place in its year of a packed date's month.
+    fn unpack_month(packed: Self::Packed) -> u8
+        ensures { result ≡ (unpacked packed).month };
+
+    /// The day of the month of a packed date.
+    fn unpack_day(packed: Self::Packed) -> u8
+        ensures { result ≡ (unpacked packed).day };
+
+    /// What a date keeps of a year, a month's place from 1 to 13 and a day from 1 to 31; reading it gives them back.
+    fn keep(self, month: u8, day: u8) -> Self::Kept
+        requires storable { IsFieldYear (stored self) }
+        requires month { (1 ≤ month) × (month ≤ 13) }
+        requires day { (1 ≤ day) × (day ≤ 31) }
         ensures { parts result ≡ ymd self month day };
 
-    /// The year.
-    fn unpack_year(packed: Self::Packed) -> Self
-        ensures { result ≡ (parts packed).year };
-
-    /// The month's place in its year.
-    fn unpack_month(packed: Self::Packed) -> u8
-        ensures { result ≡ (parts packed).month };
-
-    /// The day of the month.
-    fn unpack_day(packed: Self::Packed) -> u8
-        ensures { result ≡ (parts packed).day };
+    /// The year, the place of the month and the day that a date keeps.
+    fn read(kept: Self::Kept) -> Ymd<Self>
+        ensures { result ≡ parts kept };
 }
 
 /// The shapes of a calendar's years: their months, and the lengths of these. Its only look-up of a year is
@@ -153,6 +212,24 @@ pub trait YearShapes {
     {
         let month = self.month_from_ordinal(year, ordinal_month);
         self.ordinal_from_month(other, month, overflow).ok()
+    }
+
+    /// The order of two dates as they are kept: by year, then the place of the month, then the day. A calendar whose
+    /// kept dates are numbers of that order compares these.
+    fn order(
+        first: <Self::YearInfo as PackWithMD>::Kept,
+        second: <Self::YearInfo as PackWithMD>::Kept,
+    ) -> Ordering
+        ensures { result ≡ then_cmp (on (λ p. (Self.YearInfo.parts p).year) Self.YearInfo.cmp)
+            (then_cmp (on (λ p. (Self.YearInfo.parts p).month) nat_cmp)
+            (on (λ p. (Self.YearInfo.parts p).day) nat_cmp)) first second }
+    {
+        let a = <Self::YearInfo as PackWithMD>::read(first);
+        let b = <Self::YearInfo as PackWithMD>::read(second);
+        a.year
+            .cmp(&b.year)
+            .then(a.month.cmp(&b.month))
+            .then(a.day.cmp(&b.day))
     }
 
     /// A year and its extended year give each other back.

@@ -4,5 +4,6 @@ pub mod IsoSystem
 pub mod OwnYears
 pub mod OffsetList
 pub mod IsoEra
+pub mod PackedDates
 pub mod OffsetSystem
 pub mod laws

@@ -15,6 +15,8 @@ use cal_types::{
     EcmaReferenceYearError, EraYear, LeapStatus, Month, MonthError, MonthInfo, Overflow,
     UnknownEraError, YearInput,
 };
+use date_bytes::solar;
+use std::cmp::Ordering;
 use std::convert::Infallible;
 use std::sync::ledger::Ledger;
 
@@ -87,6 +89,10 @@ impl<Y: GregorianYears> YearShapes for AbstractGregorian<Y> {
         _overflow: Overflow,
     ) -> Option<u8> {
         Some(ordinal_month)
+    }
+
+    fn order(first: [u8; 4], second: [u8; 4]) -> Ordering {
+        solar::order(first, second)
     }
 
     ghost numbered = { λ s y h. extended_year-iso (Y.offset s.0) y };

@@ -9,22 +9,15 @@ ghost use Rattle.cal_base.specs.GregorianList.{gregorian_list, gregorian_month_l
 use crate::gregorian_months::{
     days_from_march, days_in_month, in_march_year, month_and_day_from_march,
 };
-use cal_arith::{PackWithMD, can_be_named};
+use cal_arith::{PackWithMD, Ymd, can_be_named};
 use cal_days::{RataDie, gregorian};
+use date_bytes::solar;
 
 /// An ISO year: the year of the proleptic Gregorian calendar with astronomical year numbers (ISO 8601).
 #[derive(Clone, Copy, Debug, PartialEq, Eq, PartialOrd, Ord, Hash)]
 pub struct IsoYear {
     /// The year's number: year 0 is the year before year 1.
     pub number: i32,
-}
-
-/// An ISO year, the place of a month in it, and a day of that month.
-#[derive(Clone, Copy, Debug)]
-pub struct PackedIsoYear {
-    year: IsoYear,
-    month: u8,
-    day: u8,
 }
 
 impl IsoYear {
@@ -52,32 +45,55 @@ impl IsoYear {
 }
 
 impl PackWithMD for IsoYear {
+    ghost use Rattle.cal_days.specs.Day.{IsFieldYear};
     ghost use Rattle.cal_arith.specs.Dates.{ymd};
+    ghost use Rattle.date_bytes.specs.Bytes.{date_bytes, day_from, month_from};
+    ghost use Rattle.cal_base.specs.PackedDates.{packed_year};
 
-    type Packed = PackedIsoYear;
+    type Packed = [u8; 4];
+
+    type Kept = [u8; 4];
 
     ghost stored = { λ y. y.number };
 
-    ghost parts = { λ p. ymd p.year p.month p.day };
+    ghost unpacked = { λ p. ymd (packed_year p) (month_from 0 p) (day_from 0 p) };
 
-    fn pack(self, month: u8, day: u8) -> PackedIsoYear {
-        PackedIsoYear {
-            year: self,
-            month,
-            day,
+    ghost parts = { λ p. ymd (packed_year p) (month_from 0 p) (day_from 0 p) };
+
+    fn pack(self, month: u8, day: u8) -> [u8; 4]
+        requires storable { IsFieldYear self.number }
+        requires month { (1 ≤ month) × (month ≤ 13) }
+        requires day { (1 ≤ day) × (day ≤ 31) }
+        ensures bytes { result ≡ date_bytes self.number month day }
+        ensures parts { ymd (packed_year result) (month_from 0 result) (day_from 0 result) ≡ ymd self month day }
+    {
+        solar::pack(self.number, month, day)
+    }
+
+    fn unpack_year(packed: [u8; 4]) -> IsoYear {
+        IsoYear {
+            number: solar::unpack_year(packed),
         }
     }
 
-    fn unpack_year(packed: PackedIsoYear) -> IsoYear {
-        packed.year
+    fn unpack_month(packed: [u8; 4]) -> u8 {
+        solar::unpack_month(packed)
     }
 
-    fn unpack_month(packed: PackedIsoYear) -> u8 {
-        packed.month
+    fn unpack_day(packed: [u8; 4]) -> u8 {
+        solar::unpack_day(packed)
     }
 
-    fn unpack_day(packed: PackedIsoYear) -> u8 {
-        packed.day
+    fn keep(self, month: u8, day: u8) -> [u8; 4] {
+        self.pack(month, day)
+    }
+
+    fn read(kept: [u8; 4]) -> Ymd<IsoYear> {
+        Ymd {
+            year: IsoYear::unpack_year(kept),
+            month: solar::unpack_month(kept),
+            day: solar::unpack_day(kept),
+        }
     }
 }
 

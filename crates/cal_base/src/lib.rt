@@ -18,6 +18,6 @@ pub use arithmetic::{Arithmetic, Incompatible};
 pub use calendar::{AsCalendar, Calendar};
 pub use gregorian_years::GregorianYears;
 pub use iso::{Iso, IsoDateInner, IsoYears};
-pub use iso_year::{IsoYear, PackedIsoYear};
+pub use iso_year::IsoYear;
 pub use named_years::NamedYears;
 pub use refs::Ref;

@@ -7,9 +7,10 @@ ghost use Rattle.cal_model.specs.CalendarList.{IsDate, IsOn, date, day_number, m
 ghost use Rattle.cal_coptic.specs.CopticList.{coptic_list};
 ghost use Rattle.cal_coptic.specs.CopticNames.{coptic_reference_year};
 
-use cal_arith::{PackWithMD, can_be_named};
+use cal_arith::{PackWithMD, Ymd, can_be_named};
 use cal_days::ranges::MAX_FIELD_YEAR;
 use cal_days::{RataDie, coptic};
+use date_bytes::solar;
 
 /// The greatest year, with either sign, that fields may name.
 const MOST: i64 = MAX_FIELD_YEAR as i64;
@@ -18,14 +19,6 @@ const MOST: i64 = MAX_FIELD_YEAR as i64;
 #[derive(Clone, Copy, Debug, PartialEq, Eq, PartialOrd, Ord, Hash)]
 pub struct CopticYear {
     pub(crate) number: i32,
-}
-
-/// A Coptic year, the place of a month in it, and a day of that month, both from 1.
-#[derive(Clone, Copy, Debug)]
-pub struct PackedCopticDate {
-    year: CopticYear,
-    month: u8,
-    day: u8,
 }
 
 impl CopticYear {
@@ -76,32 +69,56 @@ impl CopticYear {
 }
 
 impl PackWithMD for CopticYear {
+    ghost use Rattle.std.specs.Prelude.{◌≡◌, ◌≤◌};
+    ghost use Rattle.cal_days.specs.Day.{IsFieldYear};
     ghost use Rattle.cal_arith.specs.Dates.{ymd};
+    ghost use Rattle.date_bytes.specs.Bytes.{date_bytes, day_from, month_from};
+    ghost use Rattle.cal_coptic.specs.PackedYears.{coptic_year};
 
-    type Packed = PackedCopticDate;
+    type Packed = [u8; 4];
+
+    type Kept = [u8; 4];
 
     ghost stored = { λ y. y.number };
 
-    ghost parts = { λ p. ymd p.year p.month p.day };
+    ghost unpacked = { λ p. ymd (coptic_year p) (month_from 0 p) (day_from 0 p) };
 
-    fn pack(self, month: u8, day: u8) -> PackedCopticDate {
-        PackedCopticDate {
-            year: self,
-            month,
-            day,
+    ghost parts = { λ p. ymd (coptic_year p) (month_from 0 p) (day_from 0 p) };
+
+    fn pack(self, month: u8, day: u8) -> [u8; 4]
+        requires storable { IsFieldYear self.number }
+        requires month { (1 ≤ month) × (month ≤ 13) }
+        requires day { (1 ≤ day) × (day ≤ 31) }
+        ensures bytes { result ≡ date_bytes self.number month day }
+        ensures parts { ymd (coptic_year result) (month_from 0 result) (day_from 0 result) ≡ ymd self month day }
+    {
+        solar::pack(self.number, month, day)
+    }
+
+    fn unpack_year(packed: [u8; 4]) -> CopticYear {
+        CopticYear {
+            number: solar::unpack_year(packed),
         }
     }
 
-    fn unpack_year(packed: PackedCopticDate) -> CopticYear {
-        packed.year
+    fn unpack_month(packed: [u8; 4]) -> u8 {
+        solar::unpack_month(packed)
     }
 
-    fn unpack_month(packed: PackedCopticDate) -> u8 {
-        packed.month
+    fn unpack_day(packed: [u8; 4]) -> u8 {
+        solar::unpack_day(packed)
     }
 
-    fn unpack_day(packed: PackedCopticDate) -> u8 {
-        packed.day
+    fn keep(self, month: u8, day: u8) -> [u8; 4] {
+        self.pack(month, day)
+    }
+
+    fn read(kept: [u8; 4]) -> Ymd<CopticYear> {
+        Ymd {
+            year: CopticYear::unpack_year(kept),
+            month: solar::unpack_month(kept),
+            day: solar::unpack_day(kept),
+        }
     }
 }
 

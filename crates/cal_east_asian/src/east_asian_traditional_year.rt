@@ -1,19 +1,20 @@
 //! A year of a Chinese or Korean calendar.
 
-ghost use Rattle.std.specs.Prelude.{◌≡◌, ◌↔◌, ◌<◌, ◌≤◌, ◌^◌, IfSome, IsSome, IsTrue, Some};
+ghost use Rattle.std.specs.Prelude.{◌≡◌, ◌↔◌, ◌<◌, ◌≤◌, ◌^◌, IfSome, IsSome, IsTrue, Some, neg_ℤ, pos};
 ghost use Rattle.std.proofs.Common.{rules};
 ghost use Rattle.std.specs.Cmp.Rules.{comparing, hashing};
 ghost use Rattle.std.specs.Ordering.{int_cmp, int_eq, on, as_partial_cmp};
 ghost use Rattle.std.specs.Hash as fed;
-ghost use Rattle.cal_days.specs.Day.{IsRuleYear};
+ghost use Rattle.cal_days.specs.Day.{IsBetween, IsRuleYear};
 ghost use Rattle.cal_east_asian.specs.EastAsianPlaces.{month_days};
-ghost use Rattle.cal_east_asian.specs.EastAsianYear.{IsEastAsianYear, IsNewYear, is_leap_place, months_of_year};
+ghost use Rattle.cal_east_asian.specs.EastAsianYear.{IsEastAsianYear, IsNewYear, is_leap_place, january_19, months_of_year};
 ghost use Rattle.cal_east_asian.specs.MonthStarts.{AreYearStarts, HaveLengthsOf, leap_place_read, leap_place_shown, start_at};
 
 use crate::east_asian_months::{days_in_month, months_in_year};
 use crate::month_starts::{first_day, is_new_year, leap_place, long_months};
-use cal_arith::PackWithMD;
-use cal_days::RataDie;
+use cal_arith::{PackWithMD, Ymd};
+use cal_days::{RataDie, gregorian};
+use date_bytes::east_asian;
 use std::cmp::Ordering;
 use std::hash::{Hash, Hasher};
 
@@ -183,12 +184,22 @@ impl EastAsianTraditionalYear {
     }
 }
 
+/// January 19 of an ISO year, on which a year of its number may start earliest.
+fn january_19(related_iso: i32) -> i64
+    requires { IsRuleYear related_iso }
+    ensures value { result ≡ january_19 related_iso }
+    ensures bound { IsBetween (neg_ℤ (pos 4000000000)) (pos 4000000000) result }
+{
+    gregorian::year_start(related_iso).to_i64_date() + 18
+}
+
 /// A year of a Chinese or Korean calendar that the fields of a date may name, the place of a month in it, and a day of
 /// that month, both from 1.
 ///
-/// The first day of such a year fits 32 bits, where that of any year may need more.
+/// The first day of such a year fits 32 bits, where that of any year may need more. It is kept as it is, since to find it
+/// from the days after January 19 that the packed form has takes longer than a day number itself.
 #[derive(Clone, Copy, Debug)]
-pub struct PackedEastAsianDate {
+pub struct KeptEastAsianDate {
     related_iso: i32,
     new_year: i32,
     long_months: u16,
@@ -199,17 +210,61 @@ pub struct PackedEastAsianDate {
 }
 
 impl PackWithMD for EastAsianTraditionalYear {
+    ghost use Rattle.cal_days.specs.Day.{IsFieldYear};
     ghost use Rattle.cal_arith.specs.Dates.{ymd};
-    ghost use Rattle.cal_east_asian.specs.PackedYears.{packed_year};
+    ghost use Rattle.date_bytes.specs.Bytes.{day_from, month_from};
+    ghost use Rattle.date_bytes.specs.EastAsianBytes.{east_asian_bytes};
+    ghost use Rattle.cal_east_asian.specs.PackedYears.{days_after_january_19, kept_year, packed_year};
 
-    type Packed = PackedEastAsianDate;
+    type Packed = [u8; 7];
+
+    type Kept = KeptEastAsianDate;
 
     ghost stored = { λ y. y.related_iso };
 
-    ghost parts = { λ p. ymd (packed_year p) p.month p.day };
+    ghost unpacked = { λ p. ymd (packed_year p) (month_from 3 p) (day_from 3 p) };
 
-    fn pack(self, month: u8, day: u8) -> PackedEastAsianDate {
-        PackedEastAsianDate {
+    ghost parts = { λ k. ymd (kept_year k) k.month k.day };
+
+    fn pack(self, month: u8, day: u8) -> [u8; 7]
+        requires storable { IsFieldYear self.related_iso }
+        requires month { (1 ≤ month) × (month ≤ 13) }
+        requires day { (1 ≤ day) × (day ≤ 31) }
+        ensures bytes { let start = days_after_january_19 self.related_iso self.new_year in
+            result ≡ east_asian_bytes self.related_iso self.long_months self.leap_month start month day }
+        ensures parts { ymd (packed_year result) (month_from 3 result) (day_from 3 result) ≡ ymd self month day }
+    {
+        let start = self.new_year - january_19(self.related_iso);
+        east_asian::pack(
+            self.related_iso,
+            self.long_months,
+            self.leap_month,
+            start as u8,
+            month,
+            day,
+        )
+    }
+
+    fn unpack_year(packed: [u8; 7]) -> EastAsianTraditionalYear {
+        let related_iso = east_asian::unpack_year(packed);
+        EastAsianTraditionalYear {
+            related_iso,
+            new_year: january_19(related_iso) + i64::from(east_asian::unpack_start(packed)),
+            long_months: east_asian::unpack_long_months(packed),
+            leap_month: east_asian::unpack_leap_month(packed),
+        }
+    }
+
+    fn unpack_month(packed: [u8; 7]) -> u8 {
+        east_asian::unpack_month(packed)
+    }
+
+    fn unpack_day(packed: [u8; 7]) -> u8 {
+        east_asian::unpack_day(packed)
+    }
+
+    fn keep(self, month: u8, day: u8) -> KeptEastAsianDate {
+        KeptEastAsianDate {
             related_iso: self.related_iso,
             new_year: self.new_year as i32,
             long_months: self.long_months,
@@ -219,20 +274,17 @@ impl PackWithMD for EastAsianTraditionalYear {
         }
     }
 
-    fn unpack_year(packed: PackedEastAsianDate) -> EastAsianTraditionalYear {
-        EastAsianTraditionalYear {
-            related_iso: packed.related_iso,
-            new_year: i64::from(packed.new_year),
-            long_months: packed.long_months,
-            leap_month: packed.leap_month,
+    fn read(kept: KeptEastAsianDate) -> Ymd<EastAsianTraditionalYear> {
+        let year = EastAsianTraditionalYear {
+            related_iso: kept.related_iso,
+            new_year: i64::from(kept.new_year),
+            long_months: kept.long_months,
+            leap_month: kept.leap_month,
+        };
+        Ymd {
+            year,
+            month: kept.month,
+            day: kept.day,
         }
-    }
-
-    fn unpack_month(packed: PackedEastAsianDate) -> u8 {
-        packed.month
-    }
-
-    fn unpack_day(packed: PackedEastAsianDate) -> u8 {
-        packed.day
     }
 }

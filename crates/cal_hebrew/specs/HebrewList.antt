@@ -7,6 +7,7 @@ use Rattle.cal_types.specs.Month.{MonthParts}
 use Rattle.cal_model.specs.CalendarList.{Entry, CalendarList}
 use Rattle.cal_model.specs.PlainMonths.{numbered_month, plain_entry}
 use Rattle.cal_arith.specs.Given.{CalendarYears}
+use Rattle.cal_hebrew.specs.laws.YearLengths.{length-known}
 use Rattle.cal_hebrew.specs.declared.hebrew_year.HebrewYear.{HebrewYear}
 
 -- the leap month after the fifth month
@@ -44,7 +45,7 @@ hebrew_list = record {
 abbrev pub hebrew_years : CalendarYears HebrewYear
 hebrew_years = record {
   list = hebrew_list;
-  year_of = λ y. record { extended_year = y; length = hebrew_year_length y };
+  year_of = λ y. record { extended_year = y; length = hebrew_year_length y; known = length-known y };
   extended = λ y. y.extended_year;
   offset = pos 0;
 }

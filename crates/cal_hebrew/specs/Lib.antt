@@ -2,5 +2,6 @@ pub mod HebrewList
 pub mod HebrewPlaces
 pub mod HebrewEra
 pub mod HebrewNames
+pub mod PackedYears
 pub mod HebrewSystem
 pub mod laws

@@ -1,3 +1,5 @@
+pub mod YearLengths
+pub mod SameYears
 pub mod HebrewMonths
 pub mod HebrewLaws
 pub mod HebrewSystemLaws

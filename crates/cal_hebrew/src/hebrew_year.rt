@@ -1,10 +1,14 @@
 //! A year of the Hebrew calendar.
+
+ghost use Rattle.std.specs.Prelude.{◌≡◌};
 ghost use Rattle.std.proofs.Common.{rules};
 ghost use Rattle.std.specs.Cmp.Rules.{comparing, hashing};
 ghost use Rattle.std.specs.Ordering.{int_cmp, int_eq, on, as_partial_cmp};
 ghost use Rattle.std.specs.Hash as fed;
+ghost use Rattle.date_bytes.specs.HebrewBytes.{class_of, length_of};
 
-use cal_arith::PackWithMD;
+use cal_arith::{PackWithMD, Ymd};
+use date_bytes::hebrew;
 use std::cmp::Ordering;
 use std::hash::{Hash, Hasher};
 
@@ -16,6 +20,7 @@ use std::hash::{Hash, Hasher};
 pub struct HebrewYear {
     pub(crate) extended_year: i32,
     pub(crate) length: u16,
+    ghost known: { length_of (class_of length) ≡ length },
 }
 
 impl PartialEq for HebrewYear {
@@ -66,40 +71,58 @@ impl Hash for HebrewYear {
     }
 }
 
-/// A year of the Hebrew calendar, the place of a month in it, and a day of that month, both from 1.
-#[derive(Clone, Copy, Debug)]
-pub struct PackedHebrewDate {
-    year: HebrewYear,
-    month: u8,
-    day: u8,
-}
-
 impl PackWithMD for HebrewYear {
+    ghost use Rattle.std.specs.Prelude.{◌≤◌};
+    ghost use Rattle.cal_days.specs.Day.{IsFieldYear};
     ghost use Rattle.cal_arith.specs.Dates.{ymd};
+    ghost use Rattle.date_bytes.specs.Bytes.{day_from, month_from};
+    ghost use Rattle.date_bytes.specs.HebrewBytes.{hebrew_bytes};
+    ghost use Rattle.cal_hebrew.specs.PackedYears.{packed_year};
 
-    type Packed = PackedHebrewDate;
+    type Packed = [u8; 5];
+
+    type Kept = [u8; 5];
 
     ghost stored = { λ y. y.extended_year };
 
-    ghost parts = { λ p. ymd p.year p.month p.day };
+    ghost unpacked = { λ p. ymd (packed_year p) (month_from 1 p) (day_from 1 p) };
 
-    fn pack(self, month: u8, day: u8) -> PackedHebrewDate {
-        PackedHebrewDate {
-            year: self,
-            month,
-            day,
+    ghost parts = { λ p. ymd (packed_year p) (month_from 1 p) (day_from 1 p) };
+
+    fn pack(self, month: u8, day: u8) -> [u8; 5]
+        requires storable { IsFieldYear self.extended_year }
+        requires month { (1 ≤ month) × (month ≤ 13) }
+        requires day { (1 ≤ day) × (day ≤ 31) }
+        ensures bytes { result ≡ hebrew_bytes self.extended_year self.length month day }
+        ensures parts { ymd (packed_year result) (month_from 1 result) (day_from 1 result) ≡ ymd self month day }
+    {
+        hebrew::pack(self.extended_year, self.length, month, day)
+    }
+
+    fn unpack_year(packed: [u8; 5]) -> HebrewYear {
+        HebrewYear {
+            extended_year: hebrew::unpack_year(packed),
+            length: hebrew::unpack_length(packed),
         }
     }
 
-    fn unpack_year(packed: PackedHebrewDate) -> HebrewYear {
-        packed.year
+    fn unpack_month(packed: [u8; 5]) -> u8 {
+        hebrew::unpack_month(packed)
     }
 
-    fn unpack_month(packed: PackedHebrewDate) -> u8 {
-        packed.month
+    fn unpack_day(packed: [u8; 5]) -> u8 {
+        hebrew::unpack_day(packed)
     }
 
-    fn unpack_day(packed: PackedHebrewDate) -> u8 {
-        packed.day
+    fn keep(self, month: u8, day: u8) -> [u8; 5] {
+        self.pack(month, day)
+    }
+
+    fn read(kept: [u8; 5]) -> Ymd<HebrewYear> {
+        Ymd {
+            year: HebrewYear::unpack_year(kept),
+            month: hebrew::unpack_month(kept),
+            day: hebrew::unpack_day(kept),
+        }
     }
 }

@@ -6,4 +6,4 @@ mod hebrew_months;
 mod hebrew_year;
 
 pub use hebrew::{Hebrew, HebrewDateInner};
-pub use hebrew_year::{HebrewYear, PackedHebrewDate};
+pub use hebrew_year::HebrewYear;

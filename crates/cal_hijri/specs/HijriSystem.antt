@@ -9,9 +9,9 @@ use Rattle.cal_model.specs.CalendarSystem.{CalendarSystem}
 use Rattle.cal_base.specs.OwnYears.{own_system}
 use Rattle.cal_hijri.specs.HijriList.{hijri_list, hijri_years, has_parts_of}
 use Rattle.cal_hijri.specs.HijriNames.{hijri_era_year, hijri_names}
-use Rattle.cal_hijri.specs.PackedYears.{packed_year}
+use Rattle.cal_hijri.specs.PackedYears.{kept_year}
 use Rattle.cal_hijri.specs.declared.hijri_year.HijriYear.{HijriYear}
-use Rattle.cal_hijri.specs.declared.hijri_year.PackedHijriDate.{PackedHijriDate}
+use Rattle.cal_hijri.specs.declared.hijri_year.KeptHijriDate.{KeptHijriDate}
 
 -- a leap year has 355 days: seven of its months have 30
 abbrev pub hijri_leap : (ℤ → HijriYear) → ℤ → Bool
@@ -24,10 +24,10 @@ hijri_system year_of reference =
     (λ _ _. Normal) (λ _ _ month. month)
 
 -- the date that a packed date stands for
-abbrev pub packed_date : PackedHijriDate → Date
+abbrev pub packed_date : KeptHijriDate → Date
 packed_date p = date p.extended_year p.month p.day
 
 -- its year is the calendar's year of its number, it is a date of the list, and its day number is in the valid range
-abbrev pub hijri_belongs : (ℤ → HijriYear) → PackedHijriDate → Bool
+abbrev pub hijri_belongs : (ℤ → HijriYear) → KeptHijriDate → Bool
 hijri_belongs year_of p =
-    has_parts_of (year_of p.extended_year) (packed_year p) && is_valid_date (hijri_list year_of) (packed_date p)
+    has_parts_of (year_of p.extended_year) (kept_year p) && is_valid_date (hijri_list year_of) (packed_date p)

@@ -1,5 +1,8 @@
 -- The tabular rules: the year of a number, the reference years, and the rules' names and order.
--- Source: Reingold and Dershowitz, Calendrical Calculations, chapter 7. A reference year is the latest in which the day falls on or before 1972-12-31 of the ISO calendar, as ECMAScript Temporal's NonISOMonthDayToISOReferenceDate has it; that day is the 25th of the month 11 of 1392 where year 1 starts on a Friday, and the 26th where it starts on a Thursday.
+-- Source: Reingold and Dershowitz, Calendrical Calculations, chapter 7. A reference year is the latest in which
+-- the day falls on or before 1972-12-31 of the ISO calendar, as ECMAScript Temporal's NonISOMonthDayToISOReferenceDate
+-- has it; that day is the 25th of the month 11 of 1392 where year 1 starts on a Friday, and the 26th where it starts
+-- on a Thursday.
 use Rattle.std.specs.Prelude.{ℕ, ◌+◌, ◌*◌, Bool, if◌then◌else◌, nat_eq, nat_le, ℤ, pos, Some, None, Option, Result, List, codes}
 use Rattle.cal_types.specs.Month.{MonthParts}
 use Rattle.cal_algorithms.specs.declared.algorithm.CalendarAlgorithm.{CalendarAlgorithm}
@@ -12,7 +15,7 @@ use Rattle.cal_model.specs.CalendarSystem.{CalendarSystem}
 use Rattle.cal_hijri.specs.HijriSystem.{hijri_system}
 use Rattle.cal_hijri.specs.RuleOrder.{epoch_place, leap_years_place}
 use Rattle.cal_hijri.specs.TabularYears.{is_leap, long_by, tabular_start}
-use Rattle.cal_hijri.specs.laws.TabularYearLaws.{tabular-near}
+use Rattle.cal_hijri.specs.laws.TabularYearLaws.{long_by-few, tabular-near}
 use Rattle.cal_hijri.specs.declared.hijri_year.HijriYear.{HijriYear}
 use Rattle.cal_hijri.specs.declared.tabular_algorithm.TabularAlgorithm.{TabularAlgorithm}
 use Rattle.cal_hijri.specs.declared.tabular_algorithm.TabularAlgorithmEpoch.{TabularAlgorithmEpoch}
@@ -27,6 +30,7 @@ tabular_year s y = record {
   first_day = tabular_start s y;
   long_months = long_by (is_leap s.leap_years y);
   near = tabular-near s y;
+  twelve = long_by-few (is_leap s.leap_years y);
 }
 
 -- the day of the month 11 up to which 1392 is its reference year

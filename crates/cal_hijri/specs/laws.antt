@@ -1,5 +1,6 @@
 pub mod TypeILaws
 pub mod TabularYearLaws
+pub mod PackedLaws
 pub mod HijriShapes
 pub mod HijriLaws
 pub mod HijriBounds

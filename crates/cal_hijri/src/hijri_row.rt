@@ -60,7 +60,7 @@ impl HijriRow {
         HijriYear {
             first_day: start_after(extended_year, self.start_offset),
             extended_year,
-            long_months: self.long_months,
+            long_months: self.long_months % 4096,
         }
     }
 }

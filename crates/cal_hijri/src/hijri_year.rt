@@ -9,8 +9,9 @@ ghost use Rattle.cal_days.specs.Day.{IsBetween, IsRuleYear};
 ghost use Rattle.cal_hijri.specs.MonthStarts.{AreMonthStarts, HasLengthsOf, HaveMonthLengths, start_at};
 ghost use Rattle.cal_hijri.specs.HijriMonths.{IsNearMean, month_days, prior_days};
 
-use cal_arith::PackWithMD;
+use cal_arith::{PackWithMD, Ymd};
 use cal_days::{RataDie, islamic};
+use date_bytes::hijri;
 use std::cmp::Ordering;
 use std::hash::{Hash, Hasher};
 
@@ -26,6 +27,7 @@ pub struct HijriYear {
     /// A bit for each month with 30 days, the first month's the lowest.
     pub(crate) long_months: u16,
     ghost near: { IsNearMean extended_year first_day },
+    ghost twelve: { long_months < 4096 },
 }
 
 impl HijriYear {
@@ -188,29 +190,76 @@ impl Hash for HijriYear {
 /// A date of a Hijri calendar as it is kept: its year's number, first day and months, the place of its month, and the
 /// day of that month, both from 1.
 ///
-/// The dates of years from -1040000 to 1040000 are packed, so 32 bits hold the first day.
+/// The dates of years from -1040000 to 1040000 are kept, so 32 bits hold the first day. It is kept as it is, since to
+/// find it from the offset that the packed form has takes as long as a day number itself.
 #[derive(Clone, Copy, Debug)]
-pub struct PackedHijriDate {
+pub struct KeptHijriDate {
     extended_year: i32,
     first_day: i32,
     long_months: u16,
     month: u8,
     day: u8,
     ghost near: { IsNearMean extended_year first_day },
+    ghost twelve: { long_months < 4096 },
 }
 
 impl PackWithMD for HijriYear {
+    ghost use Rattle.std.specs.Prelude.{◌-ℤ◌, ◌≤◌};
+    ghost use Rattle.cal_days.specs.Day.{IsFieldYear};
+    ghost use Rattle.cal_days.specs.Islamic.{islamic_mean_start};
     ghost use Rattle.cal_arith.specs.Dates.{ymd};
-    ghost use Rattle.cal_hijri.specs.PackedYears.{packed_year};
+    ghost use Rattle.date_bytes.specs.Bytes.{day_from, month_from};
+    ghost use Rattle.date_bytes.specs.HijriBytes.{hijri_bytes};
+    ghost use Rattle.cal_hijri.specs.PackedYears.{kept_year, packed_year};
 
-    type Packed = PackedHijriDate;
+    type Packed = [u8; 6];
+
+    type Kept = KeptHijriDate;
 
     ghost stored = { λ y. y.extended_year };
 
-    ghost parts = { λ p. ymd (packed_year p) p.month p.day };
+    ghost unpacked = { λ p. ymd (packed_year p) (month_from 2 p) (day_from 2 p) };
 
-    fn pack(self, month: u8, day: u8) -> PackedHijriDate {
-        PackedHijriDate {
+    ghost parts = { λ k. ymd (kept_year k) k.month k.day };
+
+    fn pack(self, month: u8, day: u8) -> [u8; 6]
+        requires storable { IsFieldYear self.extended_year }
+        requires month { (1 ≤ month) × (month ≤ 13) }
+        requires day { (1 ≤ day) × (day ≤ 31) }
+        ensures bytes { let offset = self.first_day -ℤ islamic_mean_start self.extended_year in
+            result ≡ hijri_bytes self.extended_year self.long_months offset month day }
+        ensures parts { ymd (packed_year result) (month_from 2 result) (day_from 2 result) ≡ ymd self month day }
+    {
+        let offset = self.first_day - islamic::mean_start(self.extended_year).to_i64_date();
+        hijri::pack(
+            self.extended_year,
+            self.long_months,
+            offset as i8,
+            month,
+            day,
+        )
+    }
+
+    fn unpack_year(packed: [u8; 6]) -> HijriYear {
+        let extended_year = hijri::unpack_year(packed);
+        let mean = islamic::mean_start(extended_year).to_i64_date();
+        HijriYear {
+            first_day: mean + i64::from(hijri::unpack_offset(packed)),
+            extended_year,
+            long_months: hijri::unpack_long_months(packed),
+        }
+    }
+
+    fn unpack_month(packed: [u8; 6]) -> u8 {
+        hijri::unpack_month(packed)
+    }
+
+    fn unpack_day(packed: [u8; 6]) -> u8 {
+        hijri::unpack_day(packed)
+    }
+
+    fn keep(self, month: u8, day: u8) -> KeptHijriDate {
+        KeptHijriDate {
             extended_year: self.extended_year,
             first_day: self.first_day as i32,
             long_months: self.long_months,
@@ -219,19 +268,16 @@ impl PackWithMD for HijriYear {
         }
     }
 
-    fn unpack_year(packed: PackedHijriDate) -> HijriYear {
-        HijriYear {
-            first_day: i64::from(packed.first_day),
-            extended_year: packed.extended_year,
-            long_months: packed.long_months,
+    fn read(kept: KeptHijriDate) -> Ymd<HijriYear> {
+        let year = HijriYear {
+            first_day: i64::from(kept.first_day),
+            extended_year: kept.extended_year,
+            long_months: kept.long_months,
+        };
+        Ymd {
+            year,
+            month: kept.month,
+            day: kept.day,
         }
-    }
-
-    fn unpack_month(packed: PackedHijriDate) -> u8 {
-        packed.month
-    }
-
-    fn unpack_day(packed: PackedHijriDate) -> u8 {
-        packed.day
     }
 }

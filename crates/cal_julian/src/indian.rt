@@ -12,7 +12,7 @@ ghost use Rattle.cal_julian.specs.IndianNames.{indian_reference_year};
 use crate::long_months::months_and_day;
 use cal_arith::eras::year_in_only_era;
 use cal_arith::{
-    ArithmeticDate, DateFieldsResolver, PackWithMD, Steps, YearShapes, Years, can_be_named,
+    ArithmeticDate, DateFieldsResolver, PackWithMD, Steps, YearShapes, Years, Ymd, can_be_named,
 };
 use cal_base::plain_months::{is_plain, plain_ordinal};
 use cal_base::scaffold::UnstableSealed;
@@ -24,6 +24,8 @@ use cal_types::{
     EcmaReferenceYearError, EraYear, LeapStatus, Month, MonthError, MonthInfo, Overflow,
     TinyAsciiStr, UnknownEraError, YearAmbiguity, YearInput,
 };
+use date_bytes::solar;
+use std::cmp::Ordering;
 use std::convert::Infallible;
 use std::sync::ledger::Ledger;
 
@@ -59,14 +61,6 @@ pub struct IndianYear {
     extended_year: i32,
 }
 
-/// A year of the Indian calendar, the place of a month in it, and a day of that month, both from 1.
-#[derive(Clone, Copy, Debug)]
-pub struct PackedIndianDate {
-    year: IndianYear,
-    month: u8,
-    day: u8,
-}
-
 impl IndianYear {
     /// Whether fields may name the year.
     pub(crate) fn can_be_named(self) -> bool
@@ -98,32 +92,56 @@ impl IndianYear {
 }
 
 impl PackWithMD for IndianYear {
+    ghost use Rattle.std.specs.Prelude.{◌≡◌, ◌≤◌};
+    ghost use Rattle.cal_days.specs.Day.{IsFieldYear};
     ghost use Rattle.cal_arith.specs.Dates.{ymd};
+    ghost use Rattle.date_bytes.specs.Bytes.{date_bytes, day_from, month_from};
+    ghost use Rattle.cal_julian.specs.PackedYears.{indian_year};
 
-    type Packed = PackedIndianDate;
+    type Packed = [u8; 4];
+
+    type Kept = [u8; 4];
 
     ghost stored = { λ y. y.extended_year };
 
-    ghost parts = { λ p. ymd p.year p.month p.day };
+    ghost unpacked = { λ p. ymd (indian_year p) (month_from 0 p) (day_from 0 p) };
 
-    fn pack(self, month: u8, day: u8) -> PackedIndianDate {
-        PackedIndianDate {
-            year: self,
-            month,
-            day,
+    ghost parts = { λ p. ymd (indian_year p) (month_from 0 p) (day_from 0 p) };
+
+    fn pack(self, month: u8, day: u8) -> [u8; 4]
+        requires storable { IsFieldYear self.extended_year }
+        requires month { (1 ≤ month) × (month ≤ 13) }
+        requires day { (1 ≤ day) × (day ≤ 31) }
+        ensures bytes { result ≡ date_bytes self.extended_year month day }
+        ensures parts { ymd (indian_year result) (month_from 0 result) (day_from 0 result) ≡ ymd self month day }
+    {
+        solar::pack(self.extended_year, month, day)
+    }
+
+    fn unpack_year(packed: [u8; 4]) -> IndianYear {
+        IndianYear {
+            extended_year: solar::unpack_year(packed),
         }
     }
 
-    fn unpack_year(packed: PackedIndianDate) -> IndianYear {
-        packed.year
+    fn unpack_month(packed: [u8; 4]) -> u8 {
+        solar::unpack_month(packed)
     }
 
-    fn unpack_month(packed: PackedIndianDate) -> u8 {
-        packed.month
+    fn unpack_day(packed: [u8; 4]) -> u8 {
+        solar::unpack_day(packed)
     }
 
-    fn unpack_day(packed: PackedIndianDate) -> u8 {
-        packed.day
+    fn keep(self, month: u8, day: u8) -> [u8; 4] {
+        self.pack(month, day)
+    }
+
+    fn read(kept: [u8; 4]) -> Ymd<IndianYear> {
+        Ymd {
+            year: IndianYear::unpack_year(kept),
+            month: solar::unpack_month(kept),
+            day: solar::unpack_day(kept),
+        }
     }
 }
 
@@ -296,6 +314,10 @@ impl YearShapes for Indian {
         _overflow: Overflow,
     ) -> Option<u8> {
         Some(ordinal_month)
+    }
+
+    fn order(first: [u8; 4], second: [u8; 4]) -> Ordering {
+        solar::order(first, second)
     }
 
     ghost numbered = { λ s y h. refl };

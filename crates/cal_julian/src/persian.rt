@@ -8,7 +8,7 @@ use crate::persian_corrections::PersianCorrections;
 use crate::persian_months::{days_before_day, days_in_month, month_and_day};
 use cal_arith::eras::year_in_only_era;
 use cal_arith::{
-    ArithmeticDate, DateFieldsResolver, PackWithMD, Steps, YearShapes, Years, can_be_named,
+    ArithmeticDate, DateFieldsResolver, PackWithMD, Steps, YearShapes, Years, Ymd, can_be_named,
 };
 use cal_base::plain_months::{is_plain, plain_ordinal};
 use cal_base::scaffold::UnstableSealed;
@@ -20,6 +20,8 @@ use cal_types::{
     EcmaReferenceYearError, EraYear, LeapStatus, MismatchedCalendarError, Month, MonthError,
     MonthInfo, Overflow, TinyAsciiStr, UnknownEraError, YearAmbiguity, YearInput,
 };
+use date_bytes::solar;
+use std::cmp::Ordering;
 use std::sync::ledger::Ledger;
 
 /// The Persian calendar, or Solar Hijri calendar, as Iran uses it.
@@ -52,14 +54,6 @@ pub struct PersianYear {
     extended_year: i32,
 }
 
-/// A year of the Persian calendar, the place of a month in it, and a day of that month, both from 1.
-#[derive(Clone, Copy, Debug)]
-pub struct PackedPersianDate {
-    year: PersianYear,
-    month: u8,
-    day: u8,
-}
-
 impl PersianYear {
     /// Whether fields may name the year.
     pub(crate) fn can_be_named(self) -> bool
@@ -70,32 +64,56 @@ impl PersianYear {
 }
 
 impl PackWithMD for PersianYear {
+    ghost use Rattle.std.specs.Prelude.{◌≡◌, ◌≤◌};
+    ghost use Rattle.cal_days.specs.Day.{IsFieldYear};
     ghost use Rattle.cal_arith.specs.Dates.{ymd};
+    ghost use Rattle.date_bytes.specs.Bytes.{date_bytes, day_from, month_from};
+    ghost use Rattle.cal_julian.specs.PackedYears.{persian_year};
 
-    type Packed = PackedPersianDate;
+    type Packed = [u8; 4];
+
+    type Kept = [u8; 4];
 
     ghost stored = { λ y. y.extended_year };
 
-    ghost parts = { λ p. ymd p.year p.month p.day };
+    ghost unpacked = { λ p. ymd (persian_year p) (month_from 0 p) (day_from 0 p) };
 
-    fn pack(self, month: u8, day: u8) -> PackedPersianDate {
-        PackedPersianDate {
-            year: self,
-            month,
-            day,
+    ghost parts = { λ p. ymd (persian_year p) (month_from 0 p) (day_from 0 p) };
+
+    fn pack(self, month: u8, day: u8) -> [u8; 4]
+        requires storable { IsFieldYear self.extended_year }
+        requires month { (1 ≤ month) × (month ≤ 13) }
+        requires day { (1 ≤ day) × (day ≤ 31) }
+        ensures bytes { result ≡ date_bytes self.extended_year month day }
+        ensures parts { ymd (persian_year result) (month_from 0 result) (day_from 0 result) ≡ ymd self month day }
+    {
+        solar::pack(self.extended_year, month, day)
+    }
+
+    fn unpack_year(packed: [u8; 4]) -> PersianYear {
+        PersianYear {
+            extended_year: solar::unpack_year(packed),
         }
     }
 
-    fn unpack_year(packed: PackedPersianDate) -> PersianYear {
-        packed.year
+    fn unpack_month(packed: [u8; 4]) -> u8 {
+        solar::unpack_month(packed)
     }
 
-    fn unpack_month(packed: PackedPersianDate) -> u8 {
-        packed.month
+    fn unpack_day(packed: [u8; 4]) -> u8 {
+        solar::unpack_day(packed)
     }
 
-    fn unpack_day(packed: PackedPersianDate) -> u8 {
-        packed.day
+    fn keep(self, month: u8, day: u8) -> [u8; 4] {
+        self.pack(month, day)
+    }
+
+    fn read(kept: [u8; 4]) -> Ymd<PersianYear> {
+        Ymd {
+            year: PersianYear::unpack_year(kept),
+            month: solar::unpack_month(kept),
+            day: solar::unpack_day(kept),
+        }
     }
 }
 
@@ -166,6 +184,10 @@ impl<'t> YearShapes for Persian<'t> {
         _overflow: Overflow,
     ) -> Option<u8> {
         Some(ordinal_month)
+    }
+
+    fn order(first: [u8; 4], second: [u8; 4]) -> Ordering {
+        solar::order(first, second)
     }
 
     ghost numbered = { λ s y h. refl };

@@ -2,10 +2,16 @@
 use Rattle.std.proofs.Common.{List, [], ◌∷◌, ℤ, pos, ◌+ℤ◌}
 use Rattle.cal_hijri.specs.declared.hijri_year.HijriYear.{HijriYear}
 pub use Rattle.lunar_tests.specs.LateStarts.{late_start, late_long}
-use Rattle.lunar_tests.specs.laws.LateStartLaws.{late-near}
+use Rattle.lunar_tests.specs.laws.LateStartLaws.{late-few, late-near}
 
 abbrev pub late_year : ℤ → HijriYear
-late_year y = record { extended_year = y; first_day = late_start y; long_months = late_long y; near = late-near y }
+late_year y = record {
+  extended_year = y;
+  first_day = late_start y;
+  long_months = late_long y;
+  near = late-near y;
+  twelve = late-few y;
+}
 
 -- the first days of a year's months, and of the next year
 abbrev pub late_month_starts : ℤ → ℤ → List ℤ

@@ -1,5 +1,5 @@
 -- What belonging to a calendar of Gregorian years says, and what follows from it for order.
-use Rattle.std.proofs.Common.{◌≡◌, ℕ, true, false, sym, ap, subst, ◌∙◌, arith, ℤ, pos, neg_ℤ, ◌+ℤ◌, ◌-ℤ◌}
+use Rattle.std.proofs.Common.{◌≡◌, ℕ, List, true, false, sym, ap, subst, ◌∙◌, arith, ℤ, pos, neg_ℤ, ◌+ℤ◌, ◌-ℤ◌}
 use Rattle.std.specs.Prelude.{IsTrue}
 use Rattle.std.specs.Ordering.{int_cmp, int_eq}
 use Rattle.cal_days.specs.Day.{is_field_year}
@@ -14,66 +14,68 @@ use Rattle.cal_model.proofs.RenumberedBoundLemmas.{ranged-renumbered}
 use Rattle.cal_model.proofs.RenumberedLemmas.{day_number-renumbered, valid-renumbered, renumbered-valid}
 use Rattle.cal_arith.specs.Given.{IsGiven}
 use Rattle.cal_arith.specs.Dates.{Belongs, ymd}
+use Rattle.date_bytes.specs.Bytes.{day_from, month_from, year_from}
+use Rattle.cal_base.specs.PackedDates.{packed_year}
 use Rattle.cal_base.specs.GregorianList.{gregorian_list}
 use Rattle.cal_base.specs.laws.GregorianLaws.{gregorian_list-bounded, iso_year-valid}
 use Rattle.cal_base.specs.OffsetList.{offset_list, offset_years, IsOffset}
 use Rattle.cal_base.specs.laws.OffsetListLaws.{iso_year-extended}
-use Rattle.cal_base.specs.OffsetSystem.{packed_date, offset_date, packed_belongs}
+use Rattle.cal_base.specs.OffsetSystem.{offset_date, packed_belongs}
+use Rattle.cal_base.specs.PackedDates.{packed_date}
 use Rattle.cal_base.specs.declared.iso_year.IsoYear.{IsoYear}
-use Rattle.cal_base.specs.declared.iso_year.PackedIsoYear.{PackedIsoYear}
 
 -- the ISO date again
-pub shifted-offset : (offset : ℤ) (p : PackedIsoYear) → shifted_date offset (offset_date offset p) ≡ packed_date p
+pub shifted-offset : (offset : ℤ) (p : List ℕ) → shifted_date offset (offset_date offset p) ≡ packed_date p
 shifted-offset offset p =
-    let same : p.year.number -ℤ offset +ℤ offset ≡ p.year.number = omega (arith, signed) in
-    ap (λ (y : ℤ). date y p.month p.day) same
+    let same : year_from 0 p -ℤ offset +ℤ offset ≡ year_from 0 p = omega (arith, signed) in
+    ap (λ (y : ℤ). date y (month_from 0 p) (day_from 0 p)) same
 
-pub packed-valid : (p : PackedIsoYear) → IsTrue (packed_belongs p) → IsValidDate gregorian_list (packed_date p)
+pub packed-valid : (p : List ℕ) → IsTrue (packed_belongs p) → IsValidDate gregorian_list (packed_date p)
 packed-valid p h = is_valid_date-true gregorian_list (packed_date p) h
 
 -- the day number is that of the ISO date
-pub day_number-packed : (offset : ℤ) (p : PackedIsoYear) → day_number (offset_list offset) (offset_date offset p) ≡ day_number gregorian_list (packed_date p)
+pub day_number-packed : (offset : ℤ) (p : List ℕ) → day_number (offset_list offset) (offset_date offset p) ≡ day_number gregorian_list (packed_date p)
 day_number-packed offset p = day_number-renumbered offset gregorian_list (offset_date offset p) ∙ ap (day_number gregorian_list) (shifted-offset offset p)
 
 -- what belongs is a date of the list
-pub packed-dated : (offset : ℤ) (p : PackedIsoYear) → IsTrue (packed_belongs p) → IsValidDate (offset_list offset) (offset_date offset p)
+pub packed-dated : (offset : ℤ) (p : List ℕ) → IsTrue (packed_belongs p) → IsValidDate (offset_list offset) (offset_date offset p)
 packed-dated offset p h = valid-renumbered offset gregorian_list (offset_date offset p) (subst (IsValidDate gregorian_list) (sym (shifted-offset offset p)) (packed-valid p h))
 
 -- and what is, belongs
-pub dated-packed : (offset : ℤ) (p : PackedIsoYear) → IsValidDate (offset_list offset) (offset_date offset p) → IsTrue (packed_belongs p)
+pub dated-packed : (offset : ℤ) (p : List ℕ) → IsValidDate (offset_list offset) (offset_date offset p) → IsTrue (packed_belongs p)
 dated-packed offset p h = true-is_valid_date gregorian_list (packed_date p) (subst (IsValidDate gregorian_list) (shifted-offset offset p) (renumbered-valid offset gregorian_list (offset_date offset p) h))
 
 -- the same for the arithmetic of dates
-pub packed-belongs : (offset : ℤ) → IsOffset offset → (p : PackedIsoYear) → IsTrue (packed_belongs p) → Belongs (offset_years offset) (ymd p.year p.month p.day)
+pub packed-belongs : (offset : ℤ) → IsOffset offset → (p : List ℕ) → IsTrue (packed_belongs p) → Belongs (offset_years offset) (ymd (packed_year p) (month_from 0 p) (day_from 0 p))
 packed-belongs offset small p h =
     let valid = packed-dated offset p h in
     let year = (ranged-renumbered offset small gregorian_list gregorian_list-bounded (offset_date offset p) valid).0 in
     record {
-      year = record { same = iso_year-extended offset p.year; range = (omega (arith, signed, year), omega (arith, signed, year)) };
+      year = record { same = iso_year-extended offset (packed_year p); range = (omega (arith, signed, year), omega (arith, signed, year)) };
       date = valid.date;
       valid = valid.valid;
     }
 
-pub belongs-packed : (offset : ℤ) (p : PackedIsoYear) → Belongs (offset_years offset) (ymd p.year p.month p.day) → IsTrue (packed_belongs p)
+pub belongs-packed : (offset : ℤ) (p : List ℕ) → Belongs (offset_years offset) (ymd (packed_year p) (month_from 0 p) (day_from 0 p)) → IsTrue (packed_belongs p)
 belongs-packed offset p h = dated-packed offset p (record { date = h.date; valid = h.valid })
 
 -- dates that belong are equal and ordered as their day numbers
-pub packed-equal : (offset : ℤ) (p q : PackedIsoYear) → IsTrue (packed_belongs p) → IsTrue (packed_belongs q) → date_eq (packed_date p) (packed_date q) ≡ int_eq (day_number (offset_list offset) (offset_date offset p)) (day_number (offset_list offset) (offset_date offset q))
+pub packed-equal : (offset : ℤ) (p q : List ℕ) → IsTrue (packed_belongs p) → IsTrue (packed_belongs q) → date_eq (packed_date p) (packed_date q) ≡ int_eq (day_number (offset_list offset) (offset_date offset p)) (day_number (offset_list offset) (offset_date offset q))
 packed-equal offset p q h k =
     rw (day_number-packed offset p, day_number-packed offset q)
     (dates-equal gregorian_list (packed_date p) (packed_date q) (packed-valid p h).date (packed-valid q k).date)
 
-pub packed-ordered : (offset : ℤ) (p q : PackedIsoYear) → IsTrue (packed_belongs p) → IsTrue (packed_belongs q) → date_cmp (packed_date p) (packed_date q) ≡ int_cmp (day_number (offset_list offset) (offset_date offset p)) (day_number (offset_list offset) (offset_date offset q))
+pub packed-ordered : (offset : ℤ) (p q : List ℕ) → IsTrue (packed_belongs p) → IsTrue (packed_belongs q) → date_cmp (packed_date p) (packed_date q) ≡ int_cmp (day_number (offset_list offset) (offset_date offset p)) (day_number (offset_list offset) (offset_date offset q))
 packed-ordered offset p q h k =
     rw (day_number-packed offset p, day_number-packed offset q)
     (dates-ordered gregorian_list (packed_date p) (packed_date q) (packed-valid p h).date (packed-valid q k).date)
 
 -- whatever year the two calendars count from, a date has the same day number
-pub packed-shared : (offset other : ℤ) (p : PackedIsoYear) → day_number (offset_list other) (offset_date other p) ≡ day_number (offset_list offset) (offset_date offset p)
+pub packed-shared : (offset other : ℤ) (p : List ℕ) → day_number (offset_list other) (offset_date other p) ≡ day_number (offset_list offset) (offset_date offset p)
 packed-shared offset other p = day_number-packed other p ∙ sym (day_number-packed offset p)
 
 -- and is on that day
-pub packed-on : (offset other : ℤ) (p : PackedIsoYear) → IsTrue (packed_belongs p) → IsOn (offset_list other) (day_number (offset_list offset) (offset_date offset p)) (offset_date other p)
+pub packed-on : (offset other : ℤ) (p : List ℕ) → IsTrue (packed_belongs p) → IsOn (offset_list other) (day_number (offset_list offset) (offset_date offset p)) (offset_date other p)
 packed-on offset other p h = record { date = (packed-dated other p h).date; day = packed-shared offset other p }
 
 -- a year that fields may not name has no valid day
@@ -86,7 +88,7 @@ field_year-needed y i d out = not_true (is_valid_date gregorian_list (date y i d
       cc
 
 -- a packed date belongs where its date in extended years is one of the list
-pub belongs-offset : (offset : ℤ) (p : PackedIsoYear) → is_valid_date (offset_list offset) (offset_date offset p) ≡ packed_belongs p
+pub belongs-offset : (offset : ℤ) (p : List ℕ) → is_valid_date (offset_list offset) (offset_date offset p) ≡ packed_belongs p
 belongs-offset offset p =
     same_truth (packed_belongs p) (is_valid_date (offset_list offset) (offset_date offset p)) (
       λ h. true-is_valid_date (offset_list offset) (offset_date offset p) (packed-dated offset p h),

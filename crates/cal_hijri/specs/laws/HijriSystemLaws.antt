@@ -12,36 +12,36 @@ use Rattle.cal_hijri.specs.HijriList.{hijri_list, hijri_years, has_parts_of, Joi
 use Rattle.cal_hijri.specs.laws.HijriBounds.{years-ranged}
 use Rattle.cal_hijri.specs.laws.GivenYears.{shared-given}
 use Rattle.cal_hijri.specs.HijriSystem.{hijri_belongs, packed_date}
-use Rattle.cal_hijri.specs.PackedYears.{packed_year}
 use Rattle.cal_hijri.specs.laws.SameYears.{has_parts_of-tested}
+use Rattle.cal_hijri.specs.PackedYears.{kept_year}
 use Rattle.cal_hijri.specs.declared.hijri_year.HijriYear.{HijriYear}
-use Rattle.cal_hijri.specs.declared.hijri_year.PackedHijriDate.{PackedHijriDate}
+use Rattle.cal_hijri.specs.declared.hijri_year.KeptHijriDate.{KeptHijriDate}
 
-module _ (year_of : ℤ → HijriYear) (p : PackedHijriDate) (h : IsTrue (hijri_belongs year_of p)) where
+module _ (year_of : ℤ → HijriYear) (p : KeptHijriDate) (h : IsTrue (hijri_belongs year_of p)) where
   pub belongs-valid : IsTrue (is_valid_date (hijri_list year_of) (packed_date p))
-  belongs-valid = and-right (has_parts_of (year_of p.extended_year) (packed_year p)) (is_valid_date (hijri_list year_of) (packed_date p)) h
+  belongs-valid = and-right (has_parts_of (year_of p.extended_year) (kept_year p)) (is_valid_date (hijri_list year_of) (packed_date p)) h
 
   pub belongs-dated : IsValidDate (hijri_list year_of) (packed_date p)
   belongs-dated = is_valid_date-true (hijri_list year_of) (packed_date p) belongs-valid
 
-module _ (s t : ℤ → HijriYear) (numbered : Numbered s) (here : Joins s) (there : Joins t) (same : (y : ℤ) → IsRuleYear y → s y ≡ t y) (p : PackedHijriDate) (h : IsTrue (hijri_belongs s p)) where
-  given : IsGiven (hijri_years s) (packed_year p)
+module _ (s t : ℤ → HijriYear) (numbered : Numbered s) (here : Joins s) (there : Joins t) (same : (y : ℤ) → IsRuleYear y → s y ≡ t y) (p : KeptHijriDate) (h : IsTrue (hijri_belongs s p)) where
+  given : IsGiven (hijri_years s) (kept_year p)
   given =
       let field = (years-ranged s numbered here (packed_date p) (belongs-dated s p h)).0 in
       record {
-        same = (has_parts_of-tested s (packed_year p)).0 (and-left (has_parts_of (s p.extended_year) (packed_year p)) (is_valid_date (hijri_list s) (packed_date p)) h);
+        same = (has_parts_of-tested s (kept_year p)).0 (and-left (has_parts_of (s p.extended_year) (kept_year p)) (is_valid_date (hijri_list s) (packed_date p)) h);
         range = (omega (arith, signed, field), omega (arith, signed, field));
       }
 
   -- a date belongs to both or to neither
   pub belongs-shared : IsTrue (hijri_belongs t p)
   belongs-shared =
-      own_shared (hijri_years s) (hijri_years t) (record { year = packed_year p; month = p.month; day = p.day }) (shared-given s t here there same (packed_year p) given)
-      (λ y. has_parts_of (s y.extended_year) y) (λ y. has_parts_of (t y.extended_year) y) (has_parts_of-tested t (packed_year p)) h
+      own_shared (hijri_years s) (hijri_years t) (record { year = kept_year p; month = p.month; day = p.day }) (shared-given s t here there same (kept_year p) given)
+      (λ y. has_parts_of (s y.extended_year) y) (λ y. has_parts_of (t y.extended_year) y) (has_parts_of-tested t (kept_year p)) h
 
   -- with the same day number
   pub day-shared : day_number (hijri_list t) (packed_date p) ≡ day_number (hijri_list s) (packed_date p)
-  day-shared = shared_day (hijri_years s) (hijri_years t) (record { year = packed_year p; month = p.month; day = p.day }) (shared-given s t here there same (packed_year p) given)
+  day-shared = shared_day (hijri_years s) (hijri_years t) (record { year = kept_year p; month = p.month; day = p.day }) (shared-given s t here there same (kept_year p) given)
 
 -- what is equivalent is so both ways and on
 module _ {A : Type 0} {alike : A → A → Bool} (law : IsEquivalence alike) where

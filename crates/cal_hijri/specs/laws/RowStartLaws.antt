@@ -1,5 +1,5 @@
 -- A rule year is its own nearest one, and the first day of a row is near the mean year.
-use Rattle.std.proofs.Common.{◌≡◌, ℕ, ◌≤◌, min, refl, arith, ℤ, pos}
+use Rattle.std.proofs.Common.{◌≡◌, ℕ, ◌≤◌, ◌<◌, ◌%◌, min, refl, arith, ℤ, pos}
 use Rattle.std.specs.Prelude.{false, int_lt, neg_ℤ}
 use Rattle.cal_days.proofs.Signed.{signed, by_bool}
 use Rattle.cal_days.specs.Day.{IsRuleYear}
@@ -16,3 +16,7 @@ pub start-near : (y : ℤ) (offset : ℕ) → IsNearMean y (start_after y offset
 start-near y offset =
     let few : min offset 10 ≤ 10 = omega arith in
     (omega (arith, signed), omega (arith, signed, few))
+
+-- the bits above the twelfth month's are of no month
+pub row-twelve : (bits : ℕ) → bits % 4096 < 4096
+row-twelve bits = omega arith

@@ -13,23 +13,28 @@ use Rattle.cal_days.proofs.Signed.{signed}
 use Rattle.cal_hijri.specs.HijriList.{has_parts_of}
 use Rattle.cal_hijri.specs.declared.hijri_year.HijriYear.{HijriYear}
 
-abbrev year : (n d : ℤ) (m : ℕ) → IsNearMean n d → HijriYear
-year n d m f = record { extended_year = n; first_day = d; long_months = m; near = f }
+abbrev year : (n d : ℤ) (m : ℕ) → IsNearMean n d → m < 4096 → HijriYear
+year n d m f few = record { extended_year = n; first_day = d; long_months = m; near = f; twelve = few }
 
 near-one : (n d : ℤ) → IsProp (IsNearMean n d)
 near-one n d = hlevel props
 
+few-one : (m : ℕ) → IsProp (m < 4096)
+few-one m = hlevel props
+
 -- one part after another
-at_parts : (a : HijriYear) (n d : ℤ) (m : ℕ) → a.extended_year ≡ n → a.first_day ≡ d → a.long_months ≡ m → (g : IsNearMean n d) → year a.extended_year a.first_day a.long_months a.near ≡ year n d m g
+at_parts : (a : HijriYear) (n d : ℤ) (m : ℕ) → a.extended_year ≡ n → a.first_day ≡ d → a.long_months ≡ m → (g : IsNearMean n d) (h : m < 4096) → year a.extended_year a.first_day a.long_months a.near a.twelve ≡ year n d m g h
 at_parts a n d m e1 e2 e3 =
-    let base = year a.extended_year a.first_day a.long_months a.near in
-    let s0 : (g : IsNearMean a.extended_year a.first_day) → base ≡ year a.extended_year a.first_day a.long_months g = λ g. ap (year a.extended_year a.first_day a.long_months) (near-one a.extended_year a.first_day a.near g) in
-    let s1 = subst (λ (x : ℤ). (g : IsNearMean x a.first_day) → base ≡ year x a.first_day a.long_months g) e1 s0 in
-    let s2 = subst (λ (x : ℤ). (g : IsNearMean n x) → base ≡ year n x a.long_months g) e2 s1 in
-    subst (λ (x : ℕ). (g : IsNearMean n d) → base ≡ year n d x g) e3 s2
+    let base = year a.extended_year a.first_day a.long_months a.near a.twelve in
+    let s0 : (g : IsNearMean a.extended_year a.first_day) (h : a.long_months < 4096) → base ≡ year a.extended_year a.first_day a.long_months g h =
+    λ g h. ap (λ (f : IsNearMean a.extended_year a.first_day). year a.extended_year a.first_day a.long_months f a.twelve) (near-one a.extended_year a.first_day a.near g)
+    ∙ ap (year a.extended_year a.first_day a.long_months g) (few-one a.long_months a.twelve h) in
+    let s1 = subst (λ (x : ℤ). (g : IsNearMean x a.first_day) (h : a.long_months < 4096) → base ≡ year x a.first_day a.long_months g h) e1 s0 in
+    let s2 = subst (λ (x : ℤ). (g : IsNearMean n x) (h : a.long_months < 4096) → base ≡ year n x a.long_months g h) e2 s1 in
+    subst (λ (x : ℕ). (g : IsNearMean n d) (h : x < 4096) → base ≡ year n d x g h) e3 s2
 
 pub same_parts : (a b : HijriYear) → a.extended_year ≡ b.extended_year → a.first_day ≡ b.first_day → a.long_months ≡ b.long_months → a ≡ b
-same_parts a b e1 e2 e3 = at_parts a b.extended_year b.first_day b.long_months e1 e2 e3 b.near
+same_parts a b e1 e2 e3 = at_parts a b.extended_year b.first_day b.long_months e1 e2 e3 b.near b.twelve
 
 int-same : (a b : ℤ) → int_eq a b ≡ true → a ≡ b
 int-same a b h = grind (arith, ints)

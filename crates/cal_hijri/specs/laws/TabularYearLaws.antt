@@ -1,5 +1,5 @@
 -- Each tabular year starts where the one before ends, and near its mean start.
-use Rattle.std.proofs.Common.{◌≡◌, Bool, true, false, if◌then◌else◌, refl, arith, ℤ, pos, ◌+ℤ◌}
+use Rattle.std.proofs.Common.{◌≡◌, ◌<◌, Bool, true, false, if◌then◌else◌, refl, arith, ℤ, pos, ◌+ℤ◌}
 use Rattle.cal_days.specs.Islamic.{IsIslamicEpoch}
 use Rattle.cal_days.proofs.IslamicLemmas.{islamic_start-near, islamic_start-next}
 use Rattle.cal_days.proofs.Signed.{signed}
@@ -25,6 +25,11 @@ near_by TypeII epoch y known =
 -- a tabular year starts near its mean start
 pub tabular-near : (s : TabularAlgorithm) (y : ℤ) → IsNearMean y (tabular_start s y)
 tabular-near s y = near_by s.leap_years (epoch_day s.epoch) y (epoch_day-known s.epoch)
+
+-- the bits are those of twelve months
+pub long_by-few : (leap : Bool) → long_by leap < 4096
+long_by-few true = omega arith
+long_by-few false = omega arith
 
 -- as many days as the long months make
 pub days_by : (leap : Bool) → days_of_months (long_by leap) ≡ (if leap then 355 else 354)

@@ -50,13 +50,6 @@ late-lengths y =
     (joined (late_start y) (late_start (y +ℤ pos 1)) (int_eq (late_start (y +ℤ pos 1) -ℤ late_start y) (pos 355)) refl
     (shifted (islamic_mean_start (y +ℤ pos 1)) (islamic_mean_start y) (mean_start-next y)))
 
-few_by : (b : Bool) → (if b then 3413 else 1365) < 4096
-few_by true = omega arith
-few_by false = omega arith
-
-pub late-few : (y : ℤ) → late_long y < 4096
-late-few y = few_by (int_eq (late_start (y +ℤ pos 1) -ℤ late_start y) (pos 355))
-
 -- and are those of a year
 pub late-starts : (y : ℤ) → IsRuleYear y → AreMonthStarts y (late_month_starts (late_start y) (late_start (y +ℤ pos 1)))
 late-starts y rule = record {

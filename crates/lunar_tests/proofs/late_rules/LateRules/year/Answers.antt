@@ -4,7 +4,8 @@ use Rattle.cal_days.proofs.Signed.{signed}
 use Rattle.cal_hijri.specs.MonthStarts.{AreMonthStarts, HasLengthsOf, start_at}
 use Rattle.lunar_tests.specs.LateYears.{late_month_starts, late_year}
 use Rattle.lunar_tests.specs.LateStarts.{late_start}
-use Rattle.lunar_tests.specs.laws.LateYearLaws.{late-few, late-lengths, late-starts}
+use Rattle.lunar_tests.specs.laws.LateStartLaws.{late-few}
+use Rattle.lunar_tests.specs.laws.LateYearLaws.{late-lengths, late-starts}
 use Rattle.cal_hijri.specs.laws.SameYears.{year_of_starts}
 use Rattle.lunar_tests.proofs.late_rules.LateRules.year.Goals as goal
 

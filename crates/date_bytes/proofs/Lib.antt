@@ -1,0 +1,4 @@
+pub mod ByteLemmas
+pub mod EastAsianLemmas
+pub mod Examples
+pub mod OrderLemmas
