@@ -46,6 +46,12 @@ impl<'t> EastAsianTraditional<China<'t>> {
     ///
     /// [`EastAsianTable::try_new`] makes a table of rows that are handed in, and [`EastAsianTable::none`] one without
     /// rows.
+    ///
+    /// ```
+    /// let chinese = ChineseTraditional::new(published::china_table());
+    /// let date = Date::from_rata_die(RataDie::new(738542), chinese);
+    /// assert!(rt; date.day_of_year().0 == 1); // 2023-01-22
+    /// ```
     pub fn new(table: EastAsianTable<'t>) -> ChineseTraditional<'t>
         requires { table.side ≡ side.China }
         ensures { result.0.table ≡ table.entry }

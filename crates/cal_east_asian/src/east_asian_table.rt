@@ -36,6 +36,11 @@ pub struct EastAsianTable<'t> {
 
 impl<'t> EastAsianTable<'t> {
     /// A table without rows: every year is the computed one.
+    ///
+    /// ```
+    /// let computed = ChineseTraditional::new(EastAsianTable::none(Side::China));
+    /// let published = ChineseTraditional::new(published::china_table());
+    /// ```
     pub fn none(side: Side) -> EastAsianTable<'t>
         ensures side { result.side ≡ side }
         ensures rows { result.rows.now ≡ [] }
@@ -106,6 +111,10 @@ impl<'t> EastAsianTable<'t> {
     }
 
     /// Whose years these are.
+    ///
+    /// ```
+    /// assert!(rt; published::korea_table().side() == Side::Korea);
+    /// ```
     pub fn side(&self) -> Side
         ensures { result ≡ self.now.side }
     {
@@ -113,6 +122,10 @@ impl<'t> EastAsianTable<'t> {
     }
 
     /// The rows of the table.
+    ///
+    /// ```
+    /// assert!(rt; published::china_table().rows().len() == 188); // 1912 to 2099
+    /// ```
     pub fn rows(&self) -> &'t [EastAsianRow]
         ensures { result.now ≡ self.now.rows.now }
     {

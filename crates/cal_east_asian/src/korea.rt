@@ -46,6 +46,12 @@ impl<'t> EastAsianTraditional<Korea<'t>> {
     ///
     /// [`EastAsianTable::try_new`] makes a table of rows that are handed in, and [`EastAsianTable::none`] one without
     /// rows.
+    ///
+    /// ```
+    /// let korean = KoreanTraditional::new(published::korea_table());
+    /// let date = Date::from_rata_die(RataDie::new(740019), korean);
+    /// assert!(rt; date.day_of_year().0 == 1); // 2027-02-07
+    /// ```
     pub fn new(table: EastAsianTable<'t>) -> KoreanTraditional<'t>
         requires { table.side ≡ side.Korea }
         ensures { result.0.table ≡ table.entry }

@@ -40,6 +40,11 @@ pub struct Hebrew;
 
 impl Hebrew {
     /// The Hebrew calendar.
+    ///
+    /// ```
+    /// let date = Date::from_rata_die(RataDie::new(738946), Hebrew::new());
+    /// assert!(rt; date.month().to_input() == Month::leap(5)); // Adar I
+    /// ```
     pub fn new() -> Hebrew {
         Hebrew
     }

@@ -30,6 +30,11 @@ pub struct HijriTable<'t> {
 
 impl<'t> HijriTable<'t> {
     /// No rows: every year is the tabular one.
+    ///
+    /// ```
+    /// let computed = Hijri::new_umm_al_qura(HijriTable::none());
+    /// let published = Hijri::new_umm_al_qura(published::umm_al_qura_table());
+    /// ```
     pub fn none() -> HijriTable<'t>
         ensures { result.rows.now ≡ [] }
     {
@@ -64,6 +69,10 @@ impl<'t> HijriTable<'t> {
     }
 
     /// The rows.
+    ///
+    /// ```
+    /// assert!(rt; published::umm_al_qura_table().rows().len() == 301);
+    /// ```
     pub fn rows(&self) -> &'t [HijriRow]
         ensures { result.now ≡ self.now.rows.now }
     {

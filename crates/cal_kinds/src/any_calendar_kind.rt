@@ -115,6 +115,11 @@ impl AnyCalendarKind {
     /// The names are `iso`, `gregorian`, `julian`, `buddhist`, `chinese`, `coptic`, `dangi`, `ethiopic`, `ethioaa`,
     /// `hebrew`, `indian`, `islamic-civil`, `islamic-simulated`, `islamic-tbla`, `islamic-umalqura`, `japanese`,
     /// `persian` and `roc`. None for any other text: `JapaneseExtended` has no name.
+    ///
+    /// ```
+    /// let kind = AnyCalendarKind::from_program_name(b"hebrew")?;
+    /// assert!(rt; kind == AnyCalendarKind::Hebrew);
+    /// ```
     pub fn from_program_name(bytes: &[u8]) -> Option<AnyCalendarKind>
         ensures { result ≡ kind_named bytes.now }
     {
