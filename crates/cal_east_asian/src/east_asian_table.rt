@@ -35,7 +35,9 @@ pub struct EastAsianTable<'t> {
 }
 
 impl<'t> EastAsianTable<'t> {
-    /// A table without rows: every year is the computed one.
+    /// A table without rows: **every year is computed**, and may begin a day or a month before or after the published
+    /// one. The crate `published_years` has tables of the published years (`china_table`, `korea_table`), and
+    /// [`EastAsianTable::try_new`] takes rows of one's own.
     ///
     /// ```
     /// let computed = ChineseTraditional::new(EastAsianTable::none(Side::China));

@@ -29,7 +29,9 @@ pub struct HijriTable<'t> {
 }
 
 impl<'t> HijriTable<'t> {
-    /// No rows: every year is the tabular one.
+    /// No rows: **every year is computed**, as the tabular one, and it and its months may begin a day or more before or
+    /// after the published ones. The crate `published_years` has the table of the published years
+    /// (`umm_al_qura_table`), and [`HijriTable::try_new`] takes rows of one's own.
     ///
     /// ```
     /// let computed = Hijri::new_umm_al_qura(HijriTable::none());

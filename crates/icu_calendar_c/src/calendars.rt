@@ -84,14 +84,14 @@ macro_rules! with_made {
     }};
 }
 
-// The tabular Hijri calendar with the leap years of type II, from a day on.
+/// The tabular Hijri calendar with the leap years of type II, from a day on.
 fn tabular(epoch: TabularAlgorithmEpoch) -> Hijri<TabularAlgorithm>
     ensures { tabular_system result.0 ≡ tabular_system (record { leap_years = TypeII; epoch = epoch }) }
 {
     Hijri::new_tabular(TabularAlgorithmLeapYears::TypeII, epoch)
 }
 
-// What a question is answered in the calendar of a kind over tables.
+/// What a question is answered in the calendar of a kind over tables.
 fn ask_kind<Q: Question>(question: &Q, kind: AnyCalendarKind, tables: &Tables<'_>) -> Q::Answer
     ensures { Q.answers question.now (kind_system (table_contents tables.now) kind) result }
 {
