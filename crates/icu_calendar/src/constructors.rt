@@ -31,7 +31,7 @@ ghost use Rattle.cal_east_asian.specs.declared.sides.Side.TheVariants.{China, Ko
 ghost use Rattle.icu_calendar.specs.Answers.{answer_with};
 
 use crate::date::Date;
-use crate::placing::{lunisolar, placed, placed_in_era};
+use crate::placed_dates::{lunisolar, placed, placed_in_era};
 use cal_base::{AsCalendar, Iso};
 use cal_coptic::{Coptic, Ethiopian, EthiopianEraStyle};
 use cal_east_asian::{ChineseTraditional, KoreanTraditional};

@@ -11,7 +11,7 @@ ghost use Rattle.cal_spans.specs.Spans.{IsSpan, RefusesBag};
 ghost use Rattle.icu_calendar.specs.SpanAnswers.{span_answer, HasCalendars};
 
 use crate::date::Date;
-use crate::span_parts::Span;
+use crate::span_answer::Span;
 use cal_any::AnyCalendar;
 use cal_base::{AsCalendar, Calendar};
 use cal_spans::{BagSide, SpanError};
