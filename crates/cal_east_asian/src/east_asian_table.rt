@@ -97,6 +97,12 @@ impl<'t> EastAsianTable<'t> {
     /// ends; [`Leap`](cal_types::TablePart::Leap) where neither the row's year nor one of the two years before it has
     /// a leap month, or, at the last row, the same is true of the first or the second year after it. Among these
     /// years, one without a row is the computed one.
+    ///
+    /// ```
+    /// let rows = published::china_table().rows();
+    /// let table = EastAsianTable::try_new(Side::China, rows)?;
+    /// assert!(rt; table.rows().len() == 188);
+    /// ```
     pub fn try_new(side: Side, rows: &'t [EastAsianRow]) -> Result<EastAsianTable<'t>, TableFault>
         ensures first { MatchResult result (λ made. (made.side ≡ side) × (made.rows.now ≡ rows.now))
             (IsFirstFault (computed_year side) (years_of rows.now)) }

@@ -59,6 +59,12 @@ impl<'t> HijriTable<'t> {
     /// row's before it, or one is above 9999; [`TablePart::Join`] where the row doesn't start where the row before it
     /// ends, or the first one not where the tabular year before it ends; [`TablePart::End`] where the tabular year
     /// after the last row doesn't start where that row ends.
+    ///
+    /// ```
+    /// let rows = published::umm_al_qura_table().rows();
+    /// let table = HijriTable::try_new(rows)?;
+    /// assert!(rt; table.rows().len() == 301); // 1300 to 1600
+    /// ```
     pub fn try_new(rows: &'t [HijriRow]) -> Result<HijriTable<'t>, TableFault>
         ensures first { MatchResult result (λ made. made.rows.now ≡ rows.now)
             (IsFirstFault beside.friday_year (years_of rows.now)) }

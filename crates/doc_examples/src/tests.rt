@@ -6,3 +6,4 @@ mod lunar;
 mod published;
 mod rows;
 mod solar;
+mod spans;

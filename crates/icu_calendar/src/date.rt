@@ -168,6 +168,11 @@ where
     }
 
     /// What leads to the calendar: the calendar itself, or a pointer to it.
+    ///
+    /// ```
+    /// let date = Date::try_new_iso(2024, 3, 1)?;
+    /// assert!(rt; *date.calendar_wrapper() == Iso);
+    /// ```
     pub fn calendar_wrapper(&self) -> &A
         ensures { result.now ≡ self.now.calendar }
     {

@@ -183,3 +183,17 @@ fn show_calendars_chosen_at_run_time(rt: &impl Abort) -> Option<()> {
 fn calendars_chosen_at_run_time(rt: HostRuntime) {
     assert!(rt; show_calendars_chosen_at_run_time(&rt).is_some());
 }
+
+#[test]
+fn pointers_and_any_calendars(rt: HostRuntime) -> Result<(), Fail> {
+    let date = Date::try_new_iso(2024, 3, 1)?;
+    assert!(rt; *date.calendar_wrapper() == Iso);
+
+    let date = Date::try_new_iso(2024, 3, 1)?.to_any();
+    assert!(rt; date.calendar().kind() == AnyCalendarKind::Iso);
+
+    let date = Date::try_new_iso(2024, 3, 1)?.to_any();
+    let hebrew = AnyCalendar::Hebrew(Hebrew);
+    assert!(rt; date.convert_any(&hebrew).day_of_month().0 == 21); // of Adar I
+    Ok(())
+}

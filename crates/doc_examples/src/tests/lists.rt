@@ -53,3 +53,15 @@ fn show_holidays_of_a_book(rt: &impl Abort, alloc: Global) -> Option<()> {
 fn holidays_of_a_book(rt: HostRuntime) {
     assert!(rt; show_holidays_of_a_book(&rt, rt.alloc()).is_some());
 }
+
+/// The examples of [`rules`].
+fn show_rules(rt: &impl Abort) -> Option<()> {
+    let monthly = Rule::try_new(DateDurationUnit::Months, 1, Missing::Constrain)?;
+    assert!(rt; Rule::try_new(DateDurationUnit::Months, 0, Missing::Skip).is_none());
+    Some(())
+}
+
+#[test]
+fn rules(rt: HostRuntime) {
+    assert!(rt; show_rules(&rt).is_some());
+}

@@ -1,7 +1,7 @@
 //! The examples of the docs: published years, and rows of a text.
 
 use icu_calendar::rows::TableRows;
-use icu_calendar::{AnyCalendar, AnyCalendarKind, Date, Month, published};
+use icu_calendar::{AnyCalendar, AnyCalendarKind, Date, Month, RataDie, Tables, published};
 use std::test::Fail;
 
 #[test]
@@ -42,4 +42,26 @@ fn rows_of_text(rt: HostRuntime) -> Result<(), Fail> {
     let date = Date::try_new(1912.into(), Month::new(1), 30, tables.chinese())?;
     assert!(rt; date.to_rata_die().to_i64_date() == 698055); // 1912-03-18
     Ok(())
+}
+
+#[test]
+fn calendars_over_tables(rt: HostRuntime) {
+    let computed = AnyCalendar::new(AnyCalendarKind::Chinese, Tables::none());
+    let published = AnyCalendar::new(AnyCalendarKind::Chinese, published::tables());
+
+    let chinese = published::tables().chinese();
+    let date = Date::from_rata_die(RataDie::new(738542), chinese);
+    assert!(rt; date.day_of_year().0 == 1); // 2023-01-22
+
+    let korean = published::tables().korean();
+    let date = Date::from_rata_die(RataDie::new(740019), korean);
+    assert!(rt; date.day_of_year().0 == 1); // 2027-02-07
+
+    let umm_al_qura = published::tables().umm_al_qura();
+    let date = Date::from_rata_die(RataDie::new(739311), umm_al_qura);
+    assert!(rt; date.month().number() == 9); // 2025-03-01, the first day of Ramadan
+
+    let persian = published::tables().persian();
+    let date = Date::from_rata_die(RataDie::new(739331), persian);
+    assert!(rt; date.day_of_year().0 == 1); // 2025-03-21
 }
