@@ -125,7 +125,7 @@ impl<'a> MemorySink<'a> {
         &self.room[..self.len]
     }
 
-    // Whether the call that was just counted fails.
+    /// Whether the call that was just counted fails.
     fn refuses(&self, piece: &[u8]) -> bool
         ensures { IsTrue result ↔ RefusesCall self.now (sink_calls self.now) piece.now }
     {

@@ -5,7 +5,7 @@ use std::io;
 use std::io::{Read, Write};
 use std::test::Fail;
 
-// The counts of the first five reads into four bytes, where a failure counts as 9.
+/// The counts of the first five reads into four bytes, where a failure counts as 9.
 fn five_reads<S: Source>(source: &mut S) -> [usize; 5] {
     let mut counts = [0; 5];
     let mut buf = [0u8; 4];
@@ -15,7 +15,7 @@ fn five_reads<S: Source>(source: &mut S) -> [usize; 5] {
     counts
 }
 
-// The counts of five writes of four bytes, where a failure counts as 9.
+/// The counts of five writes of four bytes, where a failure counts as 9.
 fn five_writes<K: Sink>(sink: &mut K) -> [usize; 5] {
     let mut counts = [0; 5];
     for i in 0..5 {
@@ -24,7 +24,7 @@ fn five_writes<K: Sink>(sink: &mut K) -> [usize; 5] {
     counts
 }
 
-// A reader and a writer that fail at every second call, and else pass on one byte.
+/// A reader and a writer that fail at every second call, and else pass on one byte.
 #[derive(Drop)]
 struct Uneven {
     calls: u64,

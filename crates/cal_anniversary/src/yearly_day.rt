@@ -20,7 +20,7 @@ pub(crate) struct YearlyDay {
     pub(crate) leaping: Leaping,
 }
 
-/// How a date of a year that lacks the month or the day is made of fields.
+/// How a date of a year that lacks the month or the day is made from its fields.
 fn overflow_for(leaping: Leaping) -> Overflow
     ensures { result ≡ overflow_for leaping }
 {

@@ -49,6 +49,12 @@ impl<'t> AnyCalendar<'t> {
     /// The rows of China serve `Chinese`, those of Korea `Dangi`, those of Umm al-Qura `HijriUmmAlQura` alone, the
     /// corrected years `Persian`, and the eras `Japanese` and `JapaneseExtended`, of which both give the variant
     /// `Japanese`.
+    ///
+    /// ```
+    /// let kind = AnyCalendarKind::from_program_name(b"hebrew")?;
+    /// let hebrew = AnyCalendar::new(kind, published::tables());
+    /// assert!(rt; hebrew.kind() == kind);
+    /// ```
     pub fn new(kind: AnyCalendarKind, tables: Tables<'t>) -> AnyCalendar<'t>
         ensures system { any_system result ≡ kind_system (table_contents tables.entry) kind }
         ensures held { kind_held result ≡ kind_made kind }

@@ -47,6 +47,10 @@ impl<'t> AnyCalendar<'t> {
     /// The kinds of the Ethiopian calendar differ by its style, and those of the tabular Hijri calendar by its leap
     /// years and by the day on which its year 1 starts. Both variants of the Japanese calendar are of the kind
     /// `Japanese`.
+    ///
+    /// ```
+    /// assert!(rt; AnyCalendar::Hebrew(Hebrew).kind() == AnyCalendarKind::Hebrew);
+    /// ```
     pub fn kind(&self) -> AnyCalendarKind
         ensures { result ≡ kind_held self.now }
     {

@@ -1,4 +1,4 @@
-//! Dates of bags of fields. The steps are those of ECMAScript Temporal's CalendarResolveFields and
+//! Dates that are built from bags of fields. The steps are those of ECMAScript Temporal's CalendarResolveFields and
 //! NonISOCalendarDateToISO.
 
 ghost use Rattle.std.specs.Prelude.{◌≡◌, ◌≤◌, ◌&&◌, IfOk, IfSome, option_map};
@@ -22,7 +22,7 @@ use cal_types::{
     MissingFieldsStrategy, Month, Overflow,
 };
 
-/// Which overflow the options of fields ask for.
+/// What the options ask for where a month or a day isn't there.
 fn fields_overflow(options: DateFromFieldsOptions) -> Overflow
     ensures { result ≡ overflow_of options.overflow }
 {
@@ -32,7 +32,7 @@ fn fields_overflow(options: DateFromFieldsOptions) -> Overflow
     }
 }
 
-/// What becomes of missing fields by the options of fields.
+/// What the options ask for where fields are missing.
 fn missing_fields(options: DateFromFieldsOptions) -> MissingFieldsStrategy
     ensures { result ≡ missing_fields_of options.missing_fields_strategy }
 {

@@ -73,6 +73,11 @@ impl EthiopianEraStyle {
 
 impl Ethiopian {
     /// The Ethiopian calendar in the style Amete Mihret.
+    ///
+    /// ```
+    /// let date = Date::from_rata_die(RataDie::new(738946), Ethiopian::new());
+    /// assert!(rt; date.era_year().year == 2016);
+    /// ```
     pub fn new() -> Ethiopian
         ensures { result.era_style ≡ EthiopianEraStyle.AmeteMihret }
     {
@@ -80,6 +85,12 @@ impl Ethiopian {
     }
 
     /// The Ethiopian calendar in a style.
+    ///
+    /// ```
+    /// let style = EthiopianEraStyle::AmeteAlem;
+    /// let date = Date::from_rata_die(RataDie::new(738946), Ethiopian::new_with_era_style(style));
+    /// assert!(rt; date.era_year().year == 7516);
+    /// ```
     pub fn new_with_era_style(era_style: EthiopianEraStyle) -> Ethiopian
         ensures { result.era_style ≡ era_style }
     {
@@ -87,6 +98,11 @@ impl Ethiopian {
     }
 
     /// The style of the calendar.
+    ///
+    /// ```
+    /// let ethiopian = Ethiopian::new_with_era_style(EthiopianEraStyle::AmeteAlem);
+    /// assert!(rt; ethiopian.era_style() == EthiopianEraStyle::AmeteAlem);
+    /// ```
     pub fn era_style(&self) -> EthiopianEraStyle
         ensures { result ≡ self.now.era_style }
     {

@@ -26,6 +26,7 @@ use cal_days::gregorian;
 ///     leap_month: 3,
 ///     start_offset: 3,
 /// };
+/// assert!(rt; YEAR_2023.year().leap_month() == Some(3));
 /// ```
 #[derive(Clone, Copy, Debug)]
 pub struct EastAsianRow {

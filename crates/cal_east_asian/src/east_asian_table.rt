@@ -35,7 +35,14 @@ pub struct EastAsianTable<'t> {
 }
 
 impl<'t> EastAsianTable<'t> {
-    /// A table without rows: every year is the computed one.
+    /// A table without rows: **every year is computed**, and may begin a day or a month before or after the published
+    /// one. The crate `published_years` has tables of the published years (`china_table`, `korea_table`), and
+    /// [`EastAsianTable::try_new`] takes rows of one's own.
+    ///
+    /// ```
+    /// let computed = ChineseTraditional::new(EastAsianTable::none(Side::China));
+    /// let published = ChineseTraditional::new(published::china_table());
+    /// ```
     pub fn none(side: Side) -> EastAsianTable<'t>
         ensures side { result.side ≡ side }
         ensures rows { result.rows.now ≡ [] }
@@ -90,6 +97,12 @@ impl<'t> EastAsianTable<'t> {
     /// ends; [`Leap`](cal_types::TablePart::Leap) where neither the row's year nor one of the two years before it has
     /// a leap month, or, at the last row, the same is true of the first or the second year after it. Among these
     /// years, one without a row is the computed one.
+    ///
+    /// ```
+    /// let rows = published::china_table().rows();
+    /// let table = EastAsianTable::try_new(Side::China, rows)?;
+    /// assert!(rt; table.rows().len() == 188);
+    /// ```
     pub fn try_new(side: Side, rows: &'t [EastAsianRow]) -> Result<EastAsianTable<'t>, TableFault>
         ensures first { MatchResult result (λ made. (made.side ≡ side) × (made.rows.now ≡ rows.now))
             (IsFirstFault (computed_year side) (years_of rows.now)) }
@@ -106,6 +119,10 @@ impl<'t> EastAsianTable<'t> {
     }
 
     /// Whose years these are.
+    ///
+    /// ```
+    /// assert!(rt; published::korea_table().side() == Side::Korea);
+    /// ```
     pub fn side(&self) -> Side
         ensures { result ≡ self.now.side }
     {
@@ -113,6 +130,10 @@ impl<'t> EastAsianTable<'t> {
     }
 
     /// The rows of the table.
+    ///
+    /// ```
+    /// assert!(rt; published::china_table().rows().len() == 188); // 1912 to 2099
+    /// ```
     pub fn rows(&self) -> &'t [EastAsianRow]
         ensures { result.now ≡ self.now.rows.now }
     {

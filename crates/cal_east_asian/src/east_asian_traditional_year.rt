@@ -119,6 +119,10 @@ impl EastAsianTraditionalYear {
     }
 
     /// Its number: the ISO year in which it starts.
+    ///
+    /// ```
+    /// assert!(rt; qing_year(1900)?.related_iso() == 1900);
+    /// ```
     pub fn related_iso(self) -> i32
         ensures value { result ≡ self.related_iso }
         ensures range { IsRuleYear result }
@@ -127,6 +131,10 @@ impl EastAsianTraditionalYear {
     }
 
     /// Its first day.
+    ///
+    /// ```
+    /// assert!(rt; qing_year(1900)?.new_year().to_i64_date() == 693626); // 1900-01-31
+    /// ```
     pub fn new_year(self) -> RataDie
         ensures { result ≡ self.new_year }
     {
@@ -134,6 +142,10 @@ impl EastAsianTraditionalYear {
     }
 
     /// The place of its leap month, from 2 to 13, where it has one.
+    ///
+    /// ```
+    /// assert!(rt; qing_year(1900)?.leap_month() == Some(9)); // behind the month 8
+    /// ```
     pub fn leap_month(self) -> Option<u8>
         ensures { result ≡ leap_place_shown self.leap_month }
     {
@@ -145,6 +157,10 @@ impl EastAsianTraditionalYear {
     }
 
     /// How many months it has: 12, or 13 with a leap month.
+    ///
+    /// ```
+    /// assert!(rt; qing_year(1900)?.months() == 13);
+    /// ```
     pub fn months(self) -> u8
         ensures { result ≡ months_of_year self.leap_month }
     {

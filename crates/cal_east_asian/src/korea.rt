@@ -14,7 +14,9 @@ use crate::table_months::months_between;
 use cal_base::scaffold::UnstableSealed;
 use cal_types::{CalendarAlgorithm, EcmaReferenceYearError, MismatchedCalendarError, Month};
 
-/// The rules of the Korean calendar, with a table of years.
+/// The rules of the Korean calendar, with a table of years. **Years without a row are computed**, and they and their
+/// months may begin a day or a month before or after the published ones. [`Korea::new`] takes the published years as a
+/// table: the crate `published_years` has it (`korea_table`; its `korean` is the calendar with it).
 ///
 /// A year that the table has a row of is that row. Another one is the mean year at 9 hours from Greenwich from 1912
 /// on, the year of the Qing calendar from 1900 to 1911, and the mean year at Beijing's mean time before. CLDR's name
@@ -32,7 +34,7 @@ impl<'t> Korea<'t> {
     /// The rules with a table of Korea's years.
     ///
     /// [`EastAsianTable::try_new`] makes a table of rows that are handed in, and [`EastAsianTable::none`] one without
-    /// rows.
+    /// rows, so that all years are computed; the crate `published_years` has the published ones (`korea_table`).
     pub fn new(table: EastAsianTable<'t>) -> Korea<'t>
         requires { table.side ≡ side.Korea }
         ensures { result.table ≡ table.entry }
@@ -45,7 +47,13 @@ impl<'t> EastAsianTraditional<Korea<'t>> {
     /// The Korean calendar with a table of Korea's years.
     ///
     /// [`EastAsianTable::try_new`] makes a table of rows that are handed in, and [`EastAsianTable::none`] one without
-    /// rows.
+    /// rows, so that all years are computed; the crate `published_years` has the published ones (`korea_table`).
+    ///
+    /// ```
+    /// let korean = KoreanTraditional::new(published::korea_table());
+    /// let date = Date::from_rata_die(RataDie::new(740019), korean);
+    /// assert!(rt; date.day_of_year().0 == 1); // 2027-02-07
+    /// ```
     pub fn new(table: EastAsianTable<'t>) -> KoreanTraditional<'t>
         requires { table.side ≡ side.Korea }
         ensures { result.0.table ≡ table.entry }

@@ -144,6 +144,11 @@ fn long_months(time: u32, place: u8) -> u16
 ///
 /// Its months are those from the month of solar term 2 to that of term 13, with the leap month among them or right
 /// after them. It starts 0 to 34 days after January 19 of its number and ends where the next one starts.
+///
+/// ```
+/// let year = mean_year(28800000, 2023); // 8 hours from Greenwich
+/// assert!(rt; year.related_iso() == 2023);
+/// ```
 pub fn mean_year(utc_offset: i64, related_iso: i32) -> EastAsianTraditionalYear
     requires offset { IsOffset utc_offset }
     requires year { IsRuleYear related_iso }

@@ -56,6 +56,12 @@ fn qing_row(index: u8) -> QingRow
 ///
 /// Each of these years ends where the next one starts. 1900 starts where the mean year 1899 ends at an offset of
 /// 27940000 milliseconds, and 1911 ends where the mean year 1912 starts at 28800000 and at 32400000.
+///
+/// ```
+/// let year = qing_year(1900)?;
+/// assert!(rt; year.new_year().to_i64_date() == 693626); // 1900-01-31
+/// assert!(rt; year.leap_month() == Some(9));
+/// ```
 pub fn qing_year(related_iso: i32) -> Option<EastAsianTraditionalYear>
     ensures exact { IsSome result ↔ IsQingNumber related_iso }
     ensures row { IfSome result (λ year. IsQingYear related_iso year) }

@@ -37,6 +37,11 @@ pub struct Japanese {
 
 impl Japanese {
     /// The Japanese calendar with the eras up to Reiwa.
+    ///
+    /// ```
+    /// let date = Date::from_rata_die(RataDie::new(738946), Japanese::new());
+    /// assert!(rt; date.era_year().era.as_str() == "reiwa" && date.era_year().year == 6);
+    /// ```
     pub fn new() -> Japanese
         ensures value { result ≡ japanese_up_to_reiwa }
         ensures eras { listed_eras result.eras ≡ eras_up_to_reiwa [] }
@@ -45,6 +50,12 @@ impl Japanese {
     }
 
     /// The Japanese calendar with these eras.
+    ///
+    /// ```
+    /// let japanese = Japanese::with_eras(JapaneseEras::up_to_reiwa());
+    /// let date = Date::from_rata_die(RataDie::new(738946), japanese);
+    /// assert!(rt; date.era_year().year == 6);
+    /// ```
     pub fn with_eras(eras: JapaneseEras) -> Japanese
         ensures { result.eras ≡ eras }
     {

@@ -32,6 +32,10 @@ impl JapaneseEras {
     ghost use Rattle.cal_gregory.specs.LastEra.{eras_with_last};
 
     /// The eras up to Reiwa, and no later one.
+    ///
+    /// ```
+    /// assert!(rt; JapaneseEras::up_to_reiwa().eras().count() == 5);
+    /// ```
     pub const fn up_to_reiwa() -> JapaneseEras
         ensures value { result ≡ no_later_era }
         ensures eras { listed_eras result ≡ eras_up_to_reiwa [] }
@@ -44,6 +48,16 @@ impl JapaneseEras {
     /// A start before 2026 is that of no later era: the eras are then those up to Reiwa, whatever the code and the
     /// index are. Otherwise `None` where the year is above 2089, the month isn't from 1 to 15, the day isn't from 1
     /// to 31, the code is empty or has another byte than the letters `a` to `z`, or the index is neither 7 nor 8.
+    ///
+    /// ```
+    /// let start = EraStartDate {
+    ///     year: 2040,
+    ///     month: 1,
+    ///     day: 1,
+    /// };
+    /// let eras = JapaneseEras::with_last_era(start, TinyAsciiStr::of_text(b"later"), 7)?;
+    /// assert!(rt; eras.eras().count() == 6);
+    /// ```
     pub fn with_last_era(
         start: EraStartDate,
         code: TinyAsciiStr<8>,

@@ -32,14 +32,30 @@ use std::sync::ledger::Ledger;
 /// A year starts in autumn with Tishri, the month 1, by the mean new moon and the postponements of the new year; it
 /// has 353, 354 or 355 days. Of 19 years 7 are leap years, of 383, 384 or 385 days: they have the leap month `M05L`
 /// (Adar I) in the sixth place, and the month 6 beside it (Adar, then Adar II) is formatted as `M06L`. In a common
-/// year the month 6 stands in for the leap month. The calendar is used for all years by today's rule. Its era is
-/// `am` (CLDR, UTS 35). The reference year of a day is the latest in which it falls on or before 1972-12-31 of the
-/// ISO calendar.
+/// year the month 6 stands in for the leap month.
+///
+/// | Code | Month | Code | Month |
+/// |---|---|---|---|
+/// | `M01` | Tishri | `M06` | Adar, or in a leap year Adar II |
+/// | `M02` | Heshvan | `M07` | Nisan |
+/// | `M03` | Kislev | `M08` | Iyar |
+/// | `M04` | Tevet | `M09` | Sivan |
+/// | `M05` | Shevat | `M10` | Tammuz |
+/// | `M05L` | Adar I, in leap years alone | `M11` | Av |
+/// | | | `M12` | Elul |
+///
+/// The calendar is used for all years by today's rule. Its era is `am` (CLDR, UTS 35). The reference year of a day is
+/// the latest in which it falls on or before 1972-12-31 of the ISO calendar.
 #[derive(Clone, Copy, Debug, Default, PartialEq, Eq, PartialOrd, Ord, Hash)]
 pub struct Hebrew;
 
 impl Hebrew {
     /// The Hebrew calendar.
+    ///
+    /// ```
+    /// let date = Date::from_rata_die(RataDie::new(738946), Hebrew::new());
+    /// assert!(rt; date.month().to_input() == Month::leap(5)); // Adar I
+    /// ```
     pub fn new() -> Hebrew {
         Hebrew
     }

@@ -10,7 +10,9 @@ use cal_base::scaffold::UnstableSealed;
 use cal_types::{CalendarAlgorithm, EcmaReferenceYearError, MismatchedCalendarError, Month};
 
 /// The rules of a calendar that computes the first sight of the new moon at Mecca: the years of a table, and the
-/// tabular years from Friday on where it has none.
+/// tabular years from Friday on where it has none. **Years without a row are computed**, and they and their months may
+/// begin a day or more before or after the published ones. The crate `published_years` has no years of this calendar:
+/// hand rows in by [`HijriTable::try_new`].
 ///
 /// CLDR has no name for the calendar. Dates under two such rules can be compared where the rows are the same.
 #[derive(Clone, Copy, Debug)]

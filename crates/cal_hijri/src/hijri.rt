@@ -36,6 +36,13 @@ pub struct Hijri<S>(pub S);
 
 impl Hijri<TabularAlgorithm> {
     /// The tabular calendar with these leap years, from this day on.
+    ///
+    /// ```
+    /// let years = TabularAlgorithmLeapYears::TypeII;
+    /// let thursday = Hijri::new_tabular(years, TabularAlgorithmEpoch::Thursday);
+    /// let date = Date::try_new_hijri_with_calendar(1445, 2, 1, thursday)?;
+    /// assert!(rt; date.to_rata_die().to_i64_date() == 738749); // 2023-08-17
+    /// ```
     pub const fn new_tabular(
         leap_years: TabularAlgorithmLeapYears,
         epoch: TabularAlgorithmEpoch,
@@ -49,6 +56,12 @@ impl Hijri<TabularAlgorithm> {
 
 impl<'t> Hijri<UmmAlQura<'t>> {
     /// The Umm al-Qura calendar with these years.
+    ///
+    /// ```
+    /// let computed = Hijri::new_umm_al_qura(HijriTable::none());
+    /// let date = Date::try_new_hijri_with_calendar(1445, 8, 20, computed)?;
+    /// assert!(rt; date.to_rata_die().to_i64_date() == 738946); // 2024-03-01
+    /// ```
     pub fn new_umm_al_qura(table: HijriTable<'t>) -> Hijri<UmmAlQura<'t>>
         ensures { result.0.table ≡ table.entry }
     {
@@ -58,6 +71,12 @@ impl<'t> Hijri<UmmAlQura<'t>> {
 
 impl<'t> Hijri<AstronomicalSimulation<'t>> {
     /// The simulated calendar of Mecca with these years.
+    ///
+    /// ```
+    /// let computed = Hijri::new_simulated_mecca(HijriTable::none());
+    /// let date = Date::try_new_hijri_with_calendar(1445, 8, 20, computed)?;
+    /// assert!(rt; date.to_rata_die().to_i64_date() == 738946); // 2024-03-01
+    /// ```
     pub fn new_simulated_mecca(table: HijriTable<'t>) -> Hijri<AstronomicalSimulation<'t>>
         ensures { result.0.table ≡ table.entry }
     {

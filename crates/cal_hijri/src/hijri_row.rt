@@ -20,7 +20,12 @@ use cal_days::islamic;
 /// have 30 days:
 ///
 /// ```
-/// static YEAR_1445: HijriRow = HijriRow { extended_year: 1445, long_months: 0x92e, start_offset: 5 };
+/// static YEAR_1445: HijriRow = HijriRow {
+///     extended_year: 1445,
+///     long_months: 0x92e,
+///     start_offset: 5,
+/// };
+/// assert!(rt; YEAR_1445.year().extended_year() == 1445);
 /// ```
 #[derive(Clone, Copy, Debug)]
 pub struct HijriRow {

@@ -31,7 +31,14 @@ pub struct HijriTable<'t> {
 }
 
 impl<'t> HijriTable<'t> {
-    /// No rows: every year is the tabular one.
+    /// No rows: **every year is computed**, as the tabular one, and it and its months may begin a day or more before or
+    /// after the published ones. The crate `published_years` has the table of the published years
+    /// (`umm_al_qura_table`), and [`HijriTable::try_new`] takes rows of one's own.
+    ///
+    /// ```
+    /// let computed = Hijri::new_umm_al_qura(HijriTable::none());
+    /// let published = Hijri::new_umm_al_qura(published::umm_al_qura_table());
+    /// ```
     pub fn none() -> HijriTable<'t>
         ensures { result.rows.now ≡ [] }
     {
@@ -54,6 +61,12 @@ impl<'t> HijriTable<'t> {
     /// row's before it, or one is above 9999; [`TablePart::Join`] where the row doesn't start where the row before it
     /// ends, or the first one not where the tabular year before it ends; [`TablePart::End`] where the tabular year
     /// after the last row doesn't start where that row ends.
+    ///
+    /// ```
+    /// let rows = published::umm_al_qura_table().rows();
+    /// let table = HijriTable::try_new(rows)?;
+    /// assert!(rt; table.rows().len() == 301); // 1300 to 1600
+    /// ```
     pub fn try_new(rows: &'t [HijriRow]) -> Result<HijriTable<'t>, TableFault>
         ensures first { MatchResult result (λ made. made.rows.now ≡ rows.now)
             (IsFirstFault beside.friday_year (years_of rows.now)) }
@@ -94,6 +107,10 @@ impl<'t> HijriTable<'t> {
     }
 
     /// The rows.
+    ///
+    /// ```
+    /// assert!(rt; published::umm_al_qura_table().rows().len() == 301);
+    /// ```
     pub fn rows(&self) -> &'t [HijriRow]
         ensures { result.now ≡ self.now.rows.now }
     {

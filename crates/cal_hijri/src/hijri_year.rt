@@ -69,6 +69,15 @@ impl HijriYear {
     }
 
     /// How many days a month, 1 to 12, has: 29 or 30.
+    ///
+    /// ```
+    /// let row = HijriRow {
+    ///     extended_year: 1445,
+    ///     long_months: 0x92e,
+    ///     start_offset: 5,
+    /// };
+    /// assert!(rt; row.year().month_len(1) == 29);
+    /// ```
     pub fn month_len(self, month: u8) -> u8
         requires { (1 ≤ month) × (month ≤ 12) }
         ensures { result ≡ month_days self.long_months month }

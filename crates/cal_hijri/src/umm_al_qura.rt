@@ -13,7 +13,9 @@ use cal_types::{
 };
 
 /// The rules of the Umm al-Qura calendar of Saudi Arabia: the years of a table, and the tabular years from Friday on
-/// where it has none.
+/// where it has none. **Years without a row are computed**, and they and their months may begin a day or more before or
+/// after the published ones. [`UmmAlQura::new`] takes the published years as a table: the crate `published_years` has it
+/// (`umm_al_qura_table`; its `umm_al_qura` is the calendar with it).
 ///
 /// CLDR's name for the calendar is `islamic-umalqura`. Dates under two such rules can be compared where the rows are
 /// the same.

@@ -37,6 +37,12 @@ pub struct Persian<'t> {
 
 impl<'t> Persian<'t> {
     /// The Persian calendar with these corrections.
+    ///
+    /// ```
+    /// let persian = Persian::new(PersianCorrections::none());
+    /// let date = Date::from_rata_die(RataDie::new(738946), persian);
+    /// assert!(rt; date.era_year().year == 1402);
+    /// ```
     pub fn new(corrections: PersianCorrections<'t>) -> Persian<'t>
         ensures { result.corrections ≡ corrections.entry }
     {

@@ -24,6 +24,10 @@ pub struct PersianCorrections<'t> {
 
 impl<'t> PersianCorrections<'t> {
     /// No corrections: every year goes by the rule.
+    ///
+    /// ```
+    /// assert!(rt; PersianCorrections::none().years().is_empty());
+    /// ```
     pub fn none() -> PersianCorrections<'t>
         ensures { result.years.now ≡ [] }
     {
@@ -44,6 +48,11 @@ impl<'t> PersianCorrections<'t> {
     /// A [`TableFault`] names the first row, counted from 1, whose year isn't as it is to be, and the first part that
     /// breaks there: [`TablePart::Year`] where the year isn't from 1 to 9999, or isn't above the year before it;
     /// [`TablePart::Rule`] where it isn't a leap year by the rule of 33 years.
+    ///
+    /// ```
+    /// let corrections = PersianCorrections::try_new(&[1502])?;
+    /// assert!(rt; corrections.years().len() == 1);
+    /// ```
     pub fn try_new(years: &'t [i32]) -> Result<PersianCorrections<'t>, TableFault>
         ensures first { MatchResult result (λ made. made.years.now ≡ years.now) (IsFirstFault years.now) }
         ensures exact { IsOk result ↔ AreCorrections years.now }

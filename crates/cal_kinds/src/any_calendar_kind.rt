@@ -126,7 +126,13 @@ impl AnyCalendarKind {
     ///
     /// The names are `iso`, `gregorian`, `julian`, `buddhist`, `chinese`, `coptic`, `dangi`, `ethiopic`, `ethioaa`,
     /// `hebrew`, `indian`, `islamic-civil`, `islamic-simulated`, `islamic-tbla`, `islamic-umalqura`, `japanese`,
-    /// `persian`, `roc`, `islamic-type1-friday` and `islamic-type1-thursday`. None for any other text: `JapaneseExtended` has no name.
+    /// `persian`, `roc`, `islamic-type1-friday` and `islamic-type1-thursday`. None for any other text:
+    /// `JapaneseExtended` has no name.
+    ///
+    /// ```
+    /// let kind = AnyCalendarKind::from_program_name(b"hebrew")?;
+    /// assert!(rt; kind == AnyCalendarKind::Hebrew);
+    /// ```
     pub fn from_program_name(bytes: &[u8]) -> Option<AnyCalendarKind>
         ensures { result ≡ kind_named bytes.now }
     {

@@ -15,9 +15,9 @@
 //! let window = Window::try_new(RataDie::new(737821), RataDie::new(737910))?;
 //! let rule = Rule::try_new(DateDurationUnit::Months, 1, Missing::Constrain)?;
 //! let start = Iso.from_rata_die(RataDie::new(737821));
-//! for item in recur(Iso, start, rule, window) {
-//!     // the indices 0, 1, 2, 3 with the days 737821, 737849, 737880, 737910
-//! }
+//! let mut items = recur(Iso, start, rule, window);
+//! assert!(rt; items.next()?.day.to_i64_date() == 737821); // 2021-01-31
+//! assert!(rt; items.next()?.day.to_i64_date() == 737849); // 2021-02-28
 //! ```
 //!
 //! # The recurrence rules of iCalendar

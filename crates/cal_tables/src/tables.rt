@@ -34,6 +34,11 @@ impl<'t> Tables<'t> {
     ghost use Rattle.cal_kinds.specs.declared.any_calendar_kind.AnyCalendarKind.TheVariants as kind;
 
     /// No table has a row, no Persian year is corrected, and the eras are those up to Reiwa.
+    ///
+    /// ```
+    /// let computed = AnyCalendar::new(AnyCalendarKind::Chinese, Tables::none());
+    /// let published = AnyCalendar::new(AnyCalendarKind::Chinese, published::tables());
+    /// ```
     pub fn none() -> Tables<'t>
         ensures { table_contents result ≡ no_contents }
     {
@@ -71,6 +76,12 @@ impl<'t> Tables<'t> {
     }
 
     /// The Chinese calendar, with the rows of China.
+    ///
+    /// ```
+    /// let chinese = published::tables().chinese();
+    /// let date = Date::from_rata_die(RataDie::new(738542), chinese);
+    /// assert!(rt; date.day_of_year().0 == 1); // 2023-01-22
+    /// ```
     pub fn chinese(&self) -> ChineseTraditional<'t>
         ensures system { east_asian_system (table_year result.0.table) (side_reference side.China)
             ≡ kind_system (table_contents self.now) kind.Chinese }
@@ -80,6 +91,12 @@ impl<'t> Tables<'t> {
     }
 
     /// The Korean calendar, with the rows of Korea.
+    ///
+    /// ```
+    /// let korean = published::tables().korean();
+    /// let date = Date::from_rata_die(RataDie::new(740019), korean);
+    /// assert!(rt; date.day_of_year().0 == 1); // 2027-02-07
+    /// ```
     pub fn korean(&self) -> KoreanTraditional<'t>
         ensures system { east_asian_system (table_year result.0.table) (side_reference side.Korea)
             ≡ kind_system (table_contents self.now) kind.Dangi }
@@ -89,6 +106,12 @@ impl<'t> Tables<'t> {
     }
 
     /// The Hijri calendar of Umm al-Qura, with its rows.
+    ///
+    /// ```
+    /// let umm_al_qura = published::tables().umm_al_qura();
+    /// let date = Date::from_rata_die(RataDie::new(739311), umm_al_qura);
+    /// assert!(rt; date.month().number() == 9); // 2025-03-01, the first day of Ramadan
+    /// ```
     pub fn umm_al_qura(&self) -> Hijri<UmmAlQura<'t>>
         ensures system { umm_al_qura_system (years_of result.0.table.rows.now)
             ≡ kind_system (table_contents self.now) kind.HijriUmmAlQura }
@@ -107,6 +130,12 @@ impl<'t> Tables<'t> {
     }
 
     /// The Persian calendar, with the corrected years.
+    ///
+    /// ```
+    /// let persian = published::tables().persian();
+    /// let date = Date::from_rata_die(RataDie::new(739331), persian);
+    /// assert!(rt; date.day_of_year().0 == 1); // 2025-03-21
+    /// ```
     pub fn persian(&self) -> Persian<'t>
         ensures system { persian_system result ≡ kind_system (table_contents self.now) kind.Persian }
         ensures corrections { result.corrections ≡ self.now.persian }

@@ -47,7 +47,7 @@ impl Default for MissingFieldsStrategy {
     }
 }
 
-/// How a date is made of fields. `None` stands for the option's default.
+/// How a date is built from a bag of fields. `None` stands for the option's default.
 #[derive(Clone, Copy, Debug, PartialEq)]
 pub struct DateFromFieldsOptions {
     /// A month or a day that isn't there; the default is [`Overflow::Reject`].

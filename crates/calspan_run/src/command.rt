@@ -31,7 +31,7 @@ pub enum Command<'a> {
 
 ghost use Rattle.calspan_run.specs.CommandSaid.{command_said};
 
-// The number of requests that the next word spells by one to six digits, up to 100000.
+/// The number of requests that the next word spells by one to six digits, up to 100000.
 fn next_count(words: &mut CommandWords) -> Option<u32>
     ensures read { IsReading (next_word count_of (words_left words.old)) result (words_left words.new) }
     ensures few { IfSome result (λ n. n ≤ 100000) }
@@ -44,7 +44,7 @@ fn next_count(words: &mut CommandWords) -> Option<u32>
     }
 }
 
-// The command, where no word is left.
+/// The command, where no word is left.
 fn at_end<'a>(command: Command<'a>, words: &CommandWords) -> Option<Command<'a>>
     requires { is_command (command_said command) }
     ensures said { option_map command_said result ≡ at_end (command_said command.entry) (words_left words.now) }
@@ -53,7 +53,7 @@ fn at_end<'a>(command: Command<'a>, words: &CommandWords) -> Option<Command<'a>>
     if words.is_done() { Some(command) } else { None }
 }
 
-// The command that the words behind `gen` make.
+/// The command that the words behind `gen` make.
 fn read_generate(mut words: CommandWords<'_>) -> Option<Command<'_>>
     ensures said { option_map command_said result ≡ generate_of (words_left words.entry) }
     ensures few { IfSome result (λ c. is_command (command_said c)) }
@@ -62,7 +62,7 @@ fn read_generate(mut words: CommandWords<'_>) -> Option<Command<'_>>
     at_end(Command::Generate(count), &words)
 }
 
-// The command that the words behind `anniversary` make.
+/// The command that the words behind `anniversary` make.
 fn read_days(mut words: CommandWords<'_>) -> Option<Command<'_>>
     ensures said { option_map command_said result ≡ anniversary_of (words_left words.entry) }
     ensures few { IfSome result (λ c. is_command (command_said c)) }
@@ -71,7 +71,7 @@ fn read_days(mut words: CommandWords<'_>) -> Option<Command<'_>>
     at_end(Command::Anniversary(asked), &words)
 }
 
-// The command that the words behind `holidays` make.
+/// The command that the words behind `holidays` make.
 fn read_window(mut words: CommandWords<'_>) -> Option<Command<'_>>
     ensures said { option_map command_said result ≡ holidays_of (words_left words.entry) }
     ensures few { IfSome result (λ c. is_command (command_said c)) }

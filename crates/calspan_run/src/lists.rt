@@ -52,7 +52,7 @@ pub trait CalendarListing {
         ensures cause { HasCause (K.faults sink.old) (K.faults sink.new) result };
 }
 
-// Refuses the line of this number, which is no row line.
+/// Refuses the line of this number, which is no row line.
 fn refuse_line<K: Sink>(number: u64, is_long: bool, sink: &mut K) -> Status
     ensures { EndsWith result Status.Refused (K.taken sink.old) (K.taken sink.new) (K.faults sink.old)
         (K.faults sink.new) (refusal number (if is_long then codes "long" else codes "syntax")) }
@@ -63,7 +63,7 @@ fn refuse_line<K: Sink>(number: u64, is_long: bool, sink: &mut K) -> Status
     end_with(&text, Status::Refused, sink)
 }
 
-// Writes the list over the tables of these rows, where they are accepted.
+/// Writes the list over the tables of these rows, where they are accepted.
 fn list_over<L: TableList, K: Sink>(rows: &TableRows, list: &L, sink: &mut K) -> Status
     ensures { (text : List ℕ) × (status : Status)
         × OverTables (list_end (L.lists list.now)) (rows_said rows.now) text status

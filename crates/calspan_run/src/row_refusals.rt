@@ -7,7 +7,7 @@ use cal_types::TablePart;
 use reply_texts::{Pending, push_about};
 use table_rows::{RowFault, Table, TableRefusal};
 
-// The word for a fault of a row line.
+/// The word for a fault of a row line.
 fn row_fault_word(why: RowFault) -> &'static [u8]
     ensures word { result.now ≡ row_fault_text why }
     ensures short { length result.now ≤ 10 }
@@ -19,7 +19,7 @@ fn row_fault_word(why: RowFault) -> &'static [u8]
     }
 }
 
-// The words before the row of a table's fault.
+/// The words before the row of a table's fault.
 fn table_words(table: Table) -> &'static [u8]
     ensures words { result.now ≡ table_text table }
     ensures short { length result.now ≤ 20 }
@@ -32,7 +32,7 @@ fn table_words(table: Table) -> &'static [u8]
     }
 }
 
-// The word for a part of a row.
+/// The word for a part of a row.
 fn part_word(part: TablePart) -> &'static [u8]
     ensures word { result.now ≡ part_text part }
     ensures short { length result.now ≤ 10 }

@@ -9,7 +9,7 @@ use byte_io::{StdSink, StdSource};
 use std::io::ErrorKind;
 use std::{env, io};
 
-// The status where the words couldn't be had: one isn't UTF-8, or there is no memory for them.
+/// The status where the words couldn't be had: one isn't UTF-8, or there is no memory for them.
 fn words_failed(error: &io::Error) -> Status
     ensures memory { error_kind error.now ≡ ErrorKind.OutOfMemory → result ≡ Status.NoMemory }
     ensures others { error_kind error.now ≢ ErrorKind.OutOfMemory → result ≡ Status.Words }

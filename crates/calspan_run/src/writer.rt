@@ -66,7 +66,7 @@ pub fn make_room<K: Sink>(pending: &mut Pending, sink: &mut K) -> Result<(), Fai
     flush(pending, sink)
 }
 
-// Writes what is pending, and then pushes a piece that didn't fit behind it.
+/// Writes what is pending, and then pushes a piece that didn't fit behind it.
 fn push_past<K: Sink>(pending: &mut Pending, piece: &[u8], sink: &mut K) -> Result<(), Failed>
     ensures text { (before : Option (List ℕ)) (text : List ℕ)
         → TextSoFar before (K.taken sink.old) pending.old.items text

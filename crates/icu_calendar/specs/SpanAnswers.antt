@@ -1,6 +1,6 @@
 -- What a difference of two bags, and the dates in it, say.
 use Rattle.std.specs.Prelude.{◌≡◌, Result, Ok, Err}
-use Rattle.icu_calendar.specs.declared.span_parts.Span.{Span}
+use Rattle.icu_calendar.specs.declared.span_answer.Span.{Span}
 use Rattle.cal_spans.specs.declared.span_error.SpanError.{SpanError}
 use Rattle.cal_any.specs.declared.any_calendar.AnyCalendar.{AnyCalendar}
 use Rattle.cal_any.specs.AnySystem.{any_date}

@@ -31,7 +31,7 @@ ghost use Rattle.cal_east_asian.specs.declared.sides.Side.TheVariants.{China, Ko
 ghost use Rattle.icu_calendar.specs.Answers.{answer_with};
 
 use crate::date::Date;
-use crate::placing::{lunisolar, placed, placed_in_era};
+use crate::placed_dates::{lunisolar, placed, placed_in_era};
 use cal_base::{AsCalendar, Iso};
 use cal_coptic::{Coptic, Ethiopian, EthiopianEraStyle};
 use cal_east_asian::{ChineseTraditional, KoreanTraditional};
@@ -46,6 +46,11 @@ impl Date<Iso> {
     ///
     /// The first that is out of its range is refused: `"year"` from -9999 to 9999, `"month"` from 1 to 12, `"day"`
     /// from 1 to the month's length.
+    ///
+    /// ```
+    /// let date = Date::try_new_iso(1992, 9, 2)?;
+    /// assert!(rt; date.to_rata_die().to_i64_date() == 727443);
+    /// ```
     pub fn try_new_iso(year: i32, month: u8, day: u8) -> Result<Date<Iso>, RangeError>
         ensures { answer_with (λ d. iso_date d.inner) range_parts result ≡ placed_date iso_list year month day }
     {
@@ -58,6 +63,12 @@ impl Date<Gregorian> {
     ///
     /// The first that is out of its range is refused: `"year"` from -9999 to 9999, `"month"` from 1 to 12, `"day"`
     /// from 1 to the month's length.
+    ///
+    /// ```
+    /// let date = Date::try_new_gregorian(2024, 3, 1)?;
+    /// assert!(rt; date.to_rata_die().to_i64_date() == 738946);
+    /// assert!(rt; Date::try_new_gregorian(2023, 2, 29).is_err());
+    /// ```
     pub fn try_new_gregorian(year: i32, month: u8, day: u8) -> Result<Date<Gregorian>, RangeError>
         ensures { answer_with (λ d. gregorian_date d.inner) range_parts result
             ≡ placed_date gregorian_system.list year month day }
@@ -71,6 +82,11 @@ impl Date<Buddhist> {
     ///
     /// The first that is out of its range is refused: `"year"` from -9999 to 9999, `"month"` from 1 to 12, `"day"`
     /// from 1 to the month's length.
+    ///
+    /// ```
+    /// let date = Date::try_new_buddhist(2567, 3, 1)?;
+    /// assert!(rt; date.to_rata_die().to_i64_date() == 738946); // 2024-03-01
+    /// ```
     pub fn try_new_buddhist(year: i32, month: u8, day: u8) -> Result<Date<Buddhist>, RangeError>
         ensures { answer_with (λ d. buddhist_date d.inner) range_parts result
             ≡ placed_date buddhist_system.list year month day }
@@ -84,6 +100,11 @@ impl Date<Roc> {
     ///
     /// The first that is out of its range is refused: `"year"` from -9999 to 9999, `"month"` from 1 to 12, `"day"`
     /// from 1 to the month's length.
+    ///
+    /// ```
+    /// let date = Date::try_new_roc(113, 3, 1)?;
+    /// assert!(rt; date.to_rata_die().to_i64_date() == 738946); // 2024-03-01
+    /// ```
     pub fn try_new_roc(year: i32, month: u8, day: u8) -> Result<Date<Roc>, RangeError>
         ensures { answer_with (λ d. roc_date d.inner) range_parts result ≡ placed_date roc_system.list year month day }
     {
@@ -96,6 +117,11 @@ impl Date<Julian> {
     ///
     /// The first that is out of its range is refused: `"year"` from -9999 to 9999, `"month"` from 1 to 12, `"day"`
     /// from 1 to the month's length.
+    ///
+    /// ```
+    /// let date = Date::try_new_julian(2021, 12, 19)?;
+    /// assert!(rt; date.to_rata_die().to_i64_date() == 738156); // 2022-01-01
+    /// ```
     pub fn try_new_julian(year: i32, month: u8, day: u8) -> Result<Date<Julian>, RangeError>
         ensures { answer_with (λ d. julian_date d.inner) range_parts result ≡ placed_date julian_list year month day }
     {
@@ -108,6 +134,11 @@ impl Date<Coptic> {
     ///
     /// The first that is out of its range is refused: `"year"` from -9999 to 9999, `"month"` from 1 to 13, `"day"`
     /// from 1 to the month's length.
+    ///
+    /// ```
+    /// let date = Date::try_new_coptic(1740, 6, 22)?;
+    /// assert!(rt; date.to_rata_die().to_i64_date() == 738946); // 2024-03-01
+    /// ```
     pub fn try_new_coptic(year: i32, month: u8, day: u8) -> Result<Date<Coptic>, RangeError>
         ensures { answer_with (λ d. coptic_date d.inner) range_parts result ≡ placed_date coptic_list year month day }
     {
@@ -120,6 +151,11 @@ impl Date<Indian> {
     ///
     /// The first that is out of its range is refused: `"year"` from -9999 to 9999, `"month"` from 1 to 12, `"day"`
     /// from 1 to the month's length.
+    ///
+    /// ```
+    /// let date = Date::try_new_indian(1945, 12, 11)?;
+    /// assert!(rt; date.to_rata_die().to_i64_date() == 738946); // 2024-03-01
+    /// ```
     pub fn try_new_indian(year: i32, month: u8, day: u8) -> Result<Date<Indian>, RangeError>
         ensures { answer_with (λ d. indian_date d.inner) range_parts result ≡ placed_date indian_list year month day }
     {
@@ -132,6 +168,12 @@ impl<'t> Date<Persian<'t>> {
     ///
     /// The first that is out of its range is refused: `"year"` from -9999 to 9999, `"month"` from 1 to 12, `"day"`
     /// from 1 to the month's length.
+    ///
+    /// ```
+    /// let persian = Persian::new(PersianCorrections::none());
+    /// let date = Date::try_new_persian(1402, 12, 11, persian)?;
+    /// assert!(rt; date.to_rata_die().to_i64_date() == 738946); // 2024-03-01
+    /// ```
     pub fn try_new_persian(
         year: i32,
         month: u8,
@@ -152,6 +194,12 @@ impl Date<Ethiopian> {
     ///
     /// The first that is out of its range is refused: `"year"` from -9999 to 9999, `"month"` from 1 to 13, `"day"`
     /// from 1 to the month's length.
+    ///
+    /// ```
+    /// let style = EthiopianEraStyle::AmeteMihret;
+    /// let date = Date::try_new_ethiopian(style, 2016, 6, 22)?;
+    /// assert!(rt; date.to_rata_die().to_i64_date() == 738946); // 2024-03-01
+    /// ```
     pub fn try_new_ethiopian(
         era_style: EthiopianEraStyle,
         year: i32,
@@ -173,6 +221,13 @@ impl<A: AsCalendar<Calendar = Hijri<R>>, R: Rules> Date<A> {
     ///
     /// The first that is out of its range is refused: `"year"` from -9999 to 9999, `"month"` from 1 to 12, `"day"`
     /// from 1 to the month's length.
+    ///
+    /// ```
+    /// let years = TabularAlgorithmLeapYears::TypeII;
+    /// let civil = Hijri::new_tabular(years, TabularAlgorithmEpoch::Friday);
+    /// let date = Date::try_new_hijri_with_calendar(1445, 2, 1, civil)?;
+    /// assert!(rt; date.to_rata_die().to_i64_date() == 738750); // 2023-08-18
+    /// ```
     pub fn try_new_hijri_with_calendar(
         year: i32,
         month: u8,
@@ -196,6 +251,12 @@ impl Date<Hebrew> {
     /// - [`LunisolarDateError::MonthNotInCalendar`]: the month is none of the plain ones 1 to 12 and the leap month 5;
     /// - [`LunisolarDateError::MonthNotInYear`]: the leap month isn't in the year;
     /// - [`LunisolarDateError::InvalidDay`], with `max`: the day isn't from 1 to the month's length.
+    ///
+    /// ```
+    /// let date = Date::try_new_hebrew_v2(5784, Month::leap(5), 21)?;
+    /// assert!(rt; date.to_rata_die().to_i64_date() == 738946); // 2024-03-01
+    /// assert!(rt; Date::try_new_hebrew_v2(5783, Month::leap(5), 21).is_err());
+    /// ```
     pub fn try_new_hebrew_v2(
         year: i32,
         month: Month,
@@ -217,6 +278,12 @@ impl<'t> Date<ChineseTraditional<'t>> {
     /// - [`LunisolarDateError::MonthNotInCalendar`]: the month's number isn't from 1 to 12;
     /// - [`LunisolarDateError::MonthNotInYear`]: it is a leap month that the year lacks;
     /// - [`LunisolarDateError::InvalidDay`], with `max`: the day isn't from 1 to the month's length.
+    ///
+    /// ```
+    /// let chinese = published::chinese();
+    /// let date = Date::try_new_chinese_traditional(2023, Month::leap(2), 1, chinese)?;
+    /// assert!(rt; date.to_rata_die().to_i64_date() == 738601); // 2023-03-22
+    /// ```
     pub fn try_new_chinese_traditional(
         related_iso_year: i32,
         month: Month,
@@ -242,6 +309,12 @@ impl<'t> Date<KoreanTraditional<'t>> {
     /// - [`LunisolarDateError::MonthNotInCalendar`]: the month's number isn't from 1 to 12;
     /// - [`LunisolarDateError::MonthNotInYear`]: it is a leap month that the year lacks;
     /// - [`LunisolarDateError::InvalidDay`], with `max`: the day isn't from 1 to the month's length.
+    ///
+    /// ```
+    /// let korean = published::korean();
+    /// let date = Date::try_new_korean_traditional(2027, Month::new(1), 1, korean)?;
+    /// assert!(rt; date.to_rata_die().to_i64_date() == 740019); // 2027-02-07
+    /// ```
     pub fn try_new_korean_traditional(
         related_iso_year: i32,
         month: Month,
@@ -265,6 +338,12 @@ impl<A: AsCalendar<Calendar = Japanese>> Date<A> {
     /// The refusals, in their order: [`DateError::Range`] for a `"year"` that isn't from -9999 to 9999,
     /// [`DateError::UnknownEra`] for an era that the calendar doesn't read, and [`DateError::Range`] for a `"month"`
     /// that isn't from 1 to 12, then for a `"day"` that isn't from 1 to the month's length.
+    ///
+    /// ```
+    /// let date = Date::try_new_japanese_with_calendar("heisei", 1, 1, 1, Japanese::new())?;
+    /// assert!(rt; date.to_rata_die().to_i64_date() == 726103); // 1989-01-01
+    /// assert!(rt; date.era_year().era.as_str() == "showa");
+    /// ```
     pub fn try_new_japanese_with_calendar(
         era: &str,
         year: i32,

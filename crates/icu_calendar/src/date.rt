@@ -80,6 +80,12 @@ where
     /// - [`DateNewError::MonthNotInCalendar`]: no year of the calendar has the month;
     /// - [`DateNewError::MonthNotInYear`]: this year doesn't have it;
     /// - [`DateNewError::InvalidDay`], with `max`: the day isn't from 1 to the month's length.
+    ///
+    /// ```
+    /// let date = Date::try_new(5784.into(), Month::leap(5), 21, Hebrew)?;
+    /// assert!(rt; date.to_rata_die().to_i64_date() == 738946); // 2024-03-01
+    /// assert!(rt; Date::try_new(5783.into(), Month::leap(5), 21, Hebrew).is_err());
+    /// ```
     pub fn try_new(
         year: YearInput<'_>,
         month: Month,
@@ -120,6 +126,16 @@ where
     ///   [`DateFromFieldsError::InvalidOrdinalMonth`];
     /// - [`DateFromFieldsError::InvalidDay`]; and [`DateFromFieldsError::Overflow`] for a date whose day number
     ///   isn't in the valid range, -365242499 to 365242134.
+    ///
+    /// ```
+    /// let fields = DateFields::from_year_month_day(2024, Month::new(2), 30);
+    /// let constrain = DateFromFieldsOptions {
+    ///     overflow: Some(Overflow::Constrain),
+    ///     missing_fields_strategy: None,
+    /// };
+    /// let date = Date::try_from_fields(fields, constrain, Gregorian)?;
+    /// assert!(rt; date.day_of_month().0 == 29);
+    /// ```
     pub fn try_from_fields(
         fields: DateFields<'_>,
         options: DateFromFieldsOptions,
@@ -152,6 +168,11 @@ where
     }
 
     /// What leads to the calendar: the calendar itself, or a pointer to it.
+    ///
+    /// ```
+    /// let date = Date::try_new_iso(2024, 3, 1)?;
+    /// assert!(rt; *date.calendar_wrapper() == Iso);
+    /// ```
     pub fn calendar_wrapper(&self) -> &A
         ensures { result.now ≡ self.now.calendar }
     {
@@ -159,6 +180,11 @@ where
     }
 
     /// The same date, with its calendar borrowed.
+    ///
+    /// ```
+    /// let date = Date::try_new_iso(2024, 3, 1)?;
+    /// assert!(rt; date.as_borrowed().same_date(&date));
+    /// ```
     pub fn as_borrowed(&self) -> Date<Ref<'_, A>>
         ensures inner { result.inner ≡ self.now.inner }
         ensures calendar { result.calendar.0.now ≡ self.now.calendar }
@@ -167,6 +193,12 @@ where
     }
 
     /// The date of a day number, which is clamped to the valid range, -365242499 to 365242134.
+    ///
+    /// ```
+    /// let date = Date::from_rata_die(RataDie::new(738946), Iso);
+    /// assert!(rt; date.year().extended_year() == 2024);
+    /// assert!(rt; date.month().number() == 3);
+    /// ```
     #[inline(always)]
     pub fn from_rata_die(rd: RataDie, calendar: A) -> Self
         ensures on { let c = A.cal_of calendar in
@@ -178,6 +210,11 @@ where
     }
 
     /// The day number of the date.
+    ///
+    /// ```
+    /// let date = Date::from_rata_die(RataDie::new(738946), Hebrew);
+    /// assert!(rt; date.to_rata_die().to_i64_date() == 738946);
+    /// ```
     pub fn to_rata_die(&self) -> RataDie
         ensures { let c = A.cal_of self.now.calendar in
             result ≡ day_number (A.Calendar.system c).list (A.Calendar.date_of c self.now.inner) }
@@ -186,6 +223,11 @@ where
     }
 
     /// The calendar that the date belongs to.
+    ///
+    /// ```
+    /// let date = Date::try_new_iso(2024, 3, 1)?;
+    /// assert!(rt; *date.calendar() == Iso);
+    /// ```
     pub fn calendar(&self) -> &A::Calendar
         ensures { result.now ≡ A.cal_of self.now.calendar }
     {
@@ -193,6 +235,11 @@ where
     }
 
     /// The year, in its era or cycle.
+    ///
+    /// ```
+    /// let date = Date::from_rata_die(RataDie::new(738946), Buddhist);
+    /// assert!(rt; date.year().era_year_or_related_iso() == 2567);
+    /// ```
     pub fn year(&self) -> YearInfo
         ensures { let c = A.cal_of self.now.calendar in
             result ≡ (A.Calendar.system c).year_info (A.Calendar.date_of c self.now.inner) }
@@ -204,6 +251,11 @@ where
     }
 
     /// Whether the year is a leap year of the calendar.
+    ///
+    /// ```
+    /// let date = Date::from_rata_die(RataDie::new(738946), Gregorian);
+    /// assert!(rt; date.is_in_leap_year());
+    /// ```
     pub fn is_in_leap_year(&self) -> bool
         ensures { let c = A.cal_of self.now.calendar in
             IsTrue result ↔ IsTrue ((A.Calendar.system c).is_leap_year (A.Calendar.date_of c self.now.inner).year) }
@@ -212,6 +264,11 @@ where
     }
 
     /// How many months the year has: 12 or 13.
+    ///
+    /// ```
+    /// let date = Date::from_rata_die(RataDie::new(738946), Hebrew);
+    /// assert!(rt; date.months_in_year() == 13);
+    /// ```
     pub fn months_in_year(&self) -> u8
         ensures { let c = A.cal_of self.now.calendar in
             result ≡ month_count (A.Calendar.system c).list (A.Calendar.date_of c self.now.inner).year }
@@ -220,6 +277,11 @@ where
     }
 
     /// How many days the year has.
+    ///
+    /// ```
+    /// let date = Date::from_rata_die(RataDie::new(738946), Gregorian);
+    /// assert!(rt; date.days_in_year() == 366);
+    /// ```
     pub fn days_in_year(&self) -> u16
         ensures { let c = A.cal_of self.now.calendar in
             result ≡ year_length (A.Calendar.system c).list (A.Calendar.date_of c self.now.inner).year }
@@ -228,6 +290,11 @@ where
     }
 
     /// How many days the month has.
+    ///
+    /// ```
+    /// let date = Date::from_rata_die(RataDie::new(738946), Hebrew);
+    /// assert!(rt; date.days_in_month() == 30);
+    /// ```
     pub fn days_in_month(&self) -> u8
         ensures { let c = A.cal_of self.now.calendar in
             let t = A.Calendar.date_of c self.now.inner in
@@ -237,6 +304,11 @@ where
     }
 
     /// The month: its place in the year, from 1, and its month codes.
+    ///
+    /// ```
+    /// let month = Date::from_rata_die(RataDie::new(738946), Hebrew).month();
+    /// assert!(rt; month.to_input() == Month::leap(5)); // Adar I
+    /// ```
     pub fn month(&self) -> MonthInfo
         ensures { let c = A.cal_of self.now.calendar in
             month_info_parts result ≡ month_info_of (A.Calendar.system c) (A.Calendar.date_of c self.now.inner) }
@@ -245,6 +317,11 @@ where
     }
 
     /// The day of the month, from 1.
+    ///
+    /// ```
+    /// let date = Date::from_rata_die(RataDie::new(738946), Hebrew);
+    /// assert!(rt; date.day_of_month().0 == 21);
+    /// ```
     pub fn day_of_month(&self) -> DayOfMonth
         ensures { result.0 ≡ (A.Calendar.date_of (A.cal_of self.now.calendar) self.now.inner).day }
     {
@@ -252,6 +329,11 @@ where
     }
 
     /// The day of the year, from 1.
+    ///
+    /// ```
+    /// let date = Date::from_rata_die(RataDie::new(738946), Iso);
+    /// assert!(rt; date.day_of_year().0 == 61);
+    /// ```
     pub fn day_of_year(&self) -> DayOfYear
         ensures { let list = (A.Calendar.system (A.cal_of self.now.calendar)).list in
             let t = A.Calendar.date_of (A.cal_of self.now.calendar) self.now.inner in
@@ -261,6 +343,11 @@ where
     }
 
     /// The day of the week: the day number modulo 7, where 0 is a Sunday.
+    ///
+    /// ```
+    /// let date = Date::from_rata_die(RataDie::new(738946), Iso);
+    /// assert!(rt; date.weekday() == Weekday::Friday);
+    /// ```
     pub fn weekday(&self) -> Weekday
         ensures { let c = A.cal_of self.now.calendar in
             let day = day_number (A.Calendar.system c).list (A.Calendar.date_of c self.now.inner) in
@@ -270,6 +357,12 @@ where
     }
 
     /// The day of an ISO date in a calendar: the date of the same day number there.
+    ///
+    /// ```
+    /// let iso = Date::try_new_iso(2024, 3, 1)?;
+    /// let date = Date::new_from_iso(iso, Buddhist);
+    /// assert!(rt; date.era_year().year == 2567);
+    /// ```
     pub fn new_from_iso(iso: Date<Iso>, calendar: A) -> Self
         ensures on { let c = A.cal_of calendar in
             let day = day_number iso_list (iso_date iso.inner) in
@@ -281,6 +374,11 @@ where
     }
 
     /// The same day as an ISO date: the one of the same day number.
+    ///
+    /// ```
+    /// let date = Date::try_new_buddhist(2567, 3, 1)?;
+    /// assert!(rt; date.to_iso().year().extended_year() == 2024);
+    /// ```
     pub fn to_iso(&self) -> Date<Iso>
         ensures { let c = A.cal_of self.now.calendar in
             let day = day_number (A.Calendar.system c).list (A.Calendar.date_of c self.now.inner) in
@@ -294,6 +392,12 @@ where
     }
 
     /// The same day in another calendar: the date of the same day number there.
+    ///
+    /// ```
+    /// let date = Date::try_new_iso(2024, 3, 1)?;
+    /// let hebrew = date.to_calendar(Hebrew);
+    /// assert!(rt; hebrew.era_year().year == 5784);
+    /// ```
     pub fn to_calendar<A2: AsCalendar>(&self, calendar: A2) -> Date<A2>
     where
         A2::Calendar: Calendar,
@@ -317,6 +421,12 @@ where
     /// [`DateAddError::InvalidDay`] where the month that the months lead to lacks the day, under
     /// [`Overflow::Reject`]; and last [`DateAddError::Overflow`] where the sum's day number isn't in the valid
     /// range.
+    ///
+    /// ```
+    /// let mut date = Date::try_new_iso(2024, 1, 31)?;
+    /// date.try_add_with_options(DateDuration::for_months(1), DateAddOptions::default())?;
+    /// assert!(rt; date.day_of_month().0 == 29); // of February
+    /// ```
     pub fn try_add_with_options(
         &mut self,
         duration: DateDuration,
@@ -344,6 +454,13 @@ where
     }
 
     /// The date with a duration added, as [`Date::try_add_with_options`].
+    ///
+    /// ```
+    /// let date = Date::try_new_iso(2024, 1, 31)?;
+    /// let month = DateDuration::for_months(1);
+    /// let later = date.try_added_with_options(month, DateAddOptions::default())?;
+    /// assert!(rt; later.day_of_month().0 == 29); // of February
+    /// ```
     pub fn try_added_with_options(
         self,
         duration: DateDuration,
@@ -376,6 +493,16 @@ where
     /// turned.
     ///
     /// An error comes exactly where the two calendars aren't compatible.
+    ///
+    /// ```
+    /// let first = Date::try_new_iso(2024, 9, 30)?;
+    /// let second = Date::try_new_iso(2024, 10, 31)?;
+    /// let months = DateDifferenceOptions {
+    ///     largest_unit: Some(DateDurationUnit::Months),
+    /// };
+    /// let Ok(difference) = first.try_until_with_options(&second, months);
+    /// assert!(rt; difference.months == 1 && difference.days == 1);
+    /// ```
     pub fn try_until_with_options<B: AsCalendar<Calendar = A::Calendar>>(
         &self,
         other: &Date<B>,
@@ -458,6 +585,11 @@ where
     A::Calendar: Calendar<Year = EraYear>,
 {
     /// The year in its era, in a calendar whose years all have one.
+    ///
+    /// ```
+    /// let year = Date::from_rata_die(RataDie::new(738946), Buddhist).era_year();
+    /// assert!(rt; year.year == 2567 && year.era.as_str() == "be");
+    /// ```
     pub fn era_year(&self) -> EraYear
         ensures { let c = A.cal_of self.now.calendar in
             Era result ≡ (A.Calendar.system c).year_info (A.Calendar.date_of c self.now.inner) }
@@ -471,6 +603,11 @@ where
     A::Calendar: Calendar<Year = CyclicYear>,
 {
     /// The year in the cycle of sixty years, in a calendar whose years are counted in it.
+    ///
+    /// ```
+    /// let date = Date::from_rata_die(RataDie::new(738946), published::chinese());
+    /// assert!(rt; date.cyclic_year().year == 41); // of 2024
+    /// ```
     pub fn cyclic_year(&self) -> CyclicYear
         ensures { let c = A.cal_of self.now.calendar in
             Cyclic result ≡ (A.Calendar.system c).year_info (A.Calendar.date_of c self.now.inner) }

@@ -45,6 +45,11 @@ where
 {
     /// The date that a text of RFC 9557 names in the ISO calendar, as a date of a calendar: as
     /// [`Date::try_from_utf8`].
+    ///
+    /// ```
+    /// let date = Date::try_from_str("2024-03-01[u-ca=hebrew]", Hebrew)?;
+    /// assert!(rt; date.era_year().year == 5784);
+    /// ```
     pub fn try_from_str(rfc_9557_str: &str, calendar: A) -> Result<Self, ParseError>
         ensures read { let c = A.cal_of calendar in
             let answer = result_map_both (λ d. A.Calendar.date_of c d.inner) parse_fault result in
@@ -65,6 +70,11 @@ where
     /// - [`ParseError::MismatchedCalendar`]: the name is that of another calendar than the date's, or
     ///   [`ParseError::UnknownCalendar`]: no calendar has the name. A calendar without a name of its own
     ///   ([`Calendar::calendar_algorithm`]) takes any name.
+    ///
+    /// ```
+    /// let date = Date::try_from_utf8(b"2024-03-01", Iso)?;
+    /// assert!(rt; date.to_rata_die().to_i64_date() == 738946);
+    /// ```
     pub fn try_from_utf8(rfc_9557_str: &[u8], calendar: A) -> Result<Self, ParseError>
         ensures read { let c = A.cal_of calendar in
             let answer = result_map_both (λ d. A.Calendar.date_of c d.inner) parse_fault result in

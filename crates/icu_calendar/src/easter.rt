@@ -13,6 +13,11 @@ use cal_julian::Julian;
 /// The date of Easter in a year of the Gregorian calendar (Reingold and Dershowitz, Calendrical Calculations,
 /// chapter 9): the first Sunday after the ecclesiastical full moon. The rule is carried on to all years. Where the day
 /// isn't in the valid range, -365242499 to 365242134, it is the nearest day of the range.
+///
+/// ```
+/// let easter = easter_gregorian(2024);
+/// assert!(rt; easter.to_rata_die().to_i64_date() == 738976); // 2024-03-31
+/// ```
 pub fn easter_gregorian(year: i32) -> Date<Gregorian>
     ensures { IsOnDayOf (IsGregorianEaster year) gregorian_system.list (gregorian_date result.inner) }
 {
@@ -21,6 +26,11 @@ pub fn easter_gregorian(year: i32) -> Date<Gregorian>
 
 /// The date of Easter in a year of the Julian calendar, by the older rule of the same kind, as
 /// [`easter_gregorian`].
+///
+/// ```
+/// let easter = easter_julian(2024);
+/// assert!(rt; easter.to_rata_die().to_i64_date() == 739011); // 2024-05-05
+/// ```
 pub fn easter_julian(year: i32) -> Date<Julian>
     ensures { IsOnDayOf (IsJulianEaster year) julian_system.list (julian_date result.inner) }
 {

@@ -4,11 +4,10 @@
 //! days in order.
 //!
 //! ```
-//! let book = Book::try_read(alloc, b"weekday,Thanksgiving,gregorian,M11,4,thursday")?;
+//! let book = Book::try_read(alloc, b"weekday,Thanksgiving,gregorian,M11,4,thursday").ok()?;
 //! let year = Window::try_new(RataDie::new(738886), RataDie::new(739251))?;
-//! for holiday in holidays(&book, Tables::none(), year, 0) {
-//!     // day 739218, November 28, 2024, of rule 0, whose name is Thanksgiving
-//! }
+//! let mut days = holidays(&book, Tables::none(), year, 0);
+//! assert!(rt; days.next()?.day.to_i64_date() == 739218); // 2024-11-28
 //! ```
 
 pub use cal_holidays::{Book, BookError, Holiday, HolidayRule, Holidays, Rest, holidays};

@@ -4,8 +4,8 @@
 //! corrections of the rule of 33 years from 1502 to 2987. Any other year is the computed one.
 //!
 //! ```
-//! let new_year = Date::try_new(2023.into(), Month::new(1), 1, published::chinese());
-//! // on 2023-01-22 of the ISO calendar
+//! let new_year = Date::try_new(2023.into(), Month::new(1), 1, published::chinese())?;
+//! assert!(rt; new_year.to_rata_die().to_i64_date() == 738542); // 2023-01-22
 //! ```
 
 pub use published_years::{

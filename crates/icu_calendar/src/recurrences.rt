@@ -21,6 +21,14 @@ where
     /// [`Missing::Constrain`](cal_recur::Missing::Constrain), with February 28 in the plain years.
     ///
     /// No memory is taken; [`recur`] says how much an item costs.
+    ///
+    /// ```
+    /// let rule = Rule::try_new(DateDurationUnit::Months, 1, Missing::Constrain)?;
+    /// let window = Window::try_new(RataDie::new(737821), RataDie::new(737910))?;
+    /// let mut items = Date::from_rata_die(RataDie::new(737821), Iso).recur(rule, window);
+    /// assert!(rt; items.next()?.day.to_i64_date() == 737821); // 2021-01-31
+    /// assert!(rt; items.next()?.day.to_i64_date() == 737849); // 2021-02-28
+    /// ```
     pub fn recur(&self, rule: Rule, window: Window) -> Recurrence<A::Calendar>
         ensures items { let s = A.Calendar.system result.calendar in
             let t = A.Calendar.date_of result.calendar result.start in

@@ -11,7 +11,7 @@ ghost use Rattle.cal_spans.specs.Spans.{IsSpan, RefusesBag};
 ghost use Rattle.icu_calendar.specs.SpanAnswers.{span_answer, HasCalendars};
 
 use crate::date::Date;
-use crate::span_parts::Span;
+use crate::span_answer::Span;
 use cal_any::AnyCalendar;
 use cal_base::{AsCalendar, Calendar};
 use cal_spans::{BagSide, SpanError};
@@ -65,6 +65,14 @@ where
 
 /// The dates that two bags of fields name in a calendar. Where a bag names no date, the error has its side and its
 /// first fault; the first bag comes first.
+///
+/// ```
+/// let from = DateFields::from_year_month_day(2024, Month::new(9), 30);
+/// let to = DateFields::from_year_month_day(2024, Month::new(10), 31);
+/// let dates = named_dates(from, to, DateFromFieldsOptions::default(), Iso)?;
+/// assert!(rt; dates.from().month().number() == 9 && dates.to().month().number() == 10);
+/// assert!(rt; dates.duration(DateDifferenceOptions::default()).days == 31);
+/// ```
 pub fn named_dates<A: AsCalendar + Copy>(
     from: DateFields<'_>,
     to: DateFields<'_>,
@@ -128,6 +136,17 @@ where
 /// [`Overflow::Constrain`], it gives the second.
 ///
 /// Where a bag names no date, the error has its side and its first fault; the first bag comes first.
+///
+/// ```
+/// let from = DateFields::from_year_month_day(2024, Month::new(9), 30);
+/// let to = DateFields::from_year_month_day(2024, Month::new(10), 31);
+/// let in_days = DateDifferenceOptions::default();
+/// let iso = AnyCalendar::Iso(Iso);
+/// let hebrew = AnyCalendar::Hebrew(Hebrew);
+/// let reject = DateFromFieldsOptions::default();
+/// let span = span(from, to, reject, in_days, iso, hebrew)?;
+/// assert!(rt; span.duration.days == 31);
+/// ```
 pub fn span<'t>(
     from: DateFields<'_>,
     to: DateFields<'_>,

@@ -39,6 +39,11 @@ impl Date<Iso> {
     /// The week of the date, and the year that it belongs to (ISO 8601): a week runs from Monday to Sunday, and
     /// belongs to the year of its Thursday, so that week 1 has the year's first Thursday. That year may be the one
     /// before the date's, or the one after it.
+    ///
+    /// ```
+    /// let week = Date::from_rata_die(RataDie::new(739250), Iso).week_of_year(); // 2024-12-30
+    /// assert!(rt; week.week_number == 1 && week.iso_year == 2025);
+    /// ```
     pub fn week_of_year(&self) -> IsoWeekOfYear
         ensures { let day = day_number iso_list (iso_date self.now.inner) in
             IsInWeek day result.iso_year result.week_number }

@@ -27,9 +27,10 @@ pub type Anniversaries<'t> = cal_anniversary::Anniversaries<AnyCalendar<'t>>;
 /// ```
 /// let window = Window::try_new(RataDie::new(738521), RataDie::new(739616))?;
 /// let hebrew = AnyCalendar::Hebrew(Hebrew);
-/// for day in anniversaries(hebrew, Month::leap(5), 10, Leaping::Constrain, window)? {
-///     // the days 738582, 738935 and 739320: 2023-03-03, 2024-02-19 and 2025-03-10
-/// }
+/// let mut days = anniversaries(hebrew, Month::leap(5), 10, Leaping::Constrain, window).ok()?;
+/// assert!(rt; days.next()?.to_i64_date() == 738582); // 2023-03-03
+/// assert!(rt; days.next()?.to_i64_date() == 738935); // 2024-02-19
+/// assert!(rt; days.next()?.to_i64_date() == 739320); // 2025-03-10
 /// ```
 ///
 /// # Errors

@@ -89,7 +89,7 @@ macro_rules! with_made {
     }};
 }
 
-// The tabular Hijri calendar with these leap years, from a day on.
+/// The tabular Hijri calendar with these leap years, from a day on.
 fn tabular(
     leap_years: TabularAlgorithmLeapYears,
     epoch: TabularAlgorithmEpoch,
@@ -99,7 +99,7 @@ fn tabular(
     Hijri::new_tabular(leap_years, epoch)
 }
 
-// What a question is answered in the calendar of a kind over tables.
+/// What a question is answered in the calendar of a kind over tables.
 fn ask_kind<Q: Question>(question: &Q, kind: AnyCalendarKind, tables: &Tables<'_>) -> Q::Answer
     ensures { Q.answers question.now (kind_system (table_contents tables.now) kind) result }
 {

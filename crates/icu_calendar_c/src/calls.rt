@@ -23,7 +23,7 @@ use crate::outcomes::{
 use crate::rooms::put;
 use cal_types::{DateAddOptions, DateDifferenceOptions, DateFields, DateFromFieldsOptions};
 
-// The date of a day in a calendar.
+/// The date of a day in a calendar.
 fn show_day(chosen: &Chosen, day: i64, date: &mut CalendarDate) -> u8
     ensures { ShowsDay (choice_system chosen.now) day result date.old date.new }
 {
@@ -55,7 +55,7 @@ pub extern "C" fn icu_calendar_date_of_day(
     }
 }
 
-// Tells a caller why there is no date.
+/// Tells a caller why there is no date.
 fn refuse(fault: Fault, max: &mut u8) -> u8
     ensures code { result ≡ fault.code }
     ensures max { max.new ≡ fault.max }
@@ -64,7 +64,7 @@ fn refuse(fault: Fault, max: &mut u8) -> u8
     fault.code
 }
 
-// The date that fields name in a calendar.
+/// The date that fields name in a calendar.
 fn name_date(
     chosen: &Chosen,
     fields: DateFields<'_>,
@@ -84,7 +84,7 @@ fn name_date(
     }
 }
 
-// The same, with the codes of the options.
+/// The same, with the codes of the options.
 fn name_with(
     chosen: &Chosen,
     fields: DateFields<'_>,
@@ -144,7 +144,7 @@ pub extern "C" fn icu_calendar_date_of_fields(
     }
 }
 
-// The date that a duration leads to from a day in a calendar.
+/// The date that a duration leads to from a day in a calendar.
 fn add_to(chosen: &Chosen, sum: &Sum, date: &mut CalendarDate, max: &mut u8) -> u8
     requires { max.old ≡ 0 }
     ensures { let overflow = add_overflow_of sum.now.options.overflow in
@@ -159,7 +159,7 @@ fn add_to(chosen: &Chosen, sum: &Sum, date: &mut CalendarDate, max: &mut u8) -> 
     }
 }
 
-// The same, with the code of the option and the number of the day.
+/// The same, with the code of the option and the number of the day.
 fn add_in(
     chosen: &Chosen,
     day: i64,
@@ -213,7 +213,7 @@ pub extern "C" fn icu_calendar_add(
     }
 }
 
-// How far a second day is from a first one in a calendar.
+/// How far a second day is from a first one in a calendar.
 fn differ_in(
     chosen: &Chosen,
     first: i64,
@@ -265,7 +265,7 @@ pub extern "C" fn icu_calendar_until(
     }
 }
 
-// The code of the era of a day's year in a calendar.
+/// The code of the era of a day's year in a calendar.
 fn show_era(chosen: &Chosen, day: i64, room: &mut [u8], written: &mut usize) -> u8
     requires { written.old ≡ 0 }
     ensures { ShowsEra (choice_system chosen.now) day result room.old room.new written.new }

@@ -31,14 +31,14 @@ pub struct CalendarDate {
     pub day: u8,
 }
 
-// 1 for what is so, 0 for what isn't.
+/// 1 for what is so, 0 for what isn't.
 fn flag(holds: bool) -> u8
     ensures { result ≡ flag holds }
 {
     u8::from(holds)
 }
 
-// What a year is numbered by.
+/// What a year is numbered by.
 #[derive(Clone, Copy, Debug)]
 struct YearNumbers {
     extended: i32,
@@ -46,7 +46,7 @@ struct YearNumbers {
     in_cycle: u8,
 }
 
-// The numbers of a year.
+/// The numbers of a year.
 fn numbers_of(year: YearInfo) -> YearNumbers
     ensures extended { result.extended ≡ extended_year_of year }
     ensures in_era { result.in_era ≡ era_year_or_related_iso_of year }

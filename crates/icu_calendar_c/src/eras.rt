@@ -8,7 +8,7 @@ use crate::questions::Question;
 use cal_base::Calendar;
 use cal_types::{IntoYearInfo, TinyAsciiStr, YearInfo};
 
-// The code of a year's era, without a byte where the year is one of a cycle.
+/// The code of a year's era, without a byte where the year is one of a cycle.
 fn era_of(year: YearInfo) -> TinyAsciiStr<16>
     ensures { result ≡ era_text year }
 {

@@ -34,14 +34,14 @@ pub struct CalendarFields {
     pub day: u8,
 }
 
-// A value that is given where a number isn't 0.
+/// A value that is given where a number isn't 0.
 fn given_if<T: Copy>(has: u8, value: T) -> Option<T>
     ensures { result ≡ given_if has value }
 {
     if has == 0 { None } else { Some(value) }
 }
 
-// The month of a number, which is a leap month where the second number isn't 0.
+/// The month of a number, which is a leap month where the second number isn't 0.
 fn month_of(number: u8, leap: u8) -> Month
     ensures { month_parts result ≡ month_of number leap }
 {
@@ -52,7 +52,7 @@ fn month_of(number: u8, leap: u8) -> Month
     }
 }
 
-// A month that is given where a number isn't 0.
+/// A month that is given where a number isn't 0.
 fn month_if(has: u8, number: u8, leap: u8) -> Option<Month>
     ensures { option_map month_parts result ≡ given_if has (month_of number leap) }
 {
@@ -63,7 +63,7 @@ fn month_if(has: u8, number: u8, leap: u8) -> Option<Month>
     }
 }
 
-// A text that is given where it has a byte.
+/// A text that is given where it has a byte.
 fn text_if(text: &[u8]) -> Option<&[u8]>
     ensures { option_map (λ bytes. bytes.now) result ≡ text_given text.now }
 {

@@ -16,7 +16,7 @@ use calspan_run::{Status, code, run};
 use std::alloc::Global;
 use std::str;
 
-// Puts the answers where they are wanted.
+/// Puts the answers where they are wanted.
 fn hand_over(status: Status, answers: &[u8], output: &mut [u8], written: &mut usize) -> u8
     ensures count { written.new ≡ length answers.now }
     ensures fits { result ≢ 8 → (result ≡ code_of status)
@@ -30,7 +30,7 @@ fn hand_over(status: Status, answers: &[u8], output: &mut [u8], written: &mut us
     }
 }
 
-// What the words of a text ask for, over an input in memory.
+/// What the words of a text ask for, over an input in memory.
 fn answer(alloc: Global, text: &str, input: &[u8], output: &mut [u8], written: &mut usize) -> u8
     ensures words { result ≢ 5 → (result ≡ 2) ↔ (command_of (words_in text.now) ≡ None) }
     ensures answered { (asked : Asked) → command_of (words_in text.now) ≡ Some asked → length input.now ≤ limit

@@ -5,7 +5,7 @@ ghost use Rattle.icu_calendar_c.specs.Words.{words_in};
 
 use std::alloc::Global;
 
-// The words, and one more behind them. None where there is no memory for it.
+/// The words, and one more behind them. None where there is no memory for it.
 fn with_word(alloc: Global, mut words: Vec<String>, word: &str) -> Option<Vec<String>>
     ensures { IfSome result (λ all. map string_bytes all.items
         ≡ map string_bytes words.items ++ (word.now ∷ [])) }

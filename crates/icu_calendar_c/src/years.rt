@@ -31,7 +31,7 @@ pub extern "C" fn icu_calendar_easter(rule: u8, year: i32, day: &mut i64) -> u8
     UNKNOWN_OPTION
 }
 
-// The week of a day.
+/// The week of a day.
 fn week_of(day: ValidDay) -> IsoWeekOfYear
     ensures { IsInWeek day.day result.iso_year result.week_number }
 {

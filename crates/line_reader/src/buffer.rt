@@ -14,7 +14,7 @@ pub struct LineBuffer {
     ghost full: { IsTrue over → array_vec_len prefix ≡ 512 },
 }
 
-// Appends bytes for which there is room.
+/// Appends bytes for which there is room.
 fn push_all(prefix: &mut ArrayVec<u8, 512>, bytes: &[u8])
     requires { array_vec_len prefix.old + length bytes.now ≤ 512 }
     ensures { prefix.new.items ≡ prefix.old.items ++ bytes.now }

@@ -49,7 +49,7 @@ pub struct Reader {
     ghost few: { lines + (end - at) ≤ total },
 }
 
-// The search is set up at its call, which an empty line is spared.
+/// The search is set up at its call, which an empty line is spared.
 fn first_line_feed(bytes: &[u8]) -> Option<usize>
     ensures value { result ≡ position (λ b. b == 10) bytes.now }
     ensures within { IfSome result (λ i. i < length bytes.now) }
@@ -60,7 +60,7 @@ fn first_line_feed(bytes: &[u8]) -> Option<usize>
     memchr(b'\n', bytes)
 }
 
-// Puts the bytes up to an LF into the line, and says how many they are with it, if one is there.
+/// Puts the bytes up to an LF into the line, and says how many they are with it, if one is there.
 fn look(bytes: &[u8], line: &mut LineBuffer) -> Option<usize>
     ensures looks { Looks result bytes.now line.old line.new }
     ensures some { IfSome result (λ n. (0 < n) × (n ≤ length bytes.now)) }

@@ -1,8 +1,8 @@
 use crate::{Filled, LineBuffer, Next, Reader};
 use byte_io::{MemorySource, Source};
 
-// Reads the source to its end, and says how many lines it has, how many bytes the longest prefix
-// has, and how many bytes follow the last LF.
+/// Reads the source to its end, and says how many lines it has, how many bytes the longest prefix
+/// has, and how many bytes follow the last LF.
 fn lines_of<S: Source>(source: &mut S) -> (u64, usize, usize) {
     let mut reader = Reader::new();
     let mut line = LineBuffer::new();

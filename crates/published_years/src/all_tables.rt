@@ -14,6 +14,7 @@ use cal_tables::Tables;
 ///
 /// ```
 /// let calendar = AnyCalendar::new(AnyCalendarKind::Chinese, published_years::tables());
+/// assert!(rt; calendar.kind() == AnyCalendarKind::Chinese);
 /// ```
 pub fn tables() -> Tables<'static>
     ensures { table_contents result ≡ published_contents }

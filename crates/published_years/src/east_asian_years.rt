@@ -48,8 +48,9 @@ pub fn korea_table() -> EastAsianTable<'static>
 /// has mean new moons and mean solar terms: its new year may fall a day or a month beside the real one.
 ///
 /// ```
-/// let new_year = Date::try_new(2023.into(), Month::new(1), 1, published_years::chinese());
-/// // on 2023-01-22 of the ISO calendar
+/// let chinese = published_years::chinese();
+/// let new_year = Date::try_new(2023.into(), Month::new(1), 1, chinese)?;
+/// assert!(rt; new_year.to_rata_die().to_i64_date() == 738542); // 2023-01-22
 /// ```
 pub fn chinese() -> ChineseTraditional<'static>
     ensures side { result.0.table.side ≡ side.China }
@@ -64,8 +65,9 @@ pub fn chinese() -> ChineseTraditional<'static>
 /// has mean new moons and mean solar terms: its new year may fall a day or a month beside the real one.
 ///
 /// ```
-/// let new_year = Date::try_new(2027.into(), Month::new(1), 1, published_years::korean());
-/// // on 2027-02-07 of the ISO calendar, a day after China's
+/// let korean = published_years::korean();
+/// let new_year = Date::try_new(2027.into(), Month::new(1), 1, korean)?;
+/// assert!(rt; new_year.to_rata_die().to_i64_date() == 740019); // 2027-02-07, a day after China's
 /// ```
 pub fn korean() -> KoreanTraditional<'static>
     ensures side { result.0.table.side ≡ side.Korea }

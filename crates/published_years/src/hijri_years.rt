@@ -26,8 +26,9 @@ pub fn umm_al_qura_table() -> HijriTable<'static>
 /// of type II, from Friday on.
 ///
 /// ```
-/// let ramadan = Date::try_new(1446.into(), Month::new(9), 1, published_years::umm_al_qura());
-/// // on 2025-03-01 of the ISO calendar
+/// let umm_al_qura = published_years::umm_al_qura();
+/// let ramadan = Date::try_new(1446.into(), Month::new(9), 1, umm_al_qura)?;
+/// assert!(rt; ramadan.to_rata_die().to_i64_date() == 739311); // 2025-03-01
 /// ```
 pub fn umm_al_qura() -> Hijri<UmmAlQura<'static>>
     ensures { result.0.table.rows.now ≡ UMM_AL_QURA }

@@ -22,8 +22,9 @@ pub fn persian_corrections() -> PersianCorrections<'static>
 /// rule of 33 years alone; from 1350 to 3000 it has the new years of ICU 78.
 ///
 /// ```
-/// let new_year = Date::try_new(1404.into(), Month::new(1), 1, published_years::persian());
-/// // on 2025-03-21 of the ISO calendar
+/// let persian = published_years::persian();
+/// let new_year = Date::try_new(1404.into(), Month::new(1), 1, persian)?;
+/// assert!(rt; new_year.to_rata_die().to_i64_date() == 739331); // 2025-03-21
 /// ```
 pub fn persian() -> Persian<'static>
     ensures { result.corrections.years.now ≡ CORRECTED_YEARS }

@@ -167,7 +167,7 @@ fn the_first_index(rt: HostRuntime) {
     }
 }
 
-/// That a rule gives nothing after the start, ten days before the last valid day.
+/// That a rule has no occurrence after the start, ten days before the last valid day.
 fn assert_alone(rt: &impl Abort, unit: DateDurationUnit, every: u32) {
     let rule = rule_of(rt, unit, every, Missing::Constrain);
     assert_found(rt, &Iso, 365242124, rule, (365242125, 1), (None, None));

@@ -13,7 +13,7 @@ use cal_spans::{BagSide, SpanError};
 use cal_types::{DateDuration, DateFromFieldsError, Month, YearInfo};
 use request_parts::DayParts;
 
-// A year of an era, or of a cycle.
+/// A year of an era, or of a cycle.
 fn push_year(text: &mut Pending, year: &YearInfo)
     requires { array_vec_len text.old + 40 ≤ 8192 }
     ensures items { text.new.items ≡ text.old.items ++ year_text year.now }
@@ -32,7 +32,7 @@ fn push_year(text: &mut Pending, year: &YearInfo)
     }
 }
 
-// A part of a duration, where it isn't 0.
+/// A part of a duration, where it isn't 0.
 fn push_part(text: &mut Pending, count: u32, letter: u8)
     requires { array_vec_len text.old + 21 ≤ 8192 }
     ensures items { text.new.items ≡ text.old.items ++ part_text count letter }
@@ -44,7 +44,7 @@ fn push_part(text: &mut Pending, count: u32, letter: u8)
     }
 }
 
-// The parts of a duration that aren't 0, in the order of their units.
+/// The parts of a duration that aren't 0, in the order of their units.
 fn push_parts(text: &mut Pending, duration: &DateDuration)
     requires { array_vec_len text.old + 84 ≤ 8192 }
     ensures items { text.new.items ≡ text.old.items ++ parts_text duration.now }
@@ -56,14 +56,14 @@ fn push_parts(text: &mut Pending, duration: &DateDuration)
     push_part(text, duration.days, b'D');
 }
 
-// Whether all parts of a duration are 0.
+/// Whether all parts of a duration are 0.
 fn is_zero(duration: &DateDuration) -> bool
     ensures { IsTrue result ↔ (parts_text duration.now ≡ []) }
 {
     duration.years == 0 && duration.months == 0 && duration.weeks == 0 && duration.days == 0
 }
 
-// The sign of a duration.
+/// The sign of a duration.
 fn push_sign(text: &mut Pending, is_negative: bool)
     requires { array_vec_len text.old + 1 ≤ 8192 }
     ensures items { text.new.items ≡ text.old.items ++ (if is_negative then 45 ∷ [] else []) }
@@ -116,7 +116,7 @@ pub fn push_cause(text: &mut Pending, cause: DateFromFieldsError)
     }
 }
 
-// Which bag is at fault.
+/// Which bag is at fault.
 fn push_side(text: &mut Pending, side: BagSide)
     requires { array_vec_len text.old + 4 ≤ 8192 }
     ensures items { text.new.items ≡ text.old.items ++ side_text side }
@@ -140,7 +140,7 @@ pub fn push_error(text: &mut Pending, error: SpanError)
     text.push(b'\n');
 }
 
-// A month's code.
+/// A month's code.
 fn push_month(text: &mut Pending, month: Month)
     requires { array_vec_len text.old + 4 ≤ 8192 }
     ensures items { text.new.items ≡ text.old.items ++ code_text (month_parts month) }

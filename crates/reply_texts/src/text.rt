@@ -10,7 +10,7 @@ use itoa::Buffer;
 /// The answers that weren't written yet.
 pub type Pending = ArrayVec<u8, 8192>;
 
-// The numbers below 100 in two digits each.
+/// The numbers below 100 in two digits each.
 static PAIRS: [u8; 200] =
     *b"00010203040506070809101112131415161718192021222324252627282930313233343536373839404142434445464748495051525354555657585960616263646566676869707172737475767778798081828384858687888990919293949596979899";
 
@@ -22,7 +22,7 @@ pub fn push_all(text: &mut Pending, bytes: &[u8])
     let _fits = text.try_extend_from_slice(bytes);
 }
 
-// Appends a number below 100 in decimal.
+/// Appends a number below 100 in decimal.
 fn push_below_100(text: &mut Pending, number: u64)
     requires room { array_vec_len text.old + 2 ≤ 8192 }
     requires small { number < 100 }
@@ -36,7 +36,7 @@ fn push_below_100(text: &mut Pending, number: u64)
     }
 }
 
-// Appends a number below 10000 in decimal.
+/// Appends a number below 10000 in decimal.
 fn push_below_10000(text: &mut Pending, number: u64)
     requires room { array_vec_len text.old + 4 ≤ 8192 }
     requires small { number < 10000 }

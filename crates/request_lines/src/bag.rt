@@ -14,7 +14,7 @@ use crate::words::Words;
 use cal_types::{DateFields, Month};
 use word_values::read_month_code;
 
-// A field of a bag, and its value.
+/// A field of a bag, and its value.
 #[derive(Clone, Copy, Debug)]
 enum Field<'a> {
     Era(&'a [u8]),
@@ -28,7 +28,7 @@ enum Field<'a> {
 
 ghost use Rattle.request_lines.specs.FieldSaid.{field_said};
 
-// Sets a field that isn't set. None where it is, since a key stands at most once in a bag.
+/// Sets a field that isn't set. None where it is, since a key stands at most once in a bag.
 fn set_field<'a>(fields: &mut DateFields<'a>, field: Field<'a>) -> Option<()>
     ensures { let with = with_field (bag_of fields.old) (field_said field.entry) in
         MatchOption result (with ≡ None) (λ _. with ≡ Some (bag_of fields.new)) }
@@ -49,7 +49,7 @@ fn set_field<'a>(fields: &mut DateFields<'a>, field: Field<'a>) -> Option<()>
     }
     Some(())
 }
-// The month whose code the next word is.
+/// The month whose code the next word is.
 fn next_month(words: &mut Words) -> Option<Month>
     ensures { let reading = next_word month_read (words_left words.old) in
         IsReading reading (option_map month_parts result) (words_left words.new) }
@@ -57,8 +57,8 @@ fn next_month(words: &mut Words) -> Option<Month>
     read_month_code(words.next()?)
 }
 
-// Sets the field that the next word KEY=VALUE names, of those that name a date beside an extended year, a month
-// and a day. What it needs is set up at the call, which the fields that are often given are spared.
+/// Sets the field that the next word KEY=VALUE names, of those that name a date beside an extended year, a month
+/// and a day. What it needs is set up at the call, which the fields that are often given are spared.
 #[inline(never)]
 fn set_next_rarer_field<'a>(fields: &mut DateFields<'a>, words: &mut Words<'a>) -> Option<()>
     ensures { let reading = next_word (with_rarer_word (bag_of fields.old)) (words_left words.old) in
@@ -79,8 +79,8 @@ fn set_next_rarer_field<'a>(fields: &mut DateFields<'a>, words: &mut Words<'a>) 
     None
 }
 
-// Sets the field that the next word KEY=VALUE names. None where the key isn't known, the value isn't one of it,
-// or the field is set.
+/// Sets the field that the next word KEY=VALUE names. None where the key isn't known, the value isn't one of it,
+/// or the field is set.
 #[inline(always)]
 fn set_next_field<'a>(fields: &mut DateFields<'a>, words: &mut Words<'a>) -> Option<()>
     ensures { let reading = next_word (with_word (bag_of fields.old)) (words_left words.old) in
@@ -122,7 +122,7 @@ pub fn read_bag<'a>(fields: &mut DateFields<'a>, words: &mut Words<'a>) -> Optio
     Some(())
 }
 
-// Whether a word holds no space and no line feed.
+/// Whether a word holds no space and no line feed.
 fn is_whole_word(word: &[u8]) -> bool
     ensures { result ≡ list_all is_word_byte word.now }
 {

@@ -42,7 +42,7 @@ pub enum LineKind<'a> {
 
 ghost use Rattle.request_lines.specs.LineSaid.{line_said, IsKind};
 
-// Without the one carriage return at its end.
+/// Without the one carriage return at its end.
 fn without_return(line: &[u8]) -> &[u8]
     ensures { result.now ≡ strip_carriage_return line.now }
 {
@@ -52,21 +52,21 @@ fn without_return(line: &[u8]) -> &[u8]
     }
 }
 
-// Whether a line is a row line: `row`, alone or before a space.
+/// Whether a line is a row line: `row`, alone or before a space.
 fn is_row(text: &[u8]) -> bool
     ensures { result ≡ text_is_row text.now }
 {
     text == b"row".as_slice() || text.starts_with(b"row ")
 }
 
-// Whether bytes, as a line, give nothing.
+/// Whether bytes, as a line, are ignored.
 fn gives_nothing(line: &[u8]) -> bool
     ensures { result ≡ line_is_silent line.now }
 {
     without_return(line).is_empty() || line[0] == b'#'
 }
 
-/// Whether a line gives nothing: without the carriage return at its end it is empty, or it begins with `#`.
+/// Whether a line is ignored: without the carriage return at its end it is empty, or it begins with `#`.
 pub fn is_silent(line: &LineBuffer) -> bool
     ensures { (whole : List ℕ) → Holds line.now whole → result ≡ line_is_silent whole }
 {

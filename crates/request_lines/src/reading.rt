@@ -9,7 +9,7 @@ ghost use Rattle.request_lines.specs.Requests.{fixed_word};
 
 use crate::words::Words;
 
-/// A word that says nothing of its own: None where the next word isn't this one, which holds no space.
+/// A fixed word of a form, as `from`: None where the next word isn't this one, which holds no space.
 pub fn next_is(words: &mut Words, name: &[u8]) -> Option<()>
     requires { list_all is_no_space name.now ≡ true }
     ensures { IsReading (next_word (fixed_word name.now) (words_left words.old)) result (words_left words.new) }

@@ -79,21 +79,21 @@ fn next_kind(words: &mut Words) -> Option<RowKind>
     }
 }
 
-// Whether each letter is `l` or `s`.
+/// Whether each letter is `l` or `s`.
 fn all_lengths(word: &[u8]) -> bool
     ensures { result ≡ list_all is_length word.now }
 {
     word.iter().all(|letter| *letter == b'l' || *letter == b's')
 }
 
-// Whether a word has 12 to `most` letters, each `l` or `s`.
+/// Whether a word has 12 to `most` letters, each `l` or `s`.
 fn are_month_lengths(word: &[u8], most: usize) -> bool
     ensures { result ≡ are_lengths most word.now }
 {
     12 <= word.len() && word.len() <= most && all_lengths(word)
 }
 
-// The lengths of 12 to `most` months, which are the next word.
+/// The lengths of 12 to `most` months, which are the next word.
 fn next_lengths<'a>(words: &mut Words<'a>, most: usize) -> Option<&'a [u8]>
     ensures { let reading = next_word (lengths_of most) (words_left words.old) in
         IsReading reading (option_map (λ l. l.now) result) (words_left words.new) }
@@ -106,7 +106,7 @@ fn next_lengths<'a>(words: &mut Words<'a>, most: usize) -> Option<&'a [u8]>
     }
 }
 
-// The place of the leap month that the next word spells: above 0 where there are 13 lengths, and 0 where there are 12.
+/// The place of the leap month that the next word spells: above 0 where there are 13 lengths, and 0 where there are 12.
 fn next_leap(words: &mut Words, lengths: &[u8]) -> Option<u8>
     ensures { IsReading (next_word (leap_of lengths.now) (words_left words.old)) result (words_left words.new) }
 {
@@ -119,21 +119,21 @@ fn next_leap(words: &mut Words, lengths: &[u8]) -> Option<u8>
     }
 }
 
-// Whether each letter is from `a` to `z`.
+/// Whether each letter is from `a` to `z`.
 fn all_code_letters(word: &[u8]) -> bool
     ensures { result ≡ list_all is_code_letter word.now }
 {
     word.iter().all(|letter| b'a' <= *letter && *letter <= b'z')
 }
 
-// Whether a word is one to eight letters `a` to `z`.
+/// Whether a word is one to eight letters `a` to `z`.
 fn is_code(word: &[u8]) -> bool
     ensures { result ≡ is_era_code word.now }
 {
     !word.is_empty() && word.len() <= 8 && all_code_letters(word)
 }
 
-// The code of an era that the next word is.
+/// The code of an era that the next word is.
 fn next_code<'a>(words: &mut Words<'a>) -> Option<&'a [u8]>
     ensures value { let reading = next_word code_of (words_left words.old) in
         IsReading reading (option_map (λ c. c.now) result) (words_left words.new) }
@@ -193,7 +193,7 @@ fn read_era<'a>(words: &mut Words<'a>) -> Option<EraRow<'a>>
     })
 }
 
-// What stands behind the word for the kind.
+/// What stands behind the word for the kind.
 fn read_parts<'a>(kind: RowKind, words: &mut Words<'a>) -> Option<Row<'a>>
     ensures { let reading = parts_read kind (words_left words.old) in
         IsReading reading (option_map row_said result) (words_left words.new) }

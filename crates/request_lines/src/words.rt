@@ -13,7 +13,7 @@ fn first_space(text: &[u8]) -> Option<usize>
     text.iter().position(|b| *b == b' ')
 }
 
-// The first word, and the text of the others, if there are others.
+/// The first word, and the text of the others, if there are others.
 fn cut(text: &[u8]) -> (&[u8], Option<&[u8]>)
     ensures { words_of text.now ≡ result.0.now ∷ words_from result.1 }
 {
@@ -23,7 +23,7 @@ fn cut(text: &[u8]) -> (&[u8], Option<&[u8]>)
     }
 }
 
-// The first bytes of a text, `most` of them where there are as many.
+/// The first bytes of a text, `most` of them where there are as many.
 fn first_bytes(text: &[u8], most: usize) -> &[u8]
     ensures { result.now ≡ take most text.now }
 {

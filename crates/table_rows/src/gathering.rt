@@ -41,10 +41,10 @@ pub enum Gathered {
     Stopped(Stop),
 }
 
-// What a line did among the row lines.
+/// What a line did among the row lines.
 #[derive(Clone, Copy, Debug, PartialEq, Eq)]
 pub(crate) enum LineGathered {
-    // It gives nothing, or a row that is kept.
+    // It is ignored, or gives a row that is kept.
     GoesOn,
     // It is another line.
     Request,
@@ -56,7 +56,7 @@ pub(crate) enum LineGathered {
 
 ghost use Rattle.table_rows.specs.Gathering.{Gathers, IsGathered, IsSaidGathered};
 
-// What a line did that isn't silent. What its row needs is set up at the call, which a silent line is spared.
+/// What a line did that isn't silent. What its row needs is set up at the call, which a silent line is spared.
 #[inline(never)]
 pub(crate) fn gather_said(rows: &mut TableRows, line: &LineBuffer) -> LineGathered
     ensures { (whole : List ℕ) → Holds line.now whole → line_is_silent whole ≡ false
@@ -83,7 +83,7 @@ fn gather_line(rows: &mut TableRows, line: &LineBuffer) -> LineGathered
     }
 }
 
-// What follows the last LF, behind this many lines, at the end of the source.
+/// What follows the last LF, behind this many lines, at the end of the source.
 fn gather_last(rows: &mut TableRows, lines: u64, line: &LineBuffer) -> Gathered
     requires { lines ≤ 16777216 }
     ensures { (left l l2 : Option (List ℕ)) (faults more : ℕ) (reader mid q : Reader) (before : LineBuffer)

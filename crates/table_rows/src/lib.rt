@@ -11,7 +11,7 @@
 //! `YEAR` and `START`, the day number of the year's first day, are an optional `-` and 1 to 9 digits. `LENGTHS` has a
 //! letter for each month, `s` for 29 days and `l` for 30: 12 of them, or for China and Korea 13 with the place of the
 //! leap month as `LEAP`, which is 0 otherwise. `MONTH`, `DAY` and `INDEX` are numbers up to 255, and `CODE` is 1 to 8
-//! letters `a` to `z`. Lines that are empty or begin with `#` give nothing.
+//! letters `a` to `z`. Lines that are empty or begin with `#` are ignored.
 //!
 //! [`TableRows::try_read`] reads a whole text, and [`TableRows::take_line`] takes one line. [`TableRows::tables`] tests the
 //! rows, and has the tables of them. [`gather`] reads the row lines at the head of any source.

@@ -12,7 +12,7 @@ use line_reader::{LineBuffer, Reader};
 use request_lines::is_silent;
 use std::alloc::Global;
 
-// A line that is no row line.
+/// A line that is no row line.
 fn other_line(long: bool) -> RowError
     ensures { result ≡ (if long then RowError.LongLine else RowError.NoRow) }
 {
@@ -23,7 +23,7 @@ fn other_line(long: bool) -> RowError
     }
 }
 
-// The line of a text that is no row line.
+/// The line of a text that is no row line.
 fn other_line_of(line: u64, long: bool) -> RowsError
     ensures { result ≡ (if long then RowsError.LongLine line else RowsError.NoRow line) }
 {
@@ -36,7 +36,7 @@ fn other_line_of(line: u64, long: bool) -> RowsError
 
 impl TableRows {
     /// Takes one line, the bytes before its LF, and answers whether its row was kept behind the others of its table: a
-    /// line that is empty, but for a carriage return at its end, or begins with `#` gives nothing.
+    /// line that is empty, but for a carriage return at its end, or begins with `#` is ignored.
     ///
     /// ```text
     /// let mut rows = TableRows::new(alloc);
@@ -64,7 +64,7 @@ impl TableRows {
         }
     }
 
-    /// The rows of a text: each of its lines gives nothing or a row, as for [`TableRows::take_line`]. The lines end with
+    /// The rows of a text: each line is ignored or gives a row, as for [`TableRows::take_line`]. The lines end with
     /// LFs, and what stands behind the last LF is a line too.
     ///
     /// ```text

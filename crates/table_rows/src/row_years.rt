@@ -14,7 +14,7 @@ use cal_east_asian::{EastAsianRow, EastAsianTraditionalYear};
 use cal_hijri::{HijriRow, HijriYear};
 use request_lines::YearRow;
 
-// The days of a month by its letter.
+/// The days of a month by its letter.
 fn letter_len(letter: u8) -> i64
     ensures value { result ≡ pos (letter_days letter) }
     ensures most { letter_days letter ≤ 30 }
@@ -22,7 +22,7 @@ fn letter_len(letter: u8) -> i64
     if letter == b'l' { 30 } else { 29 }
 }
 
-// The days of the month at an index: 30 or 29 by its letter, and 0 behind the last letter.
+/// The days of the month at an index: 30 or 29 by its letter, and 0 behind the last letter.
 fn month_days(letters: &[u8], index: usize) -> i64
     ensures value { result ≡ pos (days_at letters.now index) }
     ensures most { days_at letters.now index ≤ 30 }
@@ -33,7 +33,7 @@ fn month_days(letters: &[u8], index: usize) -> i64
     }
 }
 
-// The first days of months that have these lengths, from a first day on.
+/// The first days of months that have these lengths, from a first day on.
 fn month_starts<const N: usize>(start: i32, letters: &[u8]) -> [RataDie; N]
     requires { N ≤ 14 }
     ensures { result ≡ starts_of N start letters.now }
@@ -49,7 +49,7 @@ fn month_starts<const N: usize>(start: i32, letters: &[u8]) -> [RataDie; N]
     starts
 }
 
-// The Hijri year of a row, where it gives one.
+/// The Hijri year of a row, where it gives one.
 fn hijri_year(row: &YearRow<'_>) -> Option<HijriYear>
     ensures { MatchOption result ((y : HijriYear) → IsHijriYear (year_row_said row.now) y → ⊥)
         (IsHijriYear (year_row_said row.now)) }
@@ -69,14 +69,14 @@ pub fn hijri_row(row: &YearRow<'_>) -> Option<HijriRow>
     }
 }
 
-// The place of a leap month, where a row gives one.
+/// The place of a leap month, where a row gives one.
 fn leap_place(leap: u8) -> Option<u8>
     ensures { leap_place_read result ≡ (if is_leap_place leap then Some leap else None) }
 {
     if leap == 0 { None } else { Some(leap) }
 }
 
-// The Chinese or Korean year of a row, where it gives one.
+/// The Chinese or Korean year of a row, where it gives one.
 fn east_asian_year(row: &YearRow<'_>) -> Option<EastAsianTraditionalYear>
     ensures { MatchOption result ((y : EastAsianTraditionalYear) → IsEastAsianYear (year_row_said row.now) y → ⊥)
         (IsEastAsianYear (year_row_said row.now)) }

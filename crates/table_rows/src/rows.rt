@@ -41,7 +41,7 @@ pub enum Taken {
 
 ghost use Rattle.table_rows.specs.RowsSaid.{AreErasKept, IsKept, IsTaken, IsYearKept, rows_said};
 
-// Keeps a row behind the others of its table.
+/// Keeps a row behind the others of its table.
 fn keep<T: Drop>(rows: &mut Vec<T>, row: T) -> Taken
     ensures { IsKept result rows.old.items row rows.new.items }
 {
@@ -51,7 +51,7 @@ fn keep<T: Drop>(rows: &mut Vec<T>, row: T) -> Taken
     }
 }
 
-// Keeps the eras of a row, where no row named any before.
+/// Keeps the eras of a row, where no row named any before.
 fn keep_eras(eras: &mut Option<JapaneseEras>, row: EraRow<'_>) -> Taken
     ensures { let before = option_map listed_eras eras.old in
         let read = eras_of_row (era_row_said row.entry) in
@@ -71,7 +71,7 @@ fn keep_eras(eras: &mut Option<JapaneseEras>, row: EraRow<'_>) -> Taken
     }
 }
 
-// Keeps the year of a row line behind the others of its table, where the line gives one.
+/// Keeps the year of a row line behind the others of its table, where the line gives one.
 fn keep_year<R: Drop>(rows: &mut Vec<R>, year: Option<R>) -> Taken
     ensures { IsYearKept result year rows.old.items rows.new.items }
 {
@@ -95,7 +95,7 @@ impl TableRows {
         }
     }
 
-    // Takes a row. It is refused where its year or era isn't one, or an era stands behind another.
+    /// Takes a row. It is refused where its year or era isn't one, or an era stands behind another.
     fn take_row(&mut self, row: Row<'_>) -> Taken
         ensures { IsTaken result (rows_said self.old) (Some (row_said row.entry)) (rows_said self.new) }
     {
@@ -149,7 +149,7 @@ impl TableRows {
     }
 }
 
-// A table that isn't accepted, with the first row and part that break.
+/// A table that isn't accepted, with the first row and part that break.
 fn refusal(table: Table, fault: TableFault) -> TableRefusal
     ensures table { result.table ≡ table }
     ensures fault { result.fault ≡ fault }
@@ -157,7 +157,7 @@ fn refusal(table: Table, fault: TableFault) -> TableRefusal
     TableRefusal { table, fault }
 }
 
-// The listed eras: those of a row, or otherwise those up to Reiwa.
+/// The listed eras: those of a row, or otherwise those up to Reiwa.
 fn listed(eras: Option<JapaneseEras>) -> JapaneseEras
     ensures { listed_eras result ≡ unwrap_or (option_map listed_eras eras) (eras_up_to_reiwa []) }
 {

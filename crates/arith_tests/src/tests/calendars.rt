@@ -107,7 +107,7 @@ fn made<C: Calendar>(
     Ok(cal.to_rata_die(&date).to_i64_date())
 }
 
-/// The day number of the date of fields with an extended year, a month and a day alone.
+/// The day number of the date that an extended year, a month and a day name.
 fn resolved<C: Calendar>(
     cal: &C,
     year: i32,

@@ -1,4 +1,4 @@
-//! Dates of the small calendar, made of fields and of a year, a month and a day.
+//! Dates of the small calendar, made from a bag of fields, or from a year, a month and a day.
 
 use crate::alternating_months::AlternatingMonths;
 use crate::tests::expected::{assert_at, refuse_fault};

@@ -21,7 +21,7 @@ use cal_tables::Tables;
 use cal_types::Window;
 use reply_texts::Pending;
 
-// The lines of days.
+/// The lines of days.
 #[derive(Clone, Copy)]
 struct DayLines<'t, C> {
     form: DayForm<'t, C>,
@@ -40,7 +40,7 @@ impl<'t, C: Calendar> ItemLines for DayLines<'t, C> {
     }
 }
 
-// The name of the fault of a month or a day.
+/// The name of the fault of a month or a day.
 fn error_name(error: AnniversaryError) -> &'static [u8]
     ensures { result.now ≡ anniversary_error error }
 {
@@ -50,7 +50,7 @@ fn error_name(error: AnniversaryError) -> &'static [u8]
     }
 }
 
-// The anniversaries of a window.
+/// The anniversaries of a window.
 #[derive(Drop)]
 struct InWindow {
     words: AnniversaryWords,

@@ -51,7 +51,7 @@ impl Totals {
     }
 }
 
-// The day number of a date.
+/// The day number of a date.
 fn day_number_of(parts: &DayParts) -> i64
     requires { IsDay parts.now }
     ensures value { result ≡ parts.now.rata_die }
@@ -60,7 +60,7 @@ fn day_number_of(parts: &DayParts) -> i64
     parts.rata_die.to_i64_date()
 }
 
-// A sum with one more part of a duration.
+/// A sum with one more part of a duration.
 fn added(sum: u64, part: u32) -> u64
     requires { sum ≤ 429496729500000 }
     ensures value { result ≡ sum + part }
@@ -69,7 +69,7 @@ fn added(sum: u64, part: u32) -> u64
     sum + u64::from(part)
 }
 
-// The totals with one more answer.
+/// The totals with one more answer.
 fn with_span(totals: Totals, parts: &SpanParts) -> Totals
     requires few { counted totals < 100000 }
     requires bounded { AreBounded totals }
@@ -91,7 +91,7 @@ fn with_span(totals: Totals, parts: &SpanParts) -> Totals
     }
 }
 
-// The totals with one more refusal.
+/// The totals with one more refusal.
 fn with_refusal(totals: Totals) -> Totals
     requires few { counted totals < 100000 }
     requires bounded { AreBounded totals }
@@ -105,7 +105,7 @@ fn with_refusal(totals: Totals) -> Totals
     }
 }
 
-// The totals with one more request, in calendars without rows of tables.
+/// The totals with one more request, in calendars without rows of tables.
 fn with_request(totals: Totals, request: &Request) -> Totals
     requires few { counted totals < 100000 }
     requires bounded { AreBounded totals }
@@ -161,7 +161,7 @@ pub fn push_totals(text: &mut Pending, count: u32, totals: &Totals)
     text.push(b'\n');
 }
 
-// The sums of the durations' parts.
+/// The sums of the durations' parts.
 fn push_parts(text: &mut Pending, totals: &Totals)
     requires { array_vec_len text.old + 91 ≤ 8192 }
     ensures items { let t = totals.now in

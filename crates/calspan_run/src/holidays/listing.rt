@@ -24,7 +24,7 @@ use line_reader::LIMIT;
 use reply_texts::{Pending, push_all, push_number};
 use std::alloc::Global;
 
-// Refuses a window.
+/// Refuses a window.
 fn refuse_window<K: Sink>(sink: &mut K) -> Status
     ensures { EndsWith result Status.Refused (K.taken sink.old) (K.taken sink.new) (K.faults sink.old)
         (K.faults sink.new) (list_text (Err (codes "InvalidWindow"))) }
@@ -34,7 +34,7 @@ fn refuse_window<K: Sink>(sink: &mut K) -> Status
     end_with(&text, Status::Refused, sink)
 }
 
-// Refuses the record of a number, for a field.
+/// Refuses the record of a number, for a field.
 fn refuse_record<K: Sink>(number: usize, field: u8, sink: &mut K) -> Status
     ensures { EndsWith result Status.Refused (K.taken sink.old) (K.taken sink.new) (K.faults sink.old)
         (K.faults sink.new) (list_text (Err (record_fault number field))) }
@@ -48,7 +48,7 @@ fn refuse_record<K: Sink>(number: usize, field: u8, sink: &mut K) -> Status
     end_with(&text, Status::Refused, sink)
 }
 
-// Writes the holidays of a window by the book of a text, or refuses the text.
+/// Writes the holidays of a window by the book of a text, or refuses the text.
 fn list_window<K: Sink>(alloc: Global, window: Window, bytes: &[u8], sink: &mut K) -> Status
     requires window { is_window window.first window.last ≡ true }
     requires some { 0 < length bytes.now }
@@ -67,7 +67,7 @@ fn list_window<K: Sink>(alloc: Global, window: Window, bytes: &[u8], sink: &mut 
     }
 }
 
-// Writes the holidays by the book of a text, or the line that refuses the window or the text.
+/// Writes the holidays by the book of a text, or the line that refuses the window or the text.
 fn list_book<K: Sink>(alloc: Global, words: HolidayWords, bytes: &[u8], sink: &mut K) -> Status
     ensures { EndsHolidays (holidays_said words) result bytes.now
         (K.taken sink.old) (K.taken sink.new) (K.faults sink.old) (K.faults sink.new) }

@@ -21,7 +21,7 @@ use cal_tables::Tables;
 use cal_types::{DateFromFieldsOptions, Window};
 use reply_texts::{Pending, push_cause, push_number};
 
-// The lines of occurrences.
+/// The lines of occurrences.
 #[derive(Clone, Copy)]
 struct OccurrenceLines<'t, C> {
     form: DayForm<'t, C>,
@@ -42,7 +42,7 @@ impl<'t, C: Calendar> ItemLines for OccurrenceLines<'t, C> {
     }
 }
 
-// The occurrences of a rule in a window.
+/// The occurrences of a rule in a window.
 #[derive(Drop)]
 struct InWindow<'a> {
     words: RecurWords<'a>,

@@ -57,7 +57,7 @@ impl Progress {
         }
     }
 
-    // Behind one more request, answered by a refusal or not.
+    /// Behind one more request, answered by a refusal or not.
     fn replied(self, refused: bool) -> Progress
         ensures { result ≡ replied self refused }
     {
@@ -77,7 +77,7 @@ impl Answered {
     }
 }
 
-// Appends the line that refuses the request line of this number.
+/// Appends the line that refuses the request line of this number.
 fn refuse(pending: &mut Pending, number: u64, why: &[u8])
     requires { array_vec_len pending.old + length why.now + 40 ≤ 8192 }
     ensures { pending.new.items ≡ pending.old.items ++ refusal number why.now }
@@ -85,7 +85,7 @@ fn refuse(pending: &mut Pending, number: u64, why: &[u8])
     push_about(pending, b"err line ", number, why);
 }
 
-// Answers a request line, whose bags were read, and whether that is a refusal.
+/// Answers a request line, whose bags were read, and whether that is a refusal.
 fn answer_request(
     pending: &mut Pending,
     number: u64,
@@ -112,7 +112,7 @@ fn answer_request(
     }
 }
 
-// Answers a line that isn't silent. What a request needs is set up at the call, which a silent line is spared.
+/// Answers a line that isn't silent. What a request needs is set up at the call, which a silent line is spared.
 #[inline(never)]
 fn answer_line(
     pending: &mut Pending,

@@ -19,7 +19,7 @@ use reply_texts::{Pending, push_all, push_day, push_duration, push_error};
 use request_lines::Header;
 use request_parts::{DayParts, SpanParts};
 
-// Both dates, the same days in the second calendar, and the difference.
+/// Both dates, the same days in the second calendar, and the difference.
 fn push_span(text: &mut Pending, parts: &SpanParts, shown: AnyCalendarKind, tables: &Tables<'_>)
     requires room { array_vec_len text.old + 470 ≤ 8192 }
     requires from { IsDay parts.now.from }

@@ -49,7 +49,7 @@ pub fn respond<K: Sink>(
     Ok(answer(pending, progress, number, line, tables))
 }
 
-// Writes all that is pending, behind the last line.
+/// Writes all that is pending, behind the last line.
 fn conclude<K: Sink>(answered: Answered, pending: &mut Pending, sink: &mut K) -> Status
     ensures { (before : Option (List ℕ)) (text : List ℕ) → TextSoFar before (K.taken sink.old) pending.old.items text
         → EndsWith result (answered_status answered) before (K.taken sink.new) (K.faults sink.old) (K.faults sink.new)
@@ -61,7 +61,7 @@ fn conclude<K: Sink>(answered: Answered, pending: &mut Pending, sink: &mut K) ->
     }
 }
 
-// Answers the lines that are still to come. What is pending is written before each read.
+/// Answers the lines that are still to come. What is pending is written before each read.
 fn serve_from<S: Source, K: Sink>(
     start: Progress,
     tables: &Tables<'_>,
@@ -108,7 +108,7 @@ fn serve_from<S: Source, K: Sink>(
     }
 }
 
-// The end of the input, behind this many lines: a last line without an LF is answered too.
+/// The end of the input, behind this many lines: a last line without an LF is answered too.
 fn finish<K: Sink>(
     progress: Progress,
     tables: &Tables<'_>,
@@ -134,7 +134,7 @@ fn finish<K: Sink>(
     }
 }
 
-// The first request line, which the buffer holds, and the lines behind it. The tables are tested first.
+/// The first request line, which the buffer holds, and the lines behind it. The tables are tested first.
 fn serve_requests<S: Source, K: Sink>(
     rows: &TableRows,
     reader: &mut Reader,
@@ -163,7 +163,7 @@ fn serve_requests<S: Source, K: Sink>(
     }
 }
 
-// The only request line, which the buffer holds, behind this many lines. The tables are tested first.
+/// The only request line, which the buffer holds, behind this many lines. The tables are tested first.
 fn serve_last<K: Sink>(rows: &TableRows, lines: u64, line: &LineBuffer, sink: &mut K) -> Status
     requires { lines ≤ 16777216 }
     ensures { (before left : Option (List ℕ)) (faults reads : ℕ) (reader : Reader) → lines ≡ lines_given reader
@@ -189,7 +189,7 @@ fn serve_last<K: Sink>(rows: &TableRows, lines: u64, line: &LineBuffer, sink: &m
     }
 }
 
-// The end of an input without a request line: the tables are tested.
+/// The end of an input without a request line: the tables are tested.
 fn serve_none<K: Sink>(rows: &TableRows, sink: &mut K) -> Status
     ensures { (before left : Option (List ℕ)) (faults reads : ℕ) → MetEnd before left (rows_said rows.now)
         → Serves span_rules result (outside before (K.taken sink.old) faults (K.faults sink.old))

@@ -9,7 +9,7 @@ fn is_in_week(number: i64, year: i32, week: u8) -> bool {
     found.iso_year == year && found.week_number == week
 }
 
-// The weeks are those of the examples that ISO 8601 and its Wikipedia article give, and those of Python's isocalendar.
+/// The weeks are those of the examples that ISO 8601 and its Wikipedia article give, and those of Python's isocalendar.
 #[test]
 fn weeks_are_numbered_by_their_thursdays(rt: HostRuntime) {
     for (day, year, week) in [

@@ -11,6 +11,11 @@ use cal_into_any::IntoAnyCalendar;
 
 impl<'t, C: IntoAnyCalendar<'t>> Date<C> {
     /// The same date, of the calendar in its variant of [`AnyCalendar`].
+    ///
+    /// ```
+    /// let date = Date::try_new_iso(2024, 3, 1)?.to_any();
+    /// assert!(rt; date.calendar().kind() == AnyCalendarKind::Iso);
+    /// ```
     pub fn to_any(self) -> Date<AnyCalendar<'t>>
         ensures calendar { result.calendar ≡ C.in_any self.calendar }
         ensures date { any_date result.calendar result.inner ≡ C.date_of self.calendar self.inner }
@@ -57,6 +62,12 @@ fn converted<'a, A: AsCalendar<Calendar = K>, K: Calendar + AsCalendar<Calendar 
 impl<'t, A: AsCalendar<Calendar = AnyCalendar<'t>>> Date<A> {
     /// The same day in another calendar: where the two are compatible, the date as it is kept, and otherwise the
     /// date of the same day number there.
+    ///
+    /// ```
+    /// let date = Date::try_new_iso(2024, 3, 1)?.to_any();
+    /// let hebrew = AnyCalendar::Hebrew(Hebrew);
+    /// assert!(rt; date.convert_any(&hebrew).day_of_month().0 == 21); // of Adar I
+    /// ```
     pub fn convert_any<'a>(&self, calendar: &'a AnyCalendar<'t>) -> Date<Ref<'a, AnyCalendar<'t>>>
         ensures on { let c = A.cal_of self.now.calendar in
             let day = day_number (any_system c).list (any_date c self.now.inner) in

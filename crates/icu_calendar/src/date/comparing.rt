@@ -17,6 +17,11 @@ where
 {
     /// Whether the two calendars are compatible, and year, month and day are the same. The dates may lead to their
     /// calendars in two ways, as one that is borrowed and one that is counted.
+    ///
+    /// ```
+    /// let date = Date::try_new_iso(2024, 3, 1)?;
+    /// assert!(rt; date.same_date(&Date::from_rata_die(RataDie::new(738946), Iso)));
+    /// ```
     pub fn same_date<B: AsCalendar<Calendar = A::Calendar>>(&self, other: &Date<B>) -> bool
         ensures equal { let c = A.cal_of self.now.calendar in
             let compatible = A.Calendar.compatible c (B.cal_of other.now.calendar) in
@@ -30,6 +35,12 @@ where
 
     /// The order of the two dates, which is that of their day numbers. None exactly where the two calendars aren't
     /// compatible.
+    ///
+    /// ```
+    /// let date = Date::try_new_iso(2024, 3, 1)?;
+    /// let earlier = Date::from_rata_die(RataDie::new(738945), Iso);
+    /// assert!(rt; earlier.date_cmp(&date) == Some(Ordering::Less));
+    /// ```
     pub fn date_cmp<B: AsCalendar<Calendar = A::Calendar>>(
         &self,
         other: &Date<B>,

@@ -171,7 +171,7 @@ fn write_fault_keeps_a_prefix(rt: HostRuntime) -> Result<(), Fail> {
     Ok(())
 }
 
-// A thousand answers are more than is kept pending: 9 of 18 bytes, 90 of 19, 900 of 20, 1 of 21.
+/// A thousand answers are more than is kept pending: 9 of 18 bytes, 90 of 19, 900 of 20, 1 of 21.
 #[test]
 fn many_answers(rt: HostRuntime) -> Result<(), Fail> {
     let mut input = Vec::new(rt.alloc());
@@ -219,7 +219,7 @@ fn numbers_as_texts(rt: HostRuntime) {
     assert_eq!(rt; text.as_slice(), b"-9223372036854775808 20 0531".as_slice());
 }
 
-// The lines were computed by two programs, each written from the rule of the requests alone. Nothing is read for them.
+/// The lines were computed by two programs, each written from the rule of the requests alone. Nothing is read for them.
 #[test]
 fn a_number_is_answered_by_counts_and_sums(rt: HostRuntime) -> Result<(), Fail> {
     let cases: [(&[&str], &[u8]); 4] = [

@@ -6,8 +6,8 @@ use std::process::Abort;
 use std::test::Fail;
 use table_rows::{RowError, RowFault, RowsError, TableRows};
 
-// A row that is malformed, and one that is out of range, each by the number of its line; a line that is no row, and a
-// long one; and a table whose last row doesn't meet the year behind it.
+/// A row that is malformed, and one that is out of range, each by the number of its line; a line that is no row, and a
+/// long one; and a table whose last row doesn't meet the year behind it.
 const REFUSED: [(&[u8], &str); 5] = [
     (
         b"# hijri\r\nrow hijri 1445 738720 sll\n",
@@ -19,7 +19,7 @@ const REFUSED: [(&[u8], &str); 5] = [
     (b"row hijri 1445 738720 sllslslslsls\n", "table hijri 1 end"),
 ];
 
-// Why a text has no tables, as it prints.
+/// Why a text has no tables, as it prints.
 fn printed(alloc: Global, text: &[u8]) -> Result<String, Fail> {
     let rows = match TableRows::try_read(alloc, text) {
         Ok(rows) => rows,
@@ -40,7 +40,7 @@ fn refusals_print_what_the_program_writes(rt: HostRuntime) -> Result<(), Fail> {
     Ok(())
 }
 
-// A line is taken or refused by itself.
+/// A line is taken or refused by itself.
 fn assert_taken(rt: &impl Abort, rows: &mut TableRows, line: &[u8], want: Result<bool, RowError>) {
     assert!(rt; rows.take_line(line) == want);
 }
@@ -59,7 +59,7 @@ fn lines_are_taken_one_by_one(rt: HostRuntime) {
     assert!(rt; rows.tables().is_ok());
 }
 
-// The limit of a text: one line of comment up to it, and a byte more.
+/// The limit of a text: one line of comment up to it, and a byte more.
 #[test]
 fn a_text_past_the_limit_is_refused(rt: HostRuntime) -> Result<(), Fail> {
     let whole = vec![in rt.alloc(); b'#'; 16777216]?;

@@ -18,9 +18,9 @@ struct Answered {
     answer: &'static [u8],
 }
 
-// Years, months and days of all kinds, the units, a shorter month, months back, the widest difference, bags of all
-// kinds, leap months, a year of 355 days that the rule of the new year lengthens, reference years, eras that begin
-// within a year, the seam of 1912, and the other calendars.
+/// Years, months and days of all kinds, the units, a shorter month, months back, the widest difference, bags of all
+/// kinds, leap months, a year of 355 days that the rule of the new year lengthens, reference years, eras that begin
+/// within a year, the seam of 1912, and the other calendars.
 const CASES: [Answered; 46] = [
     Answered {
         line: b"span iso iso none none reject from year=2020 month=M02 day=29 to year=2021 month=M02 day=28",
@@ -208,7 +208,7 @@ const CASES: [Answered; 46] = [
     },
 ];
 
-// What the line alone is answered, in pieces of any size.
+/// What the line alone is answered, in pieces of any size.
 fn assert_answer(rt: &impl Abort, alloc: Global, line: &[u8], answer: &[u8]) -> Result<(), Fail> {
     let status = if answer.starts_with(b"err ") {
         Status::Refused
@@ -229,7 +229,7 @@ fn requests_in_any_pieces(rt: HostRuntime) -> Result<(), Fail> {
     Ok(())
 }
 
-// The leap day's request, written in other ways.
+/// The leap day's request, written in other ways.
 const LEAP_DAYS: [&[u8]; 4] = [
     LEAP_DAY,
     b"span iso gregorian none none none from year=002020 month=M02 day=029 to year=2021 month=M02 day=28\r\n",
@@ -245,7 +245,7 @@ fn fields_in_any_order(rt: HostRuntime) -> Result<(), Fail> {
     Ok(())
 }
 
-// Lines off the grammar.
+/// Lines off the grammar.
 const MALFORMED: [&[u8]; 34] = [
     b"span iso",
     b"span islamic iso days none none from year=1 month=M01 day=1 to year=1 month=M01 day=1",
@@ -291,7 +291,7 @@ fn lines_on_and_off_the_grammar(rt: HostRuntime) -> Result<(), Fail> {
     Ok(())
 }
 
-// That the leap day's request, twice, is answered by a text, where these calls fail.
+/// That the leap day's request, twice, is answered by a text, where these calls fail.
 fn assert_twice(
     rt: &impl Abort,
     alloc: Global,

@@ -18,8 +18,9 @@ const LEAP_DAY: &[u8] =
 const LEAP_DAY_ANSWER: &[u8] =
     b"ok 2020/default.2020/M02/29@737484 2020/ce.2020/M02/29@737484 2021/default.2021/M02/28@737849 2021/ce.2021/M02/28@737849 P365D\n";
 
-// A Hijri year, which the simulation doesn't take; a corrected Persian year; a Chinese year, which Korea doesn't take; an
-// era after Reiwa; rows among lines that give nothing, of several tables; an era that starts before 2026; and no request.
+/// A Hijri year, which the simulation doesn't take; a corrected Persian year; a Chinese year, which Korea doesn't take;
+/// an era after Reiwa; rows of several tables among lines that are ignored; an era that starts before 2026; and no
+/// request.
 const ANSWERED: [Answered; 8] = [
     Answered {
         input: b"row hijri 1445 738720 sllslslslsll\nspan islamic-umalqura iso days reject none from year=1445 month=M02 day=1 to year=1446 month=M01 day=1\n",
@@ -63,7 +64,7 @@ const ANSWERED: [Answered; 8] = [
     },
 ];
 
-// Each part of each table, the order of the tables, each fault of a row line, and a fault of a last line.
+/// Each part of each table, the order of the tables, each fault of a row line, and a fault of a last line.
 const REFUSED: [(&[u8], &[u8]); 26] = [
     (
         b"row hijri 1445 738720 sllslslslsls\n",
@@ -144,7 +145,7 @@ const REFUSED: [(&[u8], &[u8]); 26] = [
     (b"row persian 1234567890\r", b"table line 1 syntax\n"),
 ];
 
-// What the lines are answered, in pieces of any size.
+/// What the lines are answered, in pieces of any size.
 fn assert_pieces(
     rt: &impl Abort,
     alloc: Global,
@@ -174,8 +175,8 @@ fn bad_rows_end_the_run(rt: HostRuntime) -> Result<(), Fail> {
     Ok(())
 }
 
-// A row line behind a request line, whether it was answered or off the grammar, and whatever the row line holds. What
-// stands behind it isn't read.
+/// A row line behind a request line, whether it was answered or off the grammar, and whatever the row line holds. What
+/// stands behind it isn't read.
 #[test]
 fn late_rows_end_the_run(rt: HostRuntime) -> Result<(), Fail> {
     for (first, answer) in [
@@ -207,7 +208,7 @@ fn late_rows_end_the_run(rt: HostRuntime) -> Result<(), Fail> {
     Ok(())
 }
 
-// The tables aren't tested where the source failed, and a sink that takes nothing is a fault of its own.
+/// The tables aren't tested where the source failed, and a sink that takes nothing is a fault of its own.
 #[test]
 fn faults_among_rows(rt: HostRuntime) -> Result<(), Fail> {
     let failing = Calls {

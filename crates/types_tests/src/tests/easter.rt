@@ -8,8 +8,8 @@ fn mixed(sum: u64, day: i64) -> u64 {
     sum.wrapping_mul(31).wrapping_add(day.unsigned_abs())
 }
 
-// The dates are those of the United States Naval Observatory's and of the Orthodox churches' lists: the earliest and
-// the latest Easter, years in which both keep one day, and full moons that the rule moves a day earlier.
+/// The dates are those of the United States Naval Observatory's and of the Orthodox churches' lists: the earliest and
+/// the latest Easter, years in which both keep one day, and full moons that the rule moves a day earlier.
 #[test]
 fn easter_is_on_published_days(rt: HostRuntime) {
     let cases = [
@@ -30,8 +30,8 @@ fn easter_is_on_published_days(rt: HostRuntime) {
     }
 }
 
-// The sums are those of the days that python-dateutil 2.9.0 and the algorithms of Meeus, Jones and Butcher give, which
-// take other steps than this crate.
+/// The sums are those of the days that python-dateutil 2.9.0 and the algorithms of Meeus, Jones and Butcher give, which
+/// take other steps than this crate.
 #[test]
 fn easter_of_the_years_326_to_4099_is_that_of_other_algorithms(rt: HostRuntime) {
     let mut western = 0;

@@ -5,7 +5,7 @@ use Rattle.cal_types.specs.Bag.{bag_of}
 use Rattle.cal_model.specs.Placing.{placed_date, year_out_of_range}
 use Rattle.icu_calendar.specs.PlacedFields.{number_fault, year_place_day}
 use Rattle.icu_calendar.proofs.PlacingLemmas.{is_named, named_fault, placed_says, year_refused}
-use Rattle.icu_calendar.proofs.placing.placed.Goals as goal
+use Rattle.icu_calendar.proofs.placed_dates.placed.Goals as goal
 
 pub returns-then-not-is_small_year-clause-placed : goal.returns-then-not-is_small_year-clause-placed
 returns-then-not-is_small_year-clause-placed g c =

@@ -1,0 +1,9 @@
+//! The examples, as the docs have them.
+
+mod dates;
+mod lists;
+mod lunar;
+mod published;
+mod rows;
+mod solar;
+mod spans;

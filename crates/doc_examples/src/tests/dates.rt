@@ -1,0 +1,199 @@
+//! The examples of the docs: what dates say, and what is made of them.
+
+use icu_calendar::{
+    AnyCalendar, AnyCalendarKind, Buddhist, Date, DateAddOptions, DateDifferenceOptions,
+    DateDuration, DateDurationUnit, DateFields, DateFromFieldsOptions, Gregorian, Hebrew, Iso,
+    Missing, Month, Overflow, RataDie, Rule, Weekday, Window, easter_gregorian, easter_julian,
+    published, recur,
+};
+use std::cmp::Ordering;
+use std::process::Abort;
+use std::test::Fail;
+
+#[test]
+fn dates_of_fields(rt: HostRuntime) -> Result<(), Fail> {
+    let date = Date::try_new(5784.into(), Month::leap(5), 21, Hebrew)?;
+    assert!(rt; date.to_rata_die().to_i64_date() == 738946); // 2024-03-01
+    assert!(rt; Date::try_new(5783.into(), Month::leap(5), 21, Hebrew).is_err());
+
+    let fields = DateFields::from_year_month_day(2024, Month::new(2), 30);
+    let constrain = DateFromFieldsOptions {
+        overflow: Some(Overflow::Constrain),
+        missing_fields_strategy: None,
+    };
+    let date = Date::try_from_fields(fields, constrain, Gregorian)?;
+    assert!(rt; date.day_of_month().0 == 29);
+    Ok(())
+}
+
+#[test]
+fn days_and_years(rt: HostRuntime) {
+    let date = Date::from_rata_die(RataDie::new(738946), Iso);
+    assert!(rt; date.year().extended_year() == 2024);
+    assert!(rt; date.month().number() == 3);
+
+    let date = Date::from_rata_die(RataDie::new(738946), Hebrew);
+    assert!(rt; date.to_rata_die().to_i64_date() == 738946);
+
+    let date = Date::from_rata_die(RataDie::new(738946), Buddhist);
+    assert!(rt; date.year().era_year_or_related_iso() == 2567);
+
+    let date = Date::from_rata_die(RataDie::new(738946), Gregorian);
+    assert!(rt; date.is_in_leap_year());
+
+    let date = Date::from_rata_die(RataDie::new(738946), Gregorian);
+    assert!(rt; date.days_in_year() == 366);
+}
+
+#[test]
+fn months_and_days(rt: HostRuntime) {
+    let date = Date::from_rata_die(RataDie::new(738946), Hebrew);
+    assert!(rt; date.months_in_year() == 13);
+
+    let date = Date::from_rata_die(RataDie::new(738946), Hebrew);
+    assert!(rt; date.days_in_month() == 30);
+
+    let month = Date::from_rata_die(RataDie::new(738946), Hebrew).month();
+    assert!(rt; month.to_input() == Month::leap(5)); // Adar I
+
+    let date = Date::from_rata_die(RataDie::new(738946), Hebrew);
+    assert!(rt; date.day_of_month().0 == 21);
+
+    let date = Date::from_rata_die(RataDie::new(738946), Iso);
+    assert!(rt; date.day_of_year().0 == 61);
+
+    let date = Date::from_rata_die(RataDie::new(738946), Iso);
+    assert!(rt; date.weekday() == Weekday::Friday);
+}
+
+#[test]
+fn other_calendars(rt: HostRuntime) -> Result<(), Fail> {
+    let iso = Date::try_new_iso(2024, 3, 1)?;
+    let date = Date::new_from_iso(iso, Buddhist);
+    assert!(rt; date.era_year().year == 2567);
+
+    let date = Date::try_new_buddhist(2567, 3, 1)?;
+    assert!(rt; date.to_iso().year().extended_year() == 2024);
+
+    let date = Date::try_new_iso(2024, 3, 1)?;
+    let hebrew = date.to_calendar(Hebrew);
+    assert!(rt; hebrew.era_year().year == 5784);
+    Ok(())
+}
+
+#[test]
+fn sums_and_differences(rt: HostRuntime) -> Result<(), Fail> {
+    let mut date = Date::try_new_iso(2024, 1, 31)?;
+    date.try_add_with_options(DateDuration::for_months(1), DateAddOptions::default())?;
+    assert!(rt; date.day_of_month().0 == 29); // of February
+
+    let first = Date::try_new_iso(2024, 9, 30)?;
+    let second = Date::try_new_iso(2024, 10, 31)?;
+    let months = DateDifferenceOptions {
+        largest_unit: Some(DateDurationUnit::Months),
+    };
+    let Ok(difference) = first.try_until_with_options(&second, months);
+    assert!(rt; difference.months == 1 && difference.days == 1);
+    Ok(())
+}
+
+#[test]
+fn sums(rt: HostRuntime) -> Result<(), Fail> {
+    let date = Date::try_new_iso(2024, 1, 31)?;
+    let month = DateDuration::for_months(1);
+    let later = date.try_added_with_options(month, DateAddOptions::default())?;
+    assert!(rt; later.day_of_month().0 == 29); // of February
+    Ok(())
+}
+
+#[test]
+fn eras_cycles_and_weeks(rt: HostRuntime) {
+    let year = Date::from_rata_die(RataDie::new(738946), Buddhist).era_year();
+    assert!(rt; year.year == 2567 && year.era.as_str() == "be");
+
+    let date = Date::from_rata_die(RataDie::new(738946), published::chinese());
+    assert!(rt; date.cyclic_year().year == 41); // of 2024
+
+    let week = Date::from_rata_die(RataDie::new(739250), Iso).week_of_year(); // 2024-12-30
+    assert!(rt; week.week_number == 1 && week.iso_year == 2025);
+
+    let easter = easter_gregorian(2024);
+    assert!(rt; easter.to_rata_die().to_i64_date() == 738976); // 2024-03-31
+
+    let easter = easter_julian(2024);
+    assert!(rt; easter.to_rata_die().to_i64_date() == 739011); // 2024-05-05
+}
+
+#[test]
+fn pointers_and_comparisons(rt: HostRuntime) -> Result<(), Fail> {
+    let date = Date::try_new_iso(2024, 3, 1)?;
+    assert!(rt; date.as_borrowed().same_date(&date));
+
+    let date = Date::try_new_iso(2024, 3, 1)?;
+    assert!(rt; *date.calendar() == Iso);
+
+    let date = Date::try_new_iso(2024, 3, 1)?;
+    assert!(rt; date.same_date(&Date::from_rata_die(RataDie::new(738946), Iso)));
+
+    let date = Date::try_new_iso(2024, 3, 1)?;
+    let earlier = Date::from_rata_die(RataDie::new(738945), Iso);
+    assert!(rt; earlier.date_cmp(&date) == Some(Ordering::Less));
+    Ok(())
+}
+
+#[test]
+fn texts(rt: HostRuntime) -> Result<(), Fail> {
+    let date = Date::try_from_str("2024-03-01[u-ca=hebrew]", Hebrew)?;
+    assert!(rt; date.era_year().year == 5784);
+
+    let date = Date::try_from_utf8(b"2024-03-01", Iso)?;
+    assert!(rt; date.to_rata_die().to_i64_date() == 738946);
+    Ok(())
+}
+
+/// The examples of [`occurrences`].
+fn show_occurrences(rt: &impl Abort) -> Option<()> {
+    let rule = Rule::try_new(DateDurationUnit::Months, 1, Missing::Constrain)?;
+    let window = Window::try_new(RataDie::new(737821), RataDie::new(737910))?;
+    let mut items = Date::from_rata_die(RataDie::new(737821), Iso).recur(rule, window);
+    assert!(rt; items.next()?.day.to_i64_date() == 737821); // 2021-01-31
+    assert!(rt; items.next()?.day.to_i64_date() == 737849); // 2021-02-28
+    Some(())
+}
+
+#[test]
+fn occurrences(rt: HostRuntime) {
+    assert!(rt; show_occurrences(&rt).is_some());
+}
+
+/// The examples of [`calendars_chosen_at_run_time`].
+fn show_calendars_chosen_at_run_time(rt: &impl Abort) -> Option<()> {
+    let kind = AnyCalendarKind::from_program_name(b"hebrew")?;
+    let hebrew = AnyCalendar::new(kind, published::tables());
+    assert!(rt; hebrew.kind() == kind);
+
+    let kind = AnyCalendarKind::from_program_name(b"hebrew")?;
+    assert!(rt; kind == AnyCalendarKind::Hebrew);
+
+    assert!(rt; AnyCalendar::Hebrew(Hebrew).kind() == AnyCalendarKind::Hebrew);
+    Some(())
+}
+
+#[test]
+fn calendars_chosen_at_run_time(rt: HostRuntime) {
+    assert!(rt; show_calendars_chosen_at_run_time(&rt).is_some());
+}
+
+#[test]
+fn pointers_and_any_calendars(rt: HostRuntime) -> Result<(), Fail> {
+    let date = Date::try_new_iso(2024, 3, 1)?;
+    assert!(rt; *date.calendar_wrapper() == Iso);
+
+    let date = Date::try_new_iso(2024, 3, 1)?.to_any();
+    assert!(rt; date.calendar().kind() == AnyCalendarKind::Iso);
+
+    let date = Date::try_new_iso(2024, 3, 1)?.to_any();
+    let hebrew = AnyCalendar::Hebrew(Hebrew);
+    assert!(rt; date.convert_any(&hebrew).day_of_month().0 == 21); // of Adar I
+    Ok(())
+}

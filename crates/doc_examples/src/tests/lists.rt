@@ -1,0 +1,67 @@
+//! The examples of the docs: lists of days.
+
+use icu_calendar::holidays::{Book, holidays};
+use icu_calendar::{
+    AnyCalendar, Calendar, DateDurationUnit, Hebrew, Iso, Leaping, Missing, Month, RataDie, Rule,
+    Tables, Window, anniversaries, recur,
+};
+use std::alloc::Global;
+use std::process::Abort;
+
+/// The examples of [`birthdays`].
+fn show_birthdays(rt: &impl Abort) -> Option<()> {
+    let window = Window::try_new(RataDie::new(738521), RataDie::new(739616))?;
+    let hebrew = AnyCalendar::Hebrew(Hebrew);
+    let mut days = anniversaries(hebrew, Month::leap(5), 10, Leaping::Constrain, window).ok()?;
+    assert!(rt; days.next()?.to_i64_date() == 738582); // 2023-03-03
+    assert!(rt; days.next()?.to_i64_date() == 738935); // 2024-02-19
+    assert!(rt; days.next()?.to_i64_date() == 739320); // 2025-03-10
+    Some(())
+}
+
+#[test]
+fn birthdays(rt: HostRuntime) {
+    assert!(rt; show_birthdays(&rt).is_some());
+}
+
+/// The examples of [`last_days_of_months`].
+fn show_last_days_of_months(rt: &impl Abort) -> Option<()> {
+    let window = Window::try_new(RataDie::new(737821), RataDie::new(737910))?;
+    let rule = Rule::try_new(DateDurationUnit::Months, 1, Missing::Constrain)?;
+    let start = Iso.from_rata_die(RataDie::new(737821));
+    let mut items = recur(Iso, start, rule, window);
+    assert!(rt; items.next()?.day.to_i64_date() == 737821); // 2021-01-31
+    assert!(rt; items.next()?.day.to_i64_date() == 737849); // 2021-02-28
+    Some(())
+}
+
+#[test]
+fn last_days_of_months(rt: HostRuntime) {
+    assert!(rt; show_last_days_of_months(&rt).is_some());
+}
+
+/// The examples of [`holidays_of_a_book`].
+fn show_holidays_of_a_book(rt: &impl Abort, alloc: Global) -> Option<()> {
+    let book = Book::try_read(alloc, b"weekday,Thanksgiving,gregorian,M11,4,thursday").ok()?;
+    let year = Window::try_new(RataDie::new(738886), RataDie::new(739251))?;
+    let mut days = holidays(&book, Tables::none(), year, 0);
+    assert!(rt; days.next()?.day.to_i64_date() == 739218); // 2024-11-28
+    Some(())
+}
+
+#[test]
+fn holidays_of_a_book(rt: HostRuntime) {
+    assert!(rt; show_holidays_of_a_book(&rt, rt.alloc()).is_some());
+}
+
+/// The examples of [`rules`].
+fn show_rules(rt: &impl Abort) -> Option<()> {
+    let monthly = Rule::try_new(DateDurationUnit::Months, 1, Missing::Constrain)?;
+    assert!(rt; Rule::try_new(DateDurationUnit::Months, 0, Missing::Skip).is_none());
+    Some(())
+}
+
+#[test]
+fn rules(rt: HostRuntime) {
+    assert!(rt; show_rules(&rt).is_some());
+}

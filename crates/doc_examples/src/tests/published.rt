@@ -1,0 +1,67 @@
+//! The examples of the docs: published years, and rows of a text.
+
+use icu_calendar::rows::TableRows;
+use icu_calendar::{AnyCalendar, AnyCalendarKind, Date, Month, RataDie, Tables, published};
+use std::test::Fail;
+
+#[test]
+fn published_years_of_calendars(rt: HostRuntime) -> Result<(), Fail> {
+    let chinese = published_years::chinese();
+    let new_year = Date::try_new(2023.into(), Month::new(1), 1, chinese)?;
+    assert!(rt; new_year.to_rata_die().to_i64_date() == 738542); // 2023-01-22
+
+    let korean = published_years::korean();
+    let new_year = Date::try_new(2027.into(), Month::new(1), 1, korean)?;
+    assert!(rt; new_year.to_rata_die().to_i64_date() == 740019); // 2027-02-07, a day after China's
+
+    let persian = published_years::persian();
+    let new_year = Date::try_new(1404.into(), Month::new(1), 1, persian)?;
+    assert!(rt; new_year.to_rata_die().to_i64_date() == 739331); // 2025-03-21
+
+    let umm_al_qura = published_years::umm_al_qura();
+    let ramadan = Date::try_new(1446.into(), Month::new(9), 1, umm_al_qura)?;
+    assert!(rt; ramadan.to_rata_die().to_i64_date() == 739311); // 2025-03-01
+    Ok(())
+}
+
+#[test]
+fn published_years_of_a_kind(rt: HostRuntime) -> Result<(), Fail> {
+    let new_year = Date::try_new(2023.into(), Month::new(1), 1, published::chinese())?;
+    assert!(rt; new_year.to_rata_die().to_i64_date() == 738542); // 2023-01-22
+
+    let calendar = AnyCalendar::new(AnyCalendarKind::Chinese, published_years::tables());
+    assert!(rt; calendar.kind() == AnyCalendarKind::Chinese);
+    Ok(())
+}
+
+#[test]
+fn rows_of_text(rt: HostRuntime) -> Result<(), Fail> {
+    let alloc = rt.alloc();
+    let rows = TableRows::try_read(alloc, b"row china 1912 698026 lslslslslsls 0\n")?;
+    let tables = rows.tables()?;
+    let date = Date::try_new(1912.into(), Month::new(1), 30, tables.chinese())?;
+    assert!(rt; date.to_rata_die().to_i64_date() == 698055); // 1912-03-18
+    Ok(())
+}
+
+#[test]
+fn calendars_over_tables(rt: HostRuntime) {
+    let computed = AnyCalendar::new(AnyCalendarKind::Chinese, Tables::none());
+    let published = AnyCalendar::new(AnyCalendarKind::Chinese, published::tables());
+
+    let chinese = published::tables().chinese();
+    let date = Date::from_rata_die(RataDie::new(738542), chinese);
+    assert!(rt; date.day_of_year().0 == 1); // 2023-01-22
+
+    let korean = published::tables().korean();
+    let date = Date::from_rata_die(RataDie::new(740019), korean);
+    assert!(rt; date.day_of_year().0 == 1); // 2027-02-07
+
+    let umm_al_qura = published::tables().umm_al_qura();
+    let date = Date::from_rata_die(RataDie::new(739311), umm_al_qura);
+    assert!(rt; date.month().number() == 9); // 2025-03-01, the first day of Ramadan
+
+    let persian = published::tables().persian();
+    let date = Date::from_rata_die(RataDie::new(739331), persian);
+    assert!(rt; date.day_of_year().0 == 1); // 2025-03-21
+}

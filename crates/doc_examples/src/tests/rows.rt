@@ -1,0 +1,64 @@
+//! The examples of the docs: rows of tables as constant data.
+
+use icu_calendar::{
+    EastAsianRow, EastAsianTable, HijriRow, HijriTable, Side, published, qing_year,
+};
+use std::process::Abort;
+use std::test::Fail;
+
+#[test]
+fn a_chinese_row(rt: HostRuntime) {
+    static YEAR_2023: EastAsianRow = EastAsianRow {
+        related_iso: 2023,
+        long_months: 0x15b2,
+        leap_month: 3,
+        start_offset: 3,
+    };
+    assert!(rt; YEAR_2023.year().leap_month() == Some(3));
+}
+
+#[test]
+fn a_hijri_row(rt: HostRuntime) {
+    static YEAR_1445: HijriRow = HijriRow {
+        extended_year: 1445,
+        long_months: 0x92e,
+        start_offset: 5,
+    };
+    assert!(rt; YEAR_1445.year().extended_year() == 1445);
+}
+
+#[test]
+fn accepted_rows(rt: HostRuntime) -> Result<(), Fail> {
+    let rows = published::umm_al_qura_table().rows();
+    let table = HijriTable::try_new(rows)?;
+    assert!(rt; table.rows().len() == 301); // 1300 to 1600
+
+    let rows = published::china_table().rows();
+    let table = EastAsianTable::try_new(Side::China, rows)?;
+    assert!(rt; table.rows().len() == 188);
+    Ok(())
+}
+
+/// The examples of [`years_of_rows`].
+fn show_years_of_rows(rt: &impl Abort) -> Option<()> {
+    let row = HijriRow {
+        extended_year: 1445,
+        long_months: 0x92e,
+        start_offset: 5,
+    };
+    assert!(rt; row.year().month_len(1) == 29);
+
+    assert!(rt; qing_year(1900)?.related_iso() == 1900);
+
+    assert!(rt; qing_year(1900)?.new_year().to_i64_date() == 693626); // 1900-01-31
+
+    assert!(rt; qing_year(1900)?.leap_month() == Some(9)); // behind the month 8
+
+    assert!(rt; qing_year(1900)?.months() == 13);
+    Some(())
+}
+
+#[test]
+fn years_of_rows(rt: HostRuntime) {
+    assert!(rt; show_years_of_rows(&rt).is_some());
+}
