@@ -1,6 +1,6 @@
 -- The eras of a Hijri calendar, and its reference years.
 -- Source: the era codes of CLDR (UTS 35).
-use Rattle.std.specs.Prelude.{◌≡◌, ◌↔◌, ℕ, Bool, true, false, List, codes, Option, Some, None, Result, Ok, Err, if◌then◌else◌, ℤ, pos, neg_ℤ, ◌-ℤ◌, int_lt}
+use Rattle.std.specs.Prelude.{◌≡◌, ◌↔◌, ℕ, Bool, true, false, List, codes, Option, Some, None, Result, Ok, Err, if◌then◌else◌, ℤ, pos, ◌-ℤ◌, int_lt}
 use Rattle.std.proofs.Common.{refl, sym, ◌∙◌, arith}
 use Rattle.cal_days.specs.Day.{IsFieldYear, IsRuleYear, IsCoveredYear, IsConstructorYear}
 use Rattle.cal_days.proofs.Signed.{signed}
