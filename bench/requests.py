@@ -16,6 +16,10 @@ import time
 from pathlib import Path
 
 TOP = Path(__file__).resolve().parent.parent
+sys.path.insert(0, str(TOP / "cases"))
+
+from calendars import CALENDARS as ALL_CALENDARS, ERAS  # noqa: E402
+
 # The script builds the program where a source is newer; what it built is run without it.
 BUILD = [str(TOP / "calspan"), "span"]
 PROGRAM = [str(TOP / "crates/calspan/out/calspan"), "span"]
@@ -23,34 +27,9 @@ REQUESTS = 130_000
 ROUNDS = 5
 CALENDARS = ["iso", "gregorian"]
 UNITS = ["days"]
-ALL_CALENDARS = [
-    *[*CALENDARS, "julian", "buddhist", "coptic", "ethiopic", "ethioaa", "hebrew", "indian", "japanese", "persian", "roc"],
-    *["chinese", "dangi", "islamic-civil", "islamic-simulated", "islamic-tbla", "islamic-umalqura"],
-]
 ALL_UNITS = ["years", "months", "weeks", "days", "none"]
 OVERFLOWS = ["constrain", "reject", "none"]
 STRATEGIES = ["reject", "ecma", "none"]
-COMMON_ERAS = ["ce", "ad", "bce", "bc"]
-ERAS = {
-    "iso": ["default"],
-    "gregorian": COMMON_ERAS,
-    "julian": COMMON_ERAS,
-    "buddhist": ["be"],
-    "coptic": ["am"],
-    "ethiopic": ["am"],
-    "ethioaa": ["aa"],
-    "hebrew": ["am"],
-    "indian": ["shaka"],
-    "japanese": COMMON_ERAS,
-    "persian": ["ap"],
-    "chinese": [""],
-    "dangi": [""],
-    "islamic-civil": ["ah", "bh"],
-    "islamic-simulated": ["ah", "bh"],
-    "islamic-tbla": ["ah", "bh"],
-    "islamic-umalqura": ["ah", "bh"],
-    "roc": ["roc", "broc"],
-}
 LONGEST_INPUT = 1 << 24
 
 

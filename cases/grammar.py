@@ -2,10 +2,9 @@
 
 import re
 
-CALENDARS = [
-    *[b"buddhist", b"chinese", b"coptic", b"dangi", b"ethiopic", b"ethioaa", b"gregorian", b"hebrew", b"indian", b"islamic-civil"],
-    *[b"islamic-simulated", b"islamic-tbla", b"islamic-umalqura", b"iso", b"japanese", b"julian", b"persian", b"roc"],
-]
+import calendars
+
+CALENDARS = [name.encode() for name in calendars.CALENDARS]
 UNITS = [b"years", b"months", b"weeks", b"days", b"none"]
 OVERFLOWS = [b"constrain", b"reject", b"none"]
 STRATEGIES = [b"reject", b"ecma", b"none"]
@@ -44,8 +43,8 @@ FORMS = {
 # What may stand as a word of a request, by its place: each word of the form, and near misses of some.
 WORDS = {
     0: [b"span", b"spans", b"row"],
-    1: [*CALENDARS, b"julia", b"Iso"],
-    2: [*CALENDARS, b"gregory", b"islamic", b""],
+    1: [*CALENDARS, b"julia", b"Iso", b"islamic-type1"],
+    2: [*CALENDARS, b"gregory", b"islamic", b"islamic-type2-friday", b""],
     3: [*UNITS, b"year", b"hours", b"Days"],
     4: [*OVERFLOWS, b"constrained", b"ecma"],
     5: [*STRATEGIES, b"ecm", b"constrain"],

@@ -16,7 +16,6 @@ TOP = Path(__file__).resolve().parent.parent
 # The script refuses words by itself, so that the program's own answer is asked of the program.
 SCRIPT = str(TOP / "calspan")
 PROGRAM = str(TOP / "crates/calspan/out/calspan")
-NOT_BUILT = {b"islamic-type1-friday", b"islamic-type1-thursday"}
 WORDS_REFUSED = 2
 ENDS = {0, 1, 6}
 MOST_DAYS = 4000
@@ -40,11 +39,6 @@ class Case:
 def cases_of(path: Path) -> list[Case]:
     cases = map(json.loads, path.read_text().splitlines())
     return [Case([word.encode() for word in c["words"]], c["source"].encode(), c["out"].encode(), c["status"]) for c in cases]
-
-
-def is_built(case: Case) -> bool:
-    in_book = case.words[:1] == [b"holidays"] and any(name in case.source for name in NOT_BUILT)
-    return NOT_BUILT.isdisjoint(case.words) and not in_book
 
 
 def run(program: str, words: list[bytes], source: bytes) -> subprocess.CompletedProcess:
@@ -76,10 +70,8 @@ def stop_at_first(fault_of: Callable[[Case], str | None], cases: list[Case]) -> 
 
 def compare_lists(path: Path) -> str:
     cases = cases_of(path)
-    built = list(filter(is_built, cases))
-    stop_at_first(fault_of_case, built)
-    left = len(cases) - len(built)
-    return f"{len(built)} lists agree" + (f", and {left} name what isn't built" if left else "")
+    stop_at_first(fault_of_case, cases)
+    return f"{len(cases)} lists agree"
 
 
 def words_like(chance: random.Random, words: list[bytes]) -> list[bytes]:

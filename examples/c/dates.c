@@ -7,6 +7,7 @@
 static const char *const NAMES[] = {
     "buddhist",      "chinese",          "coptic",      "dangi",           "ethiopic", "ethioaa",  "gregorian", "hebrew",  "indian",
     "islamic-civil", "islamic-simulated", "islamic-tbla", "islamic-umalqura", "iso",      "japanese", "julian",    "persian", "roc",
+    "islamic-type1-friday", "islamic-type1-thursday",
 };
 static const uint8_t NOTHING[1] = {0};
 
@@ -17,7 +18,7 @@ static uint8_t named(uint8_t calendar, uint8_t years, icu_calendar_fields fields
 }
 
 static void print(const char *name, const icu_calendar_date *date, const char *era) {
-    printf("%-17s %" PRId32 "-M%02u%s-%02u, place %u, year %" PRId32 "%s%s, day %" PRId64 "\n", name, date->extended_year, date->month_number,
+    printf("%-22s %" PRId32 "-M%02u%s-%02u, place %u, year %" PRId32 "%s%s, day %" PRId64 "\n", name, date->extended_year, date->month_number,
            date->month_is_leap ? "L" : "", date->day, date->ordinal_month, date->era_year, *era ? " of " : "", era, date->day_number);
 }
 

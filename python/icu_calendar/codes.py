@@ -24,6 +24,8 @@ class Calendar(IntEnum):
     JULIAN = 15
     PERSIAN = 16
     ROC = 17
+    ISLAMIC_TYPE1_FRIDAY = 18
+    ISLAMIC_TYPE1_THURSDAY = 19
 
     @property
     def program_name(self) -> str:

@@ -11,7 +11,7 @@ TOP = Path(__file__).resolve().parents[2]
 CASES = TOP / "cases"
 sys.path.insert(0, str(CASES))
 
-from lists import cases_of, is_built  # noqa: E402
+from lists import cases_of  # noqa: E402
 
 STATUSES = dict(line.split() for line in (CASES / "tables/statuses").read_text().splitlines())
 
@@ -19,7 +19,7 @@ STATUSES = dict(line.split() for line in (CASES / "tables/statuses").read_text()
 class Cases(unittest.TestCase):
     def test_requests(self):
         files = sorted(CASES.glob("*.in"))
-        self.assertEqual(len(files), 8)
+        self.assertEqual(len(files), 9)
         for file in files:
             wanted = file.with_suffix(".out").read_bytes()
             refused = any(line.startswith(b"err") for line in wanted.splitlines())
@@ -32,8 +32,8 @@ class Cases(unittest.TestCase):
             self.assertEqual(run(["span"], file.read_bytes()), (int(STATUSES[file.stem]), file.with_suffix(".out").read_bytes()), file.name)
 
     def test_lists(self):
-        cases = list(filter(is_built, cases_of(CASES / "lists.jsonl")))
-        self.assertGreater(len(cases), 1500)
+        cases = cases_of(CASES / "lists.jsonl")
+        self.assertGreater(len(cases), 2000)
         for case in cases:
             self.assertEqual(run([word.decode() for word in case.words], case.source), (case.status, case.out), str(case))
 

@@ -49,13 +49,14 @@ fn print_solar(rt: &HostRuntime, day: &Date<Iso>) -> io::Result<()> {
 
 /// The same day in the calendars of the moon alone.
 fn print_hijri(rt: &HostRuntime, day: &Date<Iso>) -> io::Result<()> {
-    let leap_years = TabularAlgorithmLeapYears::TypeII;
-    let civil = Hijri::new_tabular(leap_years, TabularAlgorithmEpoch::Friday);
-    print_made(
-        rt,
-        Date::try_new_hijri_with_calendar(1445, 8, 20, civil),
-        day,
-    )?;
+    for leap_years in [
+        TabularAlgorithmLeapYears::TypeII,
+        TabularAlgorithmLeapYears::TypeI,
+    ] {
+        let tabular = Hijri::new_tabular(leap_years, TabularAlgorithmEpoch::Friday);
+        let made = Date::try_new_hijri_with_calendar(1445, 8, 20, tabular);
+        print_made(rt, made, day)?;
+    }
     let umm_al_qura = Hijri::new_umm_al_qura(HijriTable::none());
     let computed = Date::try_new_hijri_with_calendar(1445, 8, 20, umm_al_qura);
     print_made(rt, computed, day)

@@ -24,12 +24,9 @@ use std::env;
 use std::process::ExitCode;
 use words::{CalendarName, Work, read_words};
 
-/// The tabular Hijri calendar.
-fn tabular() -> Hijri<TabularAlgorithm> {
-    Hijri::new_tabular(
-        TabularAlgorithmLeapYears::TypeII,
-        TabularAlgorithmEpoch::Friday,
-    )
+/// The tabular Hijri calendar with these leap years, from Friday on.
+fn tabular(leap_years: TabularAlgorithmLeapYears) -> Hijri<TabularAlgorithm> {
+    Hijri::new_tabular(leap_years, TabularAlgorithmEpoch::Friday)
 }
 
 /// The Chinese calendar without rows of a table.
@@ -63,7 +60,12 @@ fn checksum(work: Work) -> i64 {
             measure(operation, count, Persian::new(PersianCorrections::none()))
         }
         CalendarName::Hebrew => measure(operation, count, Hebrew),
-        CalendarName::HijriTabular => measure(operation, count, tabular()),
+        CalendarName::HijriTabular => {
+            measure(operation, count, tabular(TabularAlgorithmLeapYears::TypeII))
+        }
+        CalendarName::HijriTypeI => {
+            measure(operation, count, tabular(TabularAlgorithmLeapYears::TypeI))
+        }
         CalendarName::HijriUmmAlQura => {
             let calendar = Hijri::new_umm_al_qura(HijriTable::none());
             measure(operation, count, calendar)

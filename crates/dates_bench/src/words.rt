@@ -64,6 +64,7 @@ pub enum CalendarName {
     Hebrew,
     /// The tabular Hijri calendar from Friday on.
     HijriTabular,
+    HijriTypeI,
     /// The Umm al-Qura calendar, without rows of a table.
     HijriUmmAlQura,
     /// The Chinese calendar, without rows of a table.
@@ -125,6 +126,7 @@ fn read_calendar(word: &str) -> Option<CalendarName> {
         "persian" => Some(CalendarName::Persian),
         "hebrew" => Some(CalendarName::Hebrew),
         "islamic-civil" => Some(CalendarName::HijriTabular),
+        "islamic-type1-friday" => Some(CalendarName::HijriTypeI),
         "islamic-umalqura" => Some(CalendarName::HijriUmmAlQura),
         "chinese" => Some(CalendarName::Chinese),
         "dangi" => Some(CalendarName::Dangi),

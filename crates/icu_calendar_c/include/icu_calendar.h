@@ -28,15 +28,17 @@ enum {
     ICU_CALENDAR_GREGORIAN = 6,
     ICU_CALENDAR_HEBREW = 7,
     ICU_CALENDAR_INDIAN = 8,
-    ICU_CALENDAR_ISLAMIC_CIVIL = 9,      /* tabular, from Friday on */
+    ICU_CALENDAR_ISLAMIC_CIVIL = 9,      /* tabular with the leap years of type II, from Friday on */
     ICU_CALENDAR_ISLAMIC_SIMULATED = 10, /* at Mecca; tabular years here */
-    ICU_CALENDAR_ISLAMIC_TBLA = 11,      /* tabular, from Thursday on */
+    ICU_CALENDAR_ISLAMIC_TBLA = 11,      /* tabular with the leap years of type II, from Thursday on */
     ICU_CALENDAR_ISLAMIC_UMALQURA = 12,
     ICU_CALENDAR_ISO = 13,
     ICU_CALENDAR_JAPANESE = 14,
     ICU_CALENDAR_JULIAN = 15,
     ICU_CALENDAR_PERSIAN = 16,
-    ICU_CALENDAR_ROC = 17
+    ICU_CALENDAR_ROC = 17,
+    ICU_CALENDAR_ISLAMIC_TYPE1_FRIDAY = 18,  /* tabular with the leap years of type I, from Friday on */
+    ICU_CALENDAR_ISLAMIC_TYPE1_THURSDAY = 19 /* the same, from Thursday on */
 };
 
 /* Where the years of chinese, dangi, islamic-umalqura and persian come from: each is computed, or those that are

@@ -3,7 +3,7 @@
 use super::*;
 use EthiopianEraStyle::{AmeteAlem, AmeteMihret};
 use TabularAlgorithmEpoch::{Friday, Thursday};
-use TabularAlgorithmLeapYears::TypeII;
+use TabularAlgorithmLeapYears::{TypeI, TypeII};
 use icu_calendar::{
     AsCalendar, Buddhist, Calendar, ChineseTraditional, Coptic, EastAsianTable, Ethiopian,
     EthiopianEraStyle, Hebrew, Hijri, HijriTable, Indian, Japanese, KoreanTraditional, Persian,
@@ -156,6 +156,46 @@ fn known_days_have_known_hijri_dates(rt: HostRuntime) {
     );
 }
 
+/// A day in the four tabular calendars: 1945-11-12 is the 6th of Dhu al-Hijja 1364 from Friday on, as Reingold and
+/// Dershowitz have it among the sample dates of Calendrical Calculations, and the 7th from Thursday on.
+#[test]
+fn a_published_day_has_its_dates_in_the_tabular_calendars(rt: HostRuntime) {
+    let friday = [(710347, (1364, "M12", 6, "ah", 1364))];
+    let thursday = [(710347, (1364, "M12", 7, "ah", 1364))];
+    assert_known(&rt, Hijri::new_tabular(TypeII, Friday), &friday);
+    assert_known(&rt, Hijri::new_tabular(TypeI, Friday), &friday);
+    assert_known(&rt, Hijri::new_tabular(TypeII, Thursday), &thursday);
+    assert_known(&rt, Hijri::new_tabular(TypeI, Thursday), &thursday);
+}
+
+/// The first days of years 1, 16, 17 and 31 by the leap years of types I and II, as R. H. van Gent's page on the
+/// Arabic calendar lists them: five of the first fifteen years are leap years by type II, and six by type I.
+#[test]
+fn the_leap_years_of_types_i_and_ii_part_after_the_fifteenth(rt: HostRuntime) {
+    let first_days = [
+        (227015, (1, "M01", 1, "ah", 1)),
+        (232330, (15, "M12", 30, "ah", 15)),
+        (232331, (16, "M01", 1, "ah", 16)),
+        (232685, (17, "M01", 1, "ah", 17)),
+        (237646, (31, "M01", 1, "ah", 31)),
+    ];
+    assert_known(&rt, Hijri::new_tabular(TypeI, Friday), &first_days);
+    let a_day_before = [
+        (227014, (1, "M01", 1, "ah", 1)),
+        (232330, (16, "M01", 1, "ah", 16)),
+        (232684, (17, "M01", 1, "ah", 17)),
+        (237645, (31, "M01", 1, "ah", 31)),
+    ];
+    assert_known(&rt, Hijri::new_tabular(TypeI, Thursday), &a_day_before);
+    let of_type_ii = [
+        (232330, (16, "M01", 1, "ah", 16)),
+        (232684, (16, "M12", 30, "ah", 16)),
+        (232685, (17, "M01", 1, "ah", 17)),
+        (237646, (31, "M01", 1, "ah", 31)),
+    ];
+    assert_known(&rt, Hijri::new_tabular(TypeII, Friday), &of_type_ii);
+}
+
 /// Whether the date of a day comes before that of the next day.
 fn is_before_next<A: AsCalendar + Copy>(number: i64, calendar: A) -> bool
 where
@@ -208,6 +248,8 @@ fn days_come_back_from_their_fields(rt: HostRuntime) {
     assert_back(&rt, Hebrew);
     assert_back(&rt, Hijri::new_tabular(TypeII, Friday));
     assert_back(&rt, Hijri::new_tabular(TypeII, Thursday));
+    assert_back(&rt, Hijri::new_tabular(TypeI, Friday));
+    assert_back(&rt, Hijri::new_tabular(TypeI, Thursday));
     assert_back(&rt, Hijri::new_umm_al_qura(HijriTable::none()));
     assert_back(
         &rt,

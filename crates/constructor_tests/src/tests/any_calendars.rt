@@ -87,7 +87,7 @@ fn dates_of_lunisolar_calendars_are_dates_of_any(rt: HostRuntime) {
 fn dates_of_hijri_calendars_are_dates_of_any(rt: HostRuntime) {
     use AnyCalendarKind as kind;
     use TabularAlgorithmEpoch::{Friday, Thursday};
-    use TabularAlgorithmLeapYears::TypeII;
+    use TabularAlgorithmLeapYears::{TypeI, TypeII};
     let (civil, tabular) = (
         Hijri::new_tabular(TypeII, Friday),
         Hijri::new_tabular(TypeII, Thursday),
@@ -96,6 +96,12 @@ fn dates_of_hijri_calendars_are_dates_of_any(rt: HostRuntime) {
     let umm_al_qura = Hijri::new_umm_al_qura(HijriTable::none());
     assert_any(&rt, civil, kind::HijriTabularTypeIIFriday, 1420);
     assert_any(&rt, tabular, kind::HijriTabularTypeIIThursday, 1420);
+    let (friday, thursday) = (
+        Hijri::new_tabular(TypeI, Friday),
+        Hijri::new_tabular(TypeI, Thursday),
+    );
+    assert_any(&rt, friday, kind::HijriTabularTypeIFriday, 1420);
+    assert_any(&rt, thursday, kind::HijriTabularTypeIThursday, 1420);
     assert_any(&rt, simulated, kind::HijriSimulatedMecca, 1420);
     assert_any(&rt, umm_al_qura, kind::HijriUmmAlQura, 1420);
 }

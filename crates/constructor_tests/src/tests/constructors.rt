@@ -230,7 +230,7 @@ fn a_month_or_an_era_that_is_not_there_is_named(rt: HostRuntime) {
     }
 }
 
-const KINDS: [AnyCalendarKind; 18] = [
+const KINDS: [AnyCalendarKind; 20] = [
     AnyCalendarKind::Buddhist,
     AnyCalendarKind::Chinese,
     AnyCalendarKind::Coptic,
@@ -249,6 +249,8 @@ const KINDS: [AnyCalendarKind; 18] = [
     AnyCalendarKind::Julian,
     AnyCalendarKind::Persian,
     AnyCalendarKind::Roc,
+    AnyCalendarKind::HijriTabularTypeIFriday,
+    AnyCalendarKind::HijriTabularTypeIThursday,
 ];
 
 /// The month of a date as a constructor takes it.

@@ -26,6 +26,8 @@ fn year_2000_by_kind(rt: HostRuntime) {
         (AnyCalendarKind::Julian, 1999),
         (AnyCalendarKind::Persian, 1378),
         (AnyCalendarKind::Roc, 89),
+        (AnyCalendarKind::HijriTabularTypeIFriday, 1420),
+        (AnyCalendarKind::HijriTabularTypeIThursday, 1420),
     ];
     for (kind, year) in years {
         let date = date_on(730120, kind);

@@ -1,8 +1,8 @@
 //! Dates from texts of RFC 9557 and from records: known days, and the first fault.
 
 use icu_calendar::{
-    AsCalendar, Calendar, CalendarAlgorithm, Date, DateRecord, Gregorian, Hebrew, Iso, IxdtfRecord,
-    ParseError, RangeError,
+    AsCalendar, Calendar, CalendarAlgorithm, Date, DateRecord, Gregorian, Hebrew, Hijri, Iso,
+    IxdtfRecord, ParseError, RangeError, TabularAlgorithmEpoch, TabularAlgorithmLeapYears,
 };
 use known_dates::number_in;
 use std::process::Abort;
@@ -120,6 +120,27 @@ fn names_of_other_calendars_are_refused(rt: HostRuntime) {
     ] {
         assert_gregorian(&rt, text, answer);
     }
+}
+
+/// The day number that a text names in the tabular Hijri calendar with these leap years, from Friday on.
+fn day_in_tabular(text: &str, leap_years: TabularAlgorithmLeapYears) -> Result<i64, ParseError> {
+    let calendar = Hijri::new_tabular(leap_years, TabularAlgorithmEpoch::Friday);
+    day_named(text, calendar)
+}
+
+#[test]
+fn a_calendar_without_a_name_takes_any_annotation(rt: HostRuntime) {
+    use TabularAlgorithmLeapYears::{TypeI, TypeII};
+    for text in [
+        "2024-03-01",
+        "2024-03-01[u-ca=hebrew]",
+        "2024-03-01[!u-ca=islamic-civil]",
+        "2024-03-01[u-ca=klingon]",
+    ] {
+        assert!(rt; day_in_tabular(text, TypeI) == Ok(738946), "{text}");
+    }
+    assert!(rt; day_in_tabular("2024-03-01[u-ca=islamic-civil]", TypeII) == Ok(738946));
+    assert!(rt; day_in_tabular("2024-03-01[u-ca=hebrew]", TypeII).is_err());
 }
 
 /// Whether a record without a calendar is refused for this cause.

@@ -72,6 +72,81 @@ fn a_tabular_new_year_is_on_its_iso_day(rt: HostRuntime) {
     assert_holds(&rt, "the leap year", hijri.is_in_leap_year(&date));
 }
 
+/// The first thirty years: whether each is a leap year by type I, and by type II. Source: R. H. van Gent's page on the
+/// Arabic calendar, which lists the leap years of both.
+const THIRTY_YEARS: [(i32, bool, bool); 30] = [
+    (1, false, false),
+    (2, true, true),
+    (3, false, false),
+    (4, false, false),
+    (5, true, true),
+    (6, false, false),
+    (7, true, true),
+    (8, false, false),
+    (9, false, false),
+    (10, true, true),
+    (11, false, false),
+    (12, false, false),
+    (13, true, true),
+    (14, false, false),
+    (15, true, false),
+    (16, false, true),
+    (17, false, false),
+    (18, true, true),
+    (19, false, false),
+    (20, false, false),
+    (21, true, true),
+    (22, false, false),
+    (23, false, false),
+    (24, true, true),
+    (25, false, false),
+    (26, true, true),
+    (27, false, false),
+    (28, false, false),
+    (29, true, true),
+    (30, false, false),
+];
+
+#[test]
+fn eleven_of_thirty_years_are_leap_years(rt: HostRuntime) {
+    let friday = TabularAlgorithmEpoch::Friday;
+    let type_i = Hijri::new_tabular(TabularAlgorithmLeapYears::TypeI, friday);
+    let type_ii = Hijri::new_tabular(TabularAlgorithmLeapYears::TypeII, friday);
+    for (place, by_type_i, by_type_ii) in THIRTY_YEARS {
+        for first in [-60, 0, 1440] {
+            let year = first + place;
+            assert_at(&rt, year, is_leap_year(type_i, year), Some(by_type_i));
+            assert_at(&rt, year, is_leap_year(type_ii, year), Some(by_type_ii));
+        }
+    }
+}
+
+#[test]
+fn rules_of_type_i_are_others_than_those_of_type_ii(rt: HostRuntime) {
+    let friday = TabularAlgorithmEpoch::Friday;
+    let type_i = Hijri::new_tabular(TabularAlgorithmLeapYears::TypeI, friday);
+    let type_ii = Hijri::new_tabular(TabularAlgorithmLeapYears::TypeII, friday);
+    let made = type_i.new_date(YearInput::Extended(1455), Month::new(12), 30);
+    let date = made.expect(&rt, "the date is there");
+    assert_same(&rt, type_i.to_rata_die(&date).to_i64_date(), 742618);
+    assert_same(&rt, type_ii.owns(&date), false);
+    let other = type_i.check_date_compatibility(&type_ii).is_err();
+    assert_holds(&rt, "other leap years", other);
+    assert_same(&rt, type_i.debug_name(), "Hijri (Type I, Friday)");
+    assert_holds(&rt, "no algorithm", type_i.calendar_algorithm().is_none());
+    let leap_years = TabularAlgorithmLeapYears::TypeI;
+    let thursday = Hijri::new_tabular(leap_years, TabularAlgorithmEpoch::Thursday);
+    assert_same(&rt, thursday.debug_name(), "Hijri (Type I, Thursday)");
+}
+
+/// Whether a tabular year is a leap year.
+fn is_leap_year(hijri: Hijri<TabularAlgorithm>, year: i32) -> Option<bool> {
+    match hijri.new_date(YearInput::Extended(year), Month::new(1), 1) {
+        Ok(date) => Some(hijri.is_in_leap_year(&date)),
+        Err(_) => None,
+    }
+}
+
 /// The day before the first day of year 1 lies in the first year before the Hijra.
 #[test]
 fn a_date_belongs_to_its_own_epoch(rt: HostRuntime) {

@@ -229,6 +229,26 @@ fn requests_in_any_pieces(rt: HostRuntime) -> Result<(), Fail> {
     Ok(())
 }
 
+/// The 15th of each thirty years is a leap year by the rules of type I, and by those of type II it isn't.
+const LEAP_YEAR_OF_TYPE_I: [Answered; 2] = [
+    Answered {
+        line: b"span islamic-type1-friday islamic-civil days reject none from year=1455 month=M12 day=30 to year=1456 month=M01 day=1",
+        answer: b"ok 1455/ah.1455/M12/30@742618 1456/ah.1456/M01/01@742618 1456/ah.1456/M01/01@742619 1456/ah.1456/M01/02@742619 P1D\n",
+    },
+    Answered {
+        line: b"span islamic-civil islamic-type1-friday days reject none from year=1455 month=M12 day=30 to year=1456 month=M01 day=1",
+        answer: b"err from InvalidDay 29\n",
+    },
+];
+
+#[test]
+fn a_leap_year_of_type_i_has_a_day_that_type_ii_lacks(rt: HostRuntime) -> Result<(), Fail> {
+    for case in &LEAP_YEAR_OF_TYPE_I {
+        assert_answer(&rt, rt.alloc(), case.line, case.answer)?;
+    }
+    Ok(())
+}
+
 /// The leap day's request, written in other ways.
 const LEAP_DAYS: [&[u8]; 4] = [
     LEAP_DAY,

@@ -36,8 +36,23 @@ fn names_of_kinds(rt: HostRuntime) {
     assert_program_name(&rt, "japanese", Kind::Japanese);
     assert_program_name(&rt, "persian", Kind::Persian);
     assert_program_name(&rt, "roc", Kind::Roc);
+    assert_program_name(&rt, "islamic-type1-friday", Kind::HijriTabularTypeIFriday);
+    assert_program_name(
+        &rt,
+        "islamic-type1-thursday",
+        Kind::HijriTabularTypeIThursday,
+    );
     for name in [
-        "", "ISO", "iso ", "is", "isos", "japanext", "islamic", "gregory",
+        "",
+        "ISO",
+        "iso ",
+        "is",
+        "isos",
+        "japanext",
+        "islamic",
+        "islamic-type1",
+        "islamic-type2-friday",
+        "gregory",
     ] {
         let found = AnyCalendarKind::from_program_name(name.as_bytes());
         assert_at(&rt, name, found, None);
@@ -160,4 +175,10 @@ fn kinds_are_ordered_as_their_names(rt: HostRuntime) {
     assert_after(&rt, Kind::JapaneseExtended, Kind::Julian);
     assert_after(&rt, Kind::Julian, Kind::Persian);
     assert_after(&rt, Kind::Persian, Kind::Roc);
+    assert_after(&rt, Kind::Roc, Kind::HijriTabularTypeIFriday);
+    assert_after(
+        &rt,
+        Kind::HijriTabularTypeIFriday,
+        Kind::HijriTabularTypeIThursday,
+    );
 }
