@@ -36,7 +36,8 @@ is_equal_row a b = is_equal_year (row_year a) (row_year b)
 abbrev pub Lengthens : Side → List EastAsianRow → List EastAsianRow → Type 0
 Lengthens side = rows.Lengthens is_equal_row (λ rows. IsAccepted (computed_year side) (years_of rows))
 
--- a fault names the first row of the table that isn't among others in its place, and where there is none their first fault
+-- a fault names the first row of the table that isn't among others in its place; where there is none it is their first
+-- fault
 abbrev pub IsLengthenFault : Side → List EastAsianRow → List EastAsianRow → LengthenFault → Type 0
 IsLengthenFault side =
     rows.IsLengthenFault is_equal_row (λ rows fault. IsFirstFault (computed_year side) (years_of rows) fault)

@@ -1,5 +1,5 @@
-//! Tables that are lengthened, and rows that lengthen none. The Chinese rows are those of GNU Emacs 28.2 (`rows/`). Which
-//! rows end where a computed year starts was computed by a program of its own, from the formulas of the computed years.
+//! Tables that are lengthened, and rows that lengthen none. The Chinese rows are those of GNU Emacs 28.2 (`rows/`);
+//! which of them end where a computed year starts was computed by a program of its own, from the formulas of these.
 
 use crate::tests::expected::{assert_at, assert_holds, assert_same};
 use cal_base::Calendar;
