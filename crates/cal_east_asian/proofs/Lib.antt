@@ -3,3 +3,4 @@ pub mod MoonLemmas
 pub mod PlaceLemmas
 pub mod PartLemmas
 pub mod TableMonthLemmas
+pub mod LengtheningLemmas

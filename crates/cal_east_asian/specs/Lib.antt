@@ -23,4 +23,5 @@ pub mod MonthStarts
 pub mod EastAsianReferences
 pub mod TableRules
 pub mod TableMonths
+pub mod LengthenedTables
 pub mod laws

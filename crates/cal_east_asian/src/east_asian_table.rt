@@ -5,6 +5,7 @@ ghost use Rattle.cal_days.specs.Day.{IsRuleYear};
 ghost use Rattle.cal_east_asian.specs.laws.ComputedLaws.{computed_year};
 ghost use Rattle.cal_east_asian.specs.EastAsianRows.{years_of};
 ghost use Rattle.cal_east_asian.specs.LeapRows.{leap_rows as leap_rows_of};
+ghost use Rattle.cal_east_asian.specs.LengthenedTables.{IsLengthenFault, KeepsYears, Lengthens};
 ghost use Rattle.cal_east_asian.specs.TableAccepted.{IsAccepted, IsFirstFault};
 ghost use Rattle.cal_east_asian.specs.TableYears as table;
 ghost use Rattle.cal_east_asian.specs.TableYears.{HasNoRow, IsRowOf};
@@ -16,7 +17,8 @@ use crate::east_asian_traditional_year::EastAsianTraditionalYear;
 use crate::leap_rows::count_leap_rows;
 use crate::sides::Side;
 use crate::table_check::check;
-use cal_types::TableFault;
+use cal_rows::first_difference;
+use cal_types::{LengthenFault, TableFault};
 
 /// Rows of years for China or for Korea, which stand in place of the computed years of their numbers.
 ///
@@ -115,6 +117,38 @@ impl<'t> EastAsianTable<'t> {
                 rows,
             }),
             Err(fault) => Err(fault),
+        }
+    }
+
+    /// The table of longer rows, for the same side: they begin with this table's rows, and are accepted. Each year
+    /// that isn't among the rows that were added keeps its first day and its months.
+    ///
+    /// Rows are equal where the years are that they are read as: in number, first day, the lengths of their months and
+    /// the place of the leap month.
+    ///
+    /// [`LengthenFault::Differs`] names the first of this table's rows, counted from 1, to which the longer ones have
+    /// none equal in its place, as where they are fewer. Where there is no such row, [`LengthenFault::Table`] has the
+    /// fault that [`EastAsianTable::try_new`] finds in the longer ones. No memory is taken.
+    ///
+    /// ```
+    /// let table = EastAsianTable::try_new(Side::China, &rows[..50])?;
+    /// let lengthened = table.lengthened(&rows)?;
+    /// ```
+    pub fn lengthened<'u>(
+        &self,
+        rows: &'u [EastAsianRow],
+    ) -> Result<EastAsianTable<'u>, LengthenFault>
+        ensures first { MatchResult result (λ made. (made.side ≡ self.now.side) × (made.rows.now ≡ rows.now))
+            (IsLengthenFault self.now.side self.now.rows.now rows.now) }
+        ensures exact { IsOk result ↔ Lengthens self.now.side self.now.rows.now rows.now }
+        ensures kept { IsOk result → KeepsYears self.now.side self.now.rows.now rows.now }
+    {
+        if let Some(row) = first_difference(self.rows, rows) {
+            return Err(LengthenFault::Differs { row });
+        }
+        match EastAsianTable::try_new(self.side, rows) {
+            Ok(table) => Ok(table),
+            Err(fault) => Err(LengthenFault::Table(fault)),
         }
     }
 

@@ -3,10 +3,12 @@
 ghost use Rattle.std.specs.Prelude.{◌≡◌};
 ghost use Rattle.std.specs.Cmp.Lexicographic.{pointwise};
 ghost use Rattle.cal_east_asian.specs.EastAsianRows.{is_same_row, years_of};
+ghost use Rattle.cal_east_asian.specs.LengthenedTables.{bits_end, is_equal_year};
 ghost use Rattle.cal_east_asian.specs.SameYears.{same_year};
 
 use crate::east_asian_row::EastAsianRow;
 use crate::east_asian_traditional_year::EastAsianTraditionalYear;
+use cal_rows::Row;
 
 /// Whether two years have the same number, first day, month lengths and leap month.
 pub(crate) fn is_same_year(one: EastAsianTraditionalYear, other: EastAsianTraditionalYear) -> bool
@@ -16,6 +18,34 @@ pub(crate) fn is_same_year(one: EastAsianTraditionalYear, other: EastAsianTradit
         && one.new_year == other.new_year
         && one.long_months == other.long_months
         && one.leap_month == other.leap_month
+}
+
+/// One more than the greatest bits of the months of a year with its leap month in a place, or with none in 0.
+fn bits_end(leap_month: u8) -> u16
+    ensures { result ≡ bits_end leap_month }
+{
+    if leap_month == 0 { 4096 } else { 8192 }
+}
+
+/// Whether two years are equal in number, first day, the lengths of their months and the place of the leap month.
+fn is_equal_year(one: EastAsianTraditionalYear, other: EastAsianTraditionalYear) -> bool
+    ensures { result ≡ is_equal_year one other }
+{
+    one.related_iso == other.related_iso
+        && one.new_year == other.new_year
+        && one.long_months % bits_end(one.leap_month)
+            == other.long_months % bits_end(other.leap_month)
+        && one.leap_month == other.leap_month
+}
+
+impl Row for EastAsianRow {
+    ghost use Rattle.cal_east_asian.specs.LengthenedTables.{is_equal_row};
+
+    ghost equal = { is_equal_row };
+
+    fn is_equal_row(self, other: EastAsianRow) -> bool {
+        is_equal_year(self.year(), other.year())
+    }
 }
 
 /// Whether two rows are the same year.

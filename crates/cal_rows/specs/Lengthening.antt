@@ -29,8 +29,8 @@ abbrev pub Lengthens : {R : Type 0} → (R → R → Bool) → (List R → Type 
 Lengthens equal accepted old rows = BeginWith equal old rows × accepted rows
 
 -- a fault names the first row that differs, and where there is none the first fault of the new rows
-abbrev pub IsLengthenFault : {R : Type 0} → (R → R → Bool) → (List R → TableFault → Type 0) → List R → List R
-    → LengthenFault → Type 0
+abbrev pub IsLengthenFault :
+    {R : Type 0} → (R → R → Bool) → (List R → TableFault → Type 0) → List R → List R → LengthenFault → Type 0
 IsLengthenFault equal first_fault old rows (Differs row) = IsFirstDifference equal old rows row
 IsLengthenFault equal first_fault old rows (Table fault) = BeginWith equal old rows × first_fault rows fault
 

@@ -3,3 +3,4 @@ pub mod Forms
 pub mod Recurrence
 pub mod Feasts
 pub mod ComingDays
+pub mod StoredDates

@@ -6,6 +6,7 @@ mod coming_days;
 mod every_calendar;
 mod feasts;
 mod mean_rules;
+mod stored_dates;
 mod uses;
 
 use almanac::new_year_by_rows;
@@ -14,10 +15,11 @@ use every_calendar::print_every_calendar;
 use feasts::{hebrew_text_in_gregorian, next_easter};
 use icu_calendar::{
     AnyCalendar, AsCalendar, Calendar, Date, DateDuration, EastAsianTraditional, Gregorian, Hebrew,
-    Iso, Julian, RataDie, Window,
+    HijriRow, HijriTable, Iso, Julian, RataDie, Window,
 };
 use mean_rules::MeanRules;
 use std::io;
+use stored_dates::{UpdatedDate, updated_date};
 use uses::{age, date_of_form, in_chosen_calendar, is_earlier, months_later, there_and_back};
 
 const GREGORIAN: AnyCalendar<'static> = AnyCalendar::Gregorian(Gregorian);
@@ -189,6 +191,53 @@ fn print_new_years(rt: &HostRuntime) -> io::Result<()> {
     Ok(())
 }
 
+/// The year 1445 of Umm al-Qura, from 2023-07-19 on.
+const YEAR_1445: HijriRow = HijriRow {
+    extended_year: 1445,
+    long_months: 0xd56,
+    start_offset: 5,
+};
+
+/// The same year, and the next one.
+const TWO_YEARS: &[u8] = b"row hijri 1445 738720 sllslslslsll
+row hijri 1446 739075 sllslslslsls
+";
+
+/// Two days that were stored while the year 1445 alone was known, once the next year is; a text with another year 1445;
+/// and one whose last year ends a day late.
+fn print_stored_dates(rt: &HostRuntime) -> io::Result<()> {
+    let rows = [YEAR_1445];
+    let Ok(table) = HijriTable::try_new(&rows) else {
+        return Ok(());
+    };
+    let other: &[u8] = b"row hijri 1445 738720 lslslslslsll";
+    let late: &[u8] = b"row hijri 1445 738720 sllslslslsll
+row hijri 1446 739075 sllslslslsll";
+    for (text, day) in [
+        (TWO_YEARS, 738749),
+        (TWO_YEARS, 739105),
+        (other, 738749),
+        (late, 738749),
+    ] {
+        match updated_date(rt.alloc(), table, text, RataDie::new(day)) {
+            Ok(date) => print_stored_date(rt, day, date)?,
+            Err(fault) => println!(rt; "stored day {day}: {fault}")?,
+        }
+    }
+    Ok(())
+}
+
+/// A stored date, and whether it has moved.
+fn print_stored_date(rt: &HostRuntime, stored: i64, date: UpdatedDate) -> io::Result<()> {
+    let UpdatedDate {
+        year,
+        month,
+        day,
+        moved,
+    } = date;
+    println!(rt; "stored day {stored}: {year}-{month}-{day}, moved: {moved}")
+}
+
 fn main(rt: HostRuntime) -> io::Result<()> {
     print_forms(&rt)?;
     print_chosen_calendar(&rt)?;
@@ -202,5 +251,6 @@ fn main(rt: HostRuntime) -> io::Result<()> {
     print_birthdays(&rt)?;
     print_paydays(&rt)?;
     print_reunions(&rt)?;
-    print_new_years(&rt)
+    print_new_years(&rt)?;
+    print_stored_dates(&rt)
 }

@@ -3,6 +3,7 @@
 mod comparing;
 mod conversions;
 mod getters;
+mod rebasing;
 mod recurrences;
 mod texts;
 mod weeks;

@@ -5,6 +5,7 @@ pub mod FieldsLemmas
 pub mod OptionLemmas
 pub mod NumberLemmas
 pub mod NameLemmas
+pub mod RebaseLemmas
 pub mod RecordLemmas
 pub mod DateTextLemmas
 pub mod WeekLemmas

@@ -12,6 +12,7 @@ pub mod EastAsianMonthStarts
 pub mod Recurring
 pub mod HolidayBooks
 pub mod OwnRows
+pub mod Rebasing
 pub use Rattle.cal_days.specs.Day
 pub use Rattle.cal_days.specs.Sums
 pub use Rattle.cal_days.specs.Gregorian
@@ -47,6 +48,8 @@ pub use Rattle.cal_model.specs.Adding
 pub use Rattle.cal_model.specs.Difference
 pub use Rattle.cal_model.specs.Renumbered
 pub use Rattle.cal_model.specs.DayDates
+pub use Rattle.cal_model.specs.SameYear
+pub use Rattle.cal_rows.specs.Lengthening
 pub use Rattle.cal_model.specs.Anniversary
 pub use Rattle.cal_arith.specs.Dates
 pub use Rattle.cal_arith.specs.Given
@@ -86,10 +89,12 @@ pub use Rattle.cal_hebrew.specs.HebrewSystem
 pub use Rattle.cal_hijri.specs.HijriList
 pub use Rattle.cal_hijri.specs.HijriMonths
 pub use Rattle.cal_hijri.specs.HijriNames
+pub use Rattle.cal_hijri.specs.HijriRows
 pub use Rattle.cal_hijri.specs.HijriSystem
 pub use Rattle.cal_hijri.specs.TabularRules
 pub use Rattle.cal_hijri.specs.TableRules
 pub use Rattle.cal_hijri.specs.TableAccepted
+pub use Rattle.cal_hijri.specs.LengthenedTables as HijriLengthening
 pub use Rattle.cal_east_asian.specs.EastAsianList
 pub use Rattle.cal_east_asian.specs.EastAsianPlaces
 pub use Rattle.cal_east_asian.specs.EastAsianYear
@@ -102,6 +107,7 @@ pub use Rattle.cal_east_asian.specs.laws.RuleLaws
 pub use Rattle.cal_east_asian.specs.QingYears
 pub use Rattle.cal_east_asian.specs.ComputedYears
 pub use Rattle.cal_east_asian.specs.TableYears
+pub use Rattle.cal_east_asian.specs.LengthenedTables as EastAsianLengthening
 pub use Rattle.cal_anniversary.specs.Asking
 pub use Rattle.cal_anniversary.specs.Listing
 pub use Rattle.cal_any.specs.AnySystem

@@ -21,6 +21,7 @@ ghost use Rattle.icu_calendar.specs.Clamping.{clamped_day, done_with};
 mod any;
 mod comparing;
 mod copies;
+pub(crate) mod rebasing;
 
 use cal_arith::Steps;
 use cal_base::{AsCalendar, Calendar, Iso, Ref};

@@ -1,11 +1,21 @@
 //! Laws of dates, each proved as the contract of a function.
 
-ghost use Rattle.std.specs.Prelude.{◌≡◌, ◌↔◌, IsTrue, IsOk, IfOk};
+ghost use Rattle.std.specs.Prelude.{◌≡◌, ◌↔◌, IsTrue, IsOk, IfOk, false};
 ghost use Rattle.cal_types.specs.Bag.{bag_of, year_month_day};
 ghost use Rattle.cal_model.specs.CalendarList.{month_at};
+ghost use Rattle.cal_model.specs.SameYear.{HaveSameYear};
+ghost use Rattle.cal_hijri.specs.HijriSystem.{packed_date as packed_hijri};
+ghost use Rattle.cal_hijri.specs.LengthenedTables as hijri;
+ghost use Rattle.cal_east_asian.specs.EastAsianSystem.{packed_date as packed_east_asian};
+ghost use Rattle.cal_east_asian.specs.LengthenedTables as east_asian;
+ghost use Rattle.cal_east_asian.specs.declared.sides.Side.TheVariants.{China, Korea};
+ghost use Rattle.icu_calendar.specs.Rebasing.{IsRebased};
 
 use crate::date::Date;
+use crate::date::rebasing::Rebased;
 use cal_base::{AsCalendar, Calendar, Ref};
+use cal_east_asian::{ChineseTraditional, KoreanTraditional};
+use cal_hijri::{AstronomicalSimulation, Hijri, UmmAlQura};
 use cal_types::{
     DateAddOptions, DateDifferenceOptions, DateFields, DateFromFieldsOptions,
     MissingFieldsStrategy, Overflow,
@@ -99,4 +109,88 @@ where
 {
     let year = date.year().extended_year();
     DateFields::from_year_month_day(year, date.month().to_input(), date.day_of_month().0)
+}
+
+/// A date in another calendar. Where its year has the same first day and the same months there, it isn't moved.
+pub fn rebased_in_a_shared_year<A: AsCalendar, B: AsCalendar>(
+    date: &Date<A>,
+    calendar: B,
+) -> Rebased<B>
+where
+    A::Calendar: Calendar,
+    B::Calendar: Calendar,
+    ensures rebased { let c = A.cal_of date.now.calendar in let d = B.cal_of calendar in
+        let t = A.Calendar.date_of c date.now.inner in let u = B.Calendar.date_of d result.date.inner in
+        IsRebased (A.Calendar.system c).list (B.Calendar.system d).list t u result.moved }
+    ensures stays { let c = A.cal_of date.now.calendar in let d = B.cal_of calendar in
+        HaveSameYear (A.Calendar.system c).list (B.Calendar.system d).list (A.Calendar.date_of c date.now.inner).year
+        → result.moved ≡ false }
+    ensures calendar { result.date.calendar ≡ calendar }
+{
+    date.rebase(calendar)
+}
+
+/// A date of Umm al-Qura, where the table is lengthened: it isn't moved where its year isn't among the rows that were
+/// added.
+pub fn umm_al_qura_date_kept<'u>(
+    date: &Date<Hijri<UmmAlQura<'_>>>,
+    calendar: Hijri<UmmAlQura<'u>>,
+) -> Rebased<Hijri<UmmAlQura<'u>>>
+    ensures rebased { let old = date.now.calendar.0.table.rows.now in let longer = calendar.entry.0.table.rows.now in
+        let c = hijri.list_with old in let d = hijri.list_with longer in
+        let t = packed_hijri date.now.inner.0.packed in let u = packed_hijri result.date.inner.0.packed in
+        IsRebased c d t u result.moved }
+    ensures stays { let old = date.now.calendar.0.table.rows.now in let longer = calendar.entry.0.table.rows.now in
+        hijri.Lengthens old longer → hijri.IsNotAdded old longer (packed_hijri date.now.inner.0.packed).year
+        → result.moved ≡ false }
+{
+    rebased_in_a_shared_year(date, calendar)
+}
+
+/// The same for the simulated calendar of Mecca.
+pub fn simulated_mecca_date_kept<'u>(
+    date: &Date<Hijri<AstronomicalSimulation<'_>>>,
+    calendar: Hijri<AstronomicalSimulation<'u>>,
+) -> Rebased<Hijri<AstronomicalSimulation<'u>>>
+    ensures rebased { let old = date.now.calendar.0.table.rows.now in let longer = calendar.entry.0.table.rows.now in
+        let c = hijri.list_with old in let d = hijri.list_with longer in
+        let t = packed_hijri date.now.inner.0.packed in let u = packed_hijri result.date.inner.0.packed in
+        IsRebased c d t u result.moved }
+    ensures stays { let old = date.now.calendar.0.table.rows.now in let longer = calendar.entry.0.table.rows.now in
+        hijri.Lengthens old longer → hijri.IsNotAdded old longer (packed_hijri date.now.inner.0.packed).year
+        → result.moved ≡ false }
+{
+    rebased_in_a_shared_year(date, calendar)
+}
+
+/// The same for the Chinese calendar.
+pub fn chinese_date_kept<'u>(
+    date: &Date<ChineseTraditional<'_>>,
+    calendar: ChineseTraditional<'u>,
+) -> Rebased<ChineseTraditional<'u>>
+    ensures rebased { let old = date.now.calendar.0.table.rows.now in let longer = calendar.entry.0.table.rows.now in
+        let c = east_asian.list_with China old in let d = east_asian.list_with China longer in
+        let t = packed_east_asian date.now.inner.0.packed in let u = packed_east_asian result.date.inner.0.packed in
+        IsRebased c d t u result.moved }
+    ensures stays { let old = date.now.calendar.0.table.rows.now in let longer = calendar.entry.0.table.rows.now in
+        east_asian.Lengthens China old longer
+        → east_asian.IsNotAdded old longer (packed_east_asian date.now.inner.0.packed).year → result.moved ≡ false }
+{
+    rebased_in_a_shared_year(date, calendar)
+}
+
+/// The same for the Korean calendar.
+pub fn korean_date_kept<'u>(
+    date: &Date<KoreanTraditional<'_>>,
+    calendar: KoreanTraditional<'u>,
+) -> Rebased<KoreanTraditional<'u>>
+    ensures rebased { let old = date.now.calendar.0.table.rows.now in let longer = calendar.entry.0.table.rows.now in
+        let c = east_asian.list_with Korea old in let d = east_asian.list_with Korea longer in
+        let t = packed_east_asian date.now.inner.0.packed in let u = packed_east_asian result.date.inner.0.packed in
+        IsRebased c d t u result.moved }
+    ensures stays { let old = date.now.calendar.0.table.rows.now in let longer = calendar.entry.0.table.rows.now in
+        east_asian.Lengthens Korea old longer
+        → east_asian.IsNotAdded old longer (packed_east_asian date.now.inner.0.packed).year → result.moved ≡ false }
+{
+    rebased_in_a_shared_year(date, calendar)
 }

@@ -119,6 +119,28 @@ impl TableRows {
         }
     }
 
+    /// The rows of China, in the order of their lines. They aren't tested, so that they may lengthen a table
+    /// ([`EastAsianTable::lengthened`]).
+    pub fn china(&self) -> &[EastAsianRow]
+        ensures { result.now ≡ self.now.china.items }
+    {
+        &self.china
+    }
+
+    /// The rows of Korea, as those of China.
+    pub fn korea(&self) -> &[EastAsianRow]
+        ensures { result.now ≡ self.now.korea.items }
+    {
+        &self.korea
+    }
+
+    /// The rows of Umm al-Qura, as those of China ([`HijriTable::lengthened`]).
+    pub fn umm_al_qura(&self) -> &[HijriRow]
+        ensures { result.now ≡ self.now.hijri.items }
+    {
+        &self.hijri
+    }
+
     /// The tables of these rows. Those of China, of Korea, of the Hijri calendar and the corrected Persian years are
     /// tested in this order; the first that isn't accepted is refused by the first row and part that break.
     pub fn tables(&self) -> Result<Tables<'_>, TableRefusal>

@@ -1,0 +1,169 @@
+//! Tables that are lengthened, and rows that lengthen none. The Chinese rows are those of GNU Emacs 28.2 (`rows/`);
+//! which of them end where a computed year starts was computed by a program of its own, from the formulas of these.
+
+use crate::tests::expected::{assert_at, assert_holds, assert_same};
+use cal_base::Calendar;
+use cal_days::RataDie;
+use cal_east_asian::{ChineseTraditional, EastAsianRow, EastAsianTable, Side};
+use cal_hijri::{Hijri, HijriRow, HijriTable};
+use cal_types::{LengthenFault, Month, TableFault, TablePart, YearInput};
+use std::process::Abort;
+
+/// `row hijri 1445 738720 sllslslslsll`
+const YEAR_1445: HijriRow = HijriRow {
+    extended_year: 1445,
+    long_months: 0xd56,
+    start_offset: 5,
+};
+
+/// `row hijri 1446 739075 sllslslslsls`
+const YEAR_1446: HijriRow = HijriRow {
+    extended_year: 1446,
+    long_months: 0x556,
+    start_offset: 6,
+};
+
+/// The tabular year: `row hijri 1445 738720 lslslslslsll`
+const TABULAR_1445: HijriRow = HijriRow {
+    extended_year: 1445,
+    long_months: 0xd55,
+    start_offset: 5,
+};
+
+/// `row hijri 1446 739075 sllslslslsll`, a day longer
+const LATE_1446: HijriRow = HijriRow {
+    extended_year: 1446,
+    long_months: 0xd56,
+    start_offset: 6,
+};
+
+/// The bits above the twelfth month's are of no month.
+const SAME_1445: HijriRow = HijriRow {
+    extended_year: 1445,
+    long_months: 0xfd56,
+    start_offset: 5,
+};
+
+/// `row china 1912 698026 lslsslssllsl 0`
+const YEAR_1912: EastAsianRow = EastAsianRow {
+    related_iso: 1912,
+    long_months: 0xb25,
+    leap_month: 0,
+    start_offset: 30,
+};
+
+/// `row china 1913 698380 llslsslsslsl 0`
+const YEAR_1913: EastAsianRow = EastAsianRow {
+    related_iso: 1913,
+    long_months: 0xa4b,
+    leap_month: 0,
+    start_offset: 18,
+};
+
+/// `row china 1914 698734 llslslslslssl 6`
+const YEAR_1914: EastAsianRow = EastAsianRow {
+    related_iso: 1914,
+    long_months: 0x12ab,
+    leap_month: 6,
+    start_offset: 7,
+};
+
+/// The bit above the twelfth month's is of no month, and no year has a leap month in the place 1.
+const SAME_1912: EastAsianRow = EastAsianRow {
+    related_iso: 1912,
+    long_months: 0x1b25,
+    leap_month: 1,
+    start_offset: 30,
+};
+
+/// With its first two months exchanged.
+const OTHER_1912: EastAsianRow = EastAsianRow {
+    related_iso: 1912,
+    long_months: 0xb26,
+    leap_month: 0,
+    start_offset: 30,
+};
+
+/// That rows lengthen the table of 1445, or what fault they have.
+fn assert_lengthens(
+    rt: &impl Abort,
+    case: &'static str,
+    rows: &[HijriRow],
+    fault: Option<LengthenFault>,
+) {
+    let table = HijriTable::try_new(&[YEAR_1445]).expect(rt, "the table is accepted");
+    assert_at(rt, case, table.lengthened(rows).err(), fault);
+}
+
+/// The fault of a table.
+fn fault_in(row: usize, part: TablePart) -> Option<LengthenFault> {
+    Some(LengthenFault::Table(TableFault { row, part }))
+}
+
+#[test]
+fn rows_lengthen_a_hijri_table_or_have_a_fault(rt: HostRuntime) {
+    let differs = Some(LengthenFault::Differs { row: 1 });
+    assert_lengthens(&rt, "a year more", &[YEAR_1445, YEAR_1446], None);
+    assert_lengthens(&rt, "no year more", &[YEAR_1445], None);
+    assert_lengthens(&rt, "the same lengths", &[SAME_1445, YEAR_1446], None);
+    assert_lengthens(&rt, "another year 1445", &[TABULAR_1445], differs);
+    assert_lengthens(&rt, "no rows", &[], differs);
+    let late = fault_in(2, TablePart::End);
+    assert_lengthens(&rt, "a late end", &[YEAR_1445, LATE_1446], late);
+    let twice = fault_in(2, TablePart::Year);
+    assert_lengthens(&rt, "a year twice", &[YEAR_1445, YEAR_1445], twice);
+}
+
+#[test]
+fn a_longer_hijri_table_has_the_day_of_its_new_row(rt: HostRuntime) {
+    let table = HijriTable::try_new(&[YEAR_1445]).expect(&rt, "the table is accepted");
+    let rows = [YEAR_1445, YEAR_1446];
+    let longer = table.lengthened(&rows).expect(&rt, "it is lengthened");
+    let umm_al_qura = Hijri::new_umm_al_qura(longer);
+    let made = umm_al_qura.new_date(YearInput::Extended(1446), Month::new(2), 2);
+    let date = made.expect(&rt, "the date is there");
+    assert_same(&rt, umm_al_qura.to_rata_die(&date).to_i64_date(), 739105);
+    let again = longer.lengthened(&rows).is_ok();
+    assert_holds(&rt, "the longer table by its own rows", again);
+    let shorter = longer.lengthened(&[YEAR_1445]).err();
+    assert_same(&rt, shorter, Some(LengthenFault::Differs { row: 2 }));
+}
+
+/// That rows lengthen the table of 1912 of a side, or what fault they have.
+fn assert_lengthens_side(
+    rt: &impl Abort,
+    side: Side,
+    rows: &[EastAsianRow],
+    fault: Option<LengthenFault>,
+) {
+    let table = EastAsianTable::try_new(side, &[YEAR_1912]).expect(rt, "the table is accepted");
+    assert_at(rt, side, table.lengthened(rows).err(), fault);
+}
+
+#[test]
+fn rows_lengthen_an_east_asian_table_or_have_a_fault(rt: HostRuntime) {
+    let published = [YEAR_1912, YEAR_1913, YEAR_1914];
+    let differs = Some(LengthenFault::Differs { row: 1 });
+    let short = fault_in(2, TablePart::End);
+    let late_korean = fault_in(3, TablePart::End);
+    assert_lengthens_side(&rt, Side::China, &published, None);
+    assert_lengthens_side(&rt, Side::China, &[SAME_1912, YEAR_1913, YEAR_1914], None);
+    assert_lengthens_side(&rt, Side::China, &[OTHER_1912], differs);
+    assert_lengthens_side(&rt, Side::China, &[], differs);
+    assert_lengthens_side(&rt, Side::China, &[YEAR_1912, YEAR_1913], short);
+    assert_lengthens_side(&rt, Side::Korea, &published, late_korean);
+}
+
+/// The leap month 5 of 1914 begins on 1914-06-23.
+#[test]
+fn a_longer_chinese_table_has_the_leap_month_of_its_new_row(rt: HostRuntime) {
+    let table = EastAsianTable::try_new(Side::China, &[YEAR_1912]);
+    let table = table.expect(&rt, "the table is accepted");
+    let rows = [YEAR_1912, YEAR_1913, YEAR_1914];
+    let longer = table.lengthened(&rows).expect(&rt, "it is lengthened");
+    assert_holds(&rt, "the side stays", longer.side() == Side::China);
+    let chinese = ChineseTraditional::new(longer);
+    let made = chinese.new_date(YearInput::Extended(1914), Month::leap(5), 1);
+    let date = made.expect(&rt, "the date is there");
+    assert_same(&rt, chinese.to_rata_die(&date).to_i64_date(), 698882);
+}
