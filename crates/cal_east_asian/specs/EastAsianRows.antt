@@ -1,9 +1,9 @@
 -- Rows of a table by plain numbers, and the years that they are.
-use Rattle.std.proofs.Common.{◌≡◌, ℕ, ◌≤◌, min, if◌then◌else◌, Bool, ◌&&◌, List, [], ◌∷◌, IsTrue, refl, ap, arith, ℤ, pos, ◌+ℤ◌}
+use Rattle.std.proofs.Common.{◌≡◌, ℕ, ◌≤◌, ◌<◌, ◌%◌, ◌^◌, nat_eq, min, if◌then◌else◌, Bool, ◌&&◌, List, [], ◌∷◌, IsTrue, refl, ap, arith, ℤ, pos, ◌+ℤ◌}
 use Rattle.std.specs.Prelude.{map}
 use Rattle.std.specs.Cmp.Lexicographic.{pointwise}
 use Rattle.cal_days.proofs.Signed.{signed, by_bool}
-use Rattle.cal_east_asian.specs.EastAsianYear.{january_19, is_leap_place, IsEastAsianYear}
+use Rattle.cal_east_asian.specs.EastAsianYear.{january_19, is_leap_place, months_of_year, IsEastAsianYear}
 use Rattle.cal_east_asian.specs.EastAsianYears.{rule_year, rule_year-rule}
 use Rattle.cal_east_asian.specs.SameYears.{same_year}
 use Rattle.cal_east_asian.specs.declared.east_asian_row.EastAsianRow.{EastAsianRow}
@@ -29,14 +29,22 @@ row-valid row =
     let few : min row.start_offset 34 ≤ 34 = omega arith in
     (rule_year-rule row.related_iso, ((omega (arith, signed), omega (arith, signed, few)), place-valid row.leap_month))
 
+-- the bits above the last month's are of no month
+pub row-few : (bits p : ℕ) → bits % 2 ^ months_of_year p < 2 ^ months_of_year p
+row-few bits p =
+    by_bool {P = bits % 2 ^ months_of_year p < 2 ^ months_of_year p} (nat_eq p 0)
+    (λ none. rw none (omega arith))
+    (λ some. rw some (omega arith))
+
 -- the year of a row
 abbrev pub row_year : EastAsianRow → EastAsianTraditionalYear
 row_year row = record {
   related_iso = row_number row;
   new_year = row_start row;
-  long_months = row.long_months;
+  long_months = row.long_months % 2 ^ months_of_year (place_or_none row.leap_month);
   leap_month = place_or_none row.leap_month;
   valid = row-valid row;
+  few = row-few row.long_months (place_or_none row.leap_month);
 }
 
 -- the years of rows

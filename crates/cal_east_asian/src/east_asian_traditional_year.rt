@@ -36,6 +36,7 @@ pub struct EastAsianTraditionalYear {
     /// The place of the leap month, or 0 without one.
     pub(crate) leap_month: u8,
     ghost valid: { IsEastAsianYear related_iso new_year leap_month },
+    ghost few: { long_months < 2 ^ months_of_year leap_month },
 }
 
 impl PartialEq for EastAsianTraditionalYear {
@@ -170,6 +171,7 @@ impl EastAsianTraditionalYear {
         requires number { IsRuleYear related_iso }
         requires start { IsNewYear related_iso new_year }
         requires place { IsTrue (is_leap_place leap_month) }
+        requires few { long_months < 2 ^ months_of_year leap_month }
         ensures number { result.related_iso ≡ related_iso }
         ensures start { result.new_year ≡ new_year }
         ensures lengths { result.long_months ≡ long_months }
@@ -207,6 +209,7 @@ pub struct KeptEastAsianDate {
     month: u8,
     day: u8,
     ghost valid: { IsEastAsianYear related_iso new_year leap_month },
+    ghost few: { long_months < 2 ^ months_of_year leap_month },
 }
 
 impl PackWithMD for EastAsianTraditionalYear {

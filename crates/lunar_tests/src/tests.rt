@@ -4,3 +4,4 @@ mod counted_years;
 mod east_asian;
 mod expected;
 mod hijri;
+mod packed;
