@@ -212,6 +212,22 @@ pub struct KeptEastAsianDate {
     ghost few: { long_months < 2 ^ months_of_year leap_month },
 }
 
+impl KeptEastAsianDate {
+    ghost use Rattle.cal_east_asian.specs.PackedYears.{kept_year};
+
+    /// The year.
+    fn year(self) -> EastAsianTraditionalYear
+        ensures { result ≡ kept_year self }
+    {
+        EastAsianTraditionalYear {
+            related_iso: self.related_iso,
+            new_year: i64::from(self.new_year),
+            long_months: self.long_months,
+            leap_month: self.leap_month,
+        }
+    }
+}
+
 impl PackWithMD for EastAsianTraditionalYear {
     ghost use Rattle.cal_days.specs.Day.{IsFieldYear};
     ghost use Rattle.cal_arith.specs.Dates.{ymd};
@@ -278,14 +294,8 @@ impl PackWithMD for EastAsianTraditionalYear {
     }
 
     fn read(kept: KeptEastAsianDate) -> Ymd<EastAsianTraditionalYear> {
-        let year = EastAsianTraditionalYear {
-            related_iso: kept.related_iso,
-            new_year: i64::from(kept.new_year),
-            long_months: kept.long_months,
-            leap_month: kept.leap_month,
-        };
         Ymd {
-            year,
+            year: kept.year(),
             month: kept.month,
             day: kept.day,
         }
