@@ -1,9 +1,9 @@
 -- Years of a Chinese or Korean calendar one after another, and what holds of all of them together.
-use Rattle.std.proofs.Common.{◌≡◌, ℕ, Bool, not, ◌||◌, nat_eq, ℤ, pos, ◌+ℤ◌, ◌-ℤ◌}
+use Rattle.std.proofs.Common.{◌≡◌, ◌<◌, ◌^◌, ℕ, Bool, not, ◌||◌, nat_eq, ℤ, pos, ◌+ℤ◌, ◌-ℤ◌}
 use Rattle.std.specs.Prelude.{IsTrue, sum_by}
 use Rattle.cal_days.specs.Day.{IsRuleYear}
 use Rattle.cal_model.specs.CalendarList.{days_of}
-use Rattle.cal_east_asian.specs.EastAsianYear.{IsEastAsianYear}
+use Rattle.cal_east_asian.specs.EastAsianYear.{IsEastAsianYear, months_of_year}
 use Rattle.cal_east_asian.specs.EastAsianMonths.{year_entries}
 use Rattle.cal_east_asian.specs.declared.east_asian_traditional_year.EastAsianTraditionalYear.{EastAsianTraditionalYear}
 pub use Rattle.cal_east_asian.specs.RuleYears.{rule_year}
@@ -41,9 +41,14 @@ pub record AreYears (year_of : ℤ → EastAsianTraditionalYear) : Type 0 where
   pub joins : (y : ℤ) → IsRuleYear y → IsRuleYear (y +ℤ pos 1) → (year_of (y +ℤ pos 1)).new_year ≡ end_day (year_of y)
   pub leaps : (y : ℤ) → IsRuleYear (y -ℤ pos 2) → IsRuleYear y → IsTrue (leap_in_three (λ z. parts_of (year_of z)) y)
 
+-- parts are those of a year of a number, which has no more bits than months
+abbrev pub HasValidParts : ℤ → YearParts → Type 0
+HasValidParts y parts =
+    IsEastAsianYear y parts.new_year parts.leap_month × (parts.long_months < 2 ^ months_of_year parts.leap_month)
+
 -- parts for each number are those of a year
 abbrev pub AreValid : (ℤ → YearParts) → Type 0
-AreValid parts = (y : ℤ) → IsRuleYear y → IsEastAsianYear y (parts y).new_year (parts y).leap_month
+AreValid parts = (y : ℤ) → IsRuleYear y → HasValidParts y (parts y)
 
 -- the year of a number
 abbrev pub year_from : (parts : ℤ → YearParts) → AreValid parts → ℤ → EastAsianTraditionalYear
@@ -52,5 +57,6 @@ year_from parts valid y = record {
   new_year = (parts (rule_year y)).new_year;
   long_months = (parts (rule_year y)).long_months;
   leap_month = (parts (rule_year y)).leap_month;
-  valid = valid (rule_year y) (rule_year-rule y);
+  valid = (valid (rule_year y) (rule_year-rule y)).0;
+  few = (valid (rule_year y) (rule_year-rule y)).1;
 }

@@ -1,12 +1,37 @@
--- The year that a packed date keeps.
+-- The year of a date that is kept or packed.
+use Rattle.std.specs.Prelude.{ℕ, List, pos, unsigned_abs, ℤ, ◌+ℤ◌, ◌-ℤ◌}
+use Rattle.date_bytes.specs.Bytes.{year_from}
+use Rattle.date_bytes.specs.EastAsianBytes.{leap_in, long_in, start_in}
+use Rattle.cal_east_asian.specs.EastAsianYear.{january_19}
+use Rattle.cal_east_asian.specs.RuleYears.{rule_year}
+use Rattle.cal_east_asian.specs.laws.PackedLaws.{valid-by, few-by}
 use Rattle.cal_east_asian.specs.declared.east_asian_traditional_year.EastAsianTraditionalYear.{EastAsianTraditionalYear}
 use Rattle.cal_east_asian.specs.declared.east_asian_traditional_year.KeptEastAsianDate.{KeptEastAsianDate}
 
 abbrev pub kept_year : KeptEastAsianDate → EastAsianTraditionalYear
-kept_year p = record {
-  related_iso = p.related_iso;
-  new_year = p.new_year;
-  long_months = p.long_months;
-  leap_month = p.leap_month;
-  valid = p.valid;
+kept_year k = record {
+  related_iso = k.related_iso;
+  new_year = k.new_year;
+  long_months = k.long_months;
+  leap_month = k.leap_month;
+  valid = k.valid;
+  few = k.few;
+}
+
+-- how many days after January 19 of its number a year starts
+abbrev pub days_after_january_19 : ℤ → ℤ → ℕ
+days_after_january_19 y day = unsigned_abs (day -ℤ january_19 y)
+
+-- the number that bytes hold, or the nearest one of a rule year; four bytes hold no other
+abbrev pub year_in : List ℕ → ℤ
+year_in p = rule_year (year_from 3 p)
+
+abbrev pub packed_year : List ℕ → EastAsianTraditionalYear
+packed_year p = record {
+  related_iso = year_in p;
+  new_year = january_19 (year_in p) +ℤ pos (start_in p);
+  long_months = long_in p;
+  leap_month = leap_in p;
+  valid = valid-by p;
+  few = few-by p;
 }

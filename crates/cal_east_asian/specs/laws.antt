@@ -1,3 +1,4 @@
+pub mod PackedLaws
 pub mod EastAsianEntryLaws
 pub mod MonthDayLaws
 pub mod EastAsianListLaws

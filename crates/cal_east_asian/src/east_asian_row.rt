@@ -1,10 +1,10 @@
 //! A row of a table of Chinese or Korean years.
 
-ghost use Rattle.std.specs.Prelude.{◌≡◌, IsTrue};
+ghost use Rattle.std.specs.Prelude.{◌≡◌, ◌%◌, ◌<◌, ◌^◌, IsTrue};
 ghost use Rattle.cal_days.specs.Day.{IsRuleYear};
 ghost use Rattle.cal_east_asian.specs.RowParts.{place_or_none};
 ghost use Rattle.cal_east_asian.specs.EastAsianRows.{row_year};
-ghost use Rattle.cal_east_asian.specs.EastAsianYear.{is_leap_place};
+ghost use Rattle.cal_east_asian.specs.EastAsianYear.{is_leap_place, months_of_year};
 ghost use Rattle.cal_east_asian.specs.RuleYears.{rule_year};
 
 use crate::east_asian_traditional_year::EastAsianTraditionalYear;
@@ -54,6 +54,18 @@ fn place_or_none(place: u8) -> u8
     }
 }
 
+/// The bits that are those of months of a year with this place of its leap month, or without one.
+fn bits_of_months(long_months: u16, leap_month: u8) -> u16
+    ensures value { result ≡ long_months % 2 ^ months_of_year leap_month }
+    ensures few { result < 2 ^ months_of_year leap_month }
+{
+    if leap_month == 0 {
+        long_months % 4096
+    } else {
+        long_months % 8192
+    }
+}
+
 /// The nearest year to one from -8000000 to 8000000.
 fn nearest_rule_year(year: i32) -> i32
     ensures value { result ≡ rule_year year }
@@ -69,11 +81,12 @@ impl EastAsianRow {
     {
         let related_iso = nearest_rule_year(self.related_iso);
         let january_19 = gregorian::year_start(related_iso).to_i64_date() + 18;
+        let leap_month = place_or_none(self.leap_month);
         EastAsianTraditionalYear::from_parts(
             related_iso,
             january_19 + i64::from(self.start_offset.min(34)),
-            self.long_months,
-            place_or_none(self.leap_month),
+            bits_of_months(self.long_months, leap_month),
+            leap_month,
         )
     }
 }

@@ -36,6 +36,7 @@ pub struct EastAsianTraditionalYear {
     /// The place of the leap month, or 0 without one.
     pub(crate) leap_month: u8,
     ghost valid: { IsEastAsianYear related_iso new_year leap_month },
+    ghost few: { long_months < 2 ^ months_of_year leap_month },
 }
 
 impl PartialEq for EastAsianTraditionalYear {
@@ -186,6 +187,7 @@ impl EastAsianTraditionalYear {
         requires number { IsRuleYear related_iso }
         requires start { IsNewYear related_iso new_year }
         requires place { IsTrue (is_leap_place leap_month) }
+        requires few { long_months < 2 ^ months_of_year leap_month }
         ensures number { result.related_iso ≡ related_iso }
         ensures start { result.new_year ≡ new_year }
         ensures lengths { result.long_months ≡ long_months }
@@ -223,6 +225,23 @@ pub struct KeptEastAsianDate {
     month: u8,
     day: u8,
     ghost valid: { IsEastAsianYear related_iso new_year leap_month },
+    ghost few: { long_months < 2 ^ months_of_year leap_month },
+}
+
+impl KeptEastAsianDate {
+    ghost use Rattle.cal_east_asian.specs.PackedYears.{kept_year};
+
+    /// The year.
+    fn year(self) -> EastAsianTraditionalYear
+        ensures { result ≡ kept_year self }
+    {
+        EastAsianTraditionalYear {
+            related_iso: self.related_iso,
+            new_year: i64::from(self.new_year),
+            long_months: self.long_months,
+            leap_month: self.leap_month,
+        }
+    }
 }
 
 impl PackWithMD for EastAsianTraditionalYear {
@@ -291,14 +310,8 @@ impl PackWithMD for EastAsianTraditionalYear {
     }
 
     fn read(kept: KeptEastAsianDate) -> Ymd<EastAsianTraditionalYear> {
-        let year = EastAsianTraditionalYear {
-            related_iso: kept.related_iso,
-            new_year: i64::from(kept.new_year),
-            long_months: kept.long_months,
-            leap_month: kept.leap_month,
-        };
         Ymd {
-            year,
+            year: kept.year(),
             month: kept.month,
             day: kept.day,
         }

@@ -212,6 +212,21 @@ pub struct KeptHijriDate {
     ghost twelve: { long_months < 4096 },
 }
 
+impl KeptHijriDate {
+    ghost use Rattle.cal_hijri.specs.PackedYears.{kept_year};
+
+    /// The year.
+    fn year(self) -> HijriYear
+        ensures { result ≡ kept_year self }
+    {
+        HijriYear {
+            first_day: i64::from(self.first_day),
+            extended_year: self.extended_year,
+            long_months: self.long_months,
+        }
+    }
+}
+
 impl PackWithMD for HijriYear {
     ghost use Rattle.std.specs.Prelude.{◌-ℤ◌, ◌≤◌};
     ghost use Rattle.cal_days.specs.Day.{IsFieldYear};
@@ -278,13 +293,8 @@ impl PackWithMD for HijriYear {
     }
 
     fn read(kept: KeptHijriDate) -> Ymd<HijriYear> {
-        let year = HijriYear {
-            first_day: i64::from(kept.first_day),
-            extended_year: kept.extended_year,
-            long_months: kept.long_months,
-        };
         Ymd {
-            year,
+            year: kept.year(),
             month: kept.month,
             day: kept.day,
         }

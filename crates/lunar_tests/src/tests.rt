@@ -5,3 +5,4 @@ mod east_asian;
 mod expected;
 mod hijri;
 mod lengthening;
+mod packed;

@@ -5,4 +5,5 @@ mod expected;
 mod gregorian;
 mod julian;
 mod later_eras;
+mod packed;
 mod persian_corrections;

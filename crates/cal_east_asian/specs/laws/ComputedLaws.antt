@@ -5,8 +5,8 @@ use Rattle.cal_days.specs.Division.{floor_div}
 use Rattle.cal_days.specs.Sums.{span}
 use Rattle.cal_days.proofs.Signed.{signed, by_bool}
 use Rattle.cal_days.proofs.SumLemmas.{span-unique}
-use Rattle.cal_east_asian.specs.EastAsianYear.{IsEastAsianYear, months_of_year}
-use Rattle.cal_east_asian.specs.EastAsianYears.{YearParts, end_of, has_leap, leap_in_three, AreYears, AreValid, year_from}
+use Rattle.cal_east_asian.specs.EastAsianYear.{months_of_year}
+use Rattle.cal_east_asian.specs.EastAsianYears.{YearParts, end_of, has_leap, leap_in_three, AreYears, AreValid, year_from, HasValidParts}
 use Rattle.cal_east_asian.specs.laws.EastAsianYearLaws.{years-from}
 use Rattle.cal_east_asian.specs.MeanYears.{IsOffset, moon, term, last_moon, solstice_moon, month_start, lacks_term, leap_month, new_year, first_moon}
 use Rattle.cal_east_asian.specs.laws.MeanYearLaws.{first_moon-next}
@@ -60,15 +60,12 @@ computed-qing side y h = qing-is (mean_parts (standard_offset side) y) (qing_par
 pub computed-early : (side : Side) (y : ℤ) → y <ℤ pos 1900 → computed_parts side y ≡ mean_parts beijing_offset y
 computed-early side y h = early-is (mean_parts (standard_offset side) y) (qing_parts y) (mean_parts beijing_offset y) y h
 
-abbrev Valid : ℤ → YearParts → Type 0
-Valid y parts = IsEastAsianYear y parts.new_year parts.leap_month
-
 pub computed-valid : (side : Side) → AreValid (computed_parts side)
 computed-valid side y rule =
-    by_times {P = Valid y (computed_parts side y)} y
-    (λ late. subst (λ (x : YearParts). Valid y x) (sym (computed-late side y late)) (mean-valid (standard_offset side) (standard-offset side) y rule))
-    (λ qing. subst (λ (x : YearParts). Valid y x) (sym (computed-qing side y qing)) (qing-valid y qing))
-    (λ early. subst (λ (x : YearParts). Valid y x) (sym (computed-early side y early)) (mean-valid beijing_offset beijing-offset y rule))
+    by_times {P = HasValidParts y (computed_parts side y)} y
+    (λ late. subst (λ (x : YearParts). HasValidParts y x) (sym (computed-late side y late)) (mean-valid (standard_offset side) (standard-offset side) y rule))
+    (λ qing. subst (λ (x : YearParts). HasValidParts y x) (sym (computed-qing side y qing)) (qing-valid y qing))
+    (λ early. subst (λ (x : YearParts). HasValidParts y x) (sym (computed-early side y early)) (mean-valid beijing_offset beijing-offset y rule))
 
 -- the year of a number where no table has a row
 abbrev pub computed_year : Side → ℤ → EastAsianTraditionalYear

@@ -1,5 +1,5 @@
 -- The months of a mean year by the place of its leap month and a bit for each month of 30 days.
-use Rattle.std.proofs.Common.{◌≡◌, ℕ, zero, suc, ◌+◌, ◌-◌, ◌*◌, ◌/◌, ◌%◌, ◌<◌, ◌≤◌, true, false, nat_le, nat_lt, nat_eq, if◌then◌else◌, List, [], ◌∷◌, Option, Some, None, refl, sym, ap, subst, ◌∙◌, arith, ℤ}
+use Rattle.std.proofs.Common.{◌≡◌, ℕ, zero, suc, ◌+◌, ◌-◌, ◌*◌, ◌/◌, ◌%◌, ◌^◌, ◌<◌, ◌≤◌, true, false, nat_le, nat_lt, nat_eq, if◌then◌else◌, List, [], ◌∷◌, Option, Some, None, refl, sym, ap, subst, ◌∙◌, arith, ℤ}
 use Rattle.std.specs.Prelude.{IsTrue}
 use Rattle.std.proofs.lemmas.Bool.Decides.{nat_tests}
 use Rattle.cal_days.proofs.Signed.{by_lt}
@@ -15,6 +15,13 @@ use Rattle.cal_east_asian.specs.EastAsianMonths.{month_in_place, entries_by, yea
 abbrev pub bits : List Entry → ℕ
 bits [] = 0
 bits (e ∷ es) = bits es * 2 + (days_of e - 29)
+
+-- so many months have so many bits
+bits-below : (o y : ℤ) (i n : ℕ) → bits (entries_from o y i n) < 2 ^ n
+bits-below o y i zero = omega arith
+bits-below o y i (suc n) =
+    let power : 2 ^ suc n ≡ 2 * 2 ^ n = omega arith in
+    omega (arith, bits-below o y (i + 1) n, month-days o y i, power)
 
 -- the place in the year of its leap month, or 0
 abbrev pub leap_place : Option ℕ → ℕ
@@ -35,6 +42,14 @@ place-months o y =
           let from : nat_le 2 (g - 1) ≡ true = grind (arith, nat_tests) in
           let to : nat_le (g - 1) 13 ≡ true = grind (arith, nat_tests) in
           rw (low, some, from, to) (refl, refl)
+
+-- and no more bits than months
+pub mean_months-few : (o y : ℤ) → bits (mean_months o y) < 2 ^ months_of_year (leap_place (leap_month o y))
+unfolding mean_months
+mean_months-few o y =
+    let g = leap_month o y in
+    let n = end_month g - first_month g in
+    subst (λ (m : ℕ). bits (entries_from o y (first_month g) n) < 2 ^ m) (sym (place-months o y).0) (bits-below o y (first_month g) n)
 
 -- a month's name by its place in the year
 name-none : (j : ℕ) → name_of None (2 + j) ≡ month_in_place 0 (j + 1)

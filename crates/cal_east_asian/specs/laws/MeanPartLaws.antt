@@ -7,7 +7,7 @@ use Rattle.cal_model.specs.CalendarList.{days_of}
 use Rattle.cal_east_asian.specs.MeanYears.{IsOffset, leap_month, first_month, end_month, mean_months, new_year, month_total}
 use Rattle.cal_east_asian.specs.laws.MeanYearLaws.{entries-count, years-join, three-years}
 use Rattle.cal_east_asian.specs.laws.MeanStartLaws.{new_year-near}
-use Rattle.cal_east_asian.specs.laws.MeanMonthLaws.{leap_place, place-months, mean_months-parts}
+use Rattle.cal_east_asian.specs.laws.MeanMonthLaws.{leap_place, place-months, mean_months-few, mean_months-parts}
 use Rattle.cal_east_asian.specs.EastAsianYear.{IsNewYear, months_of_year}
 use Rattle.cal_east_asian.specs.EastAsianYears.{end_of, has_leap, leap_in_three, AreValid}
 use Rattle.cal_east_asian.specs.MeanParts.{mean_parts}
@@ -16,7 +16,7 @@ pub new_year-is_new_year : (o : ℤ) → IsOffset o → (y : ℤ) → IsNewYear 
 new_year-is_new_year o h y = let near = new_year-near o y h.0 h.1 in (omega (arith, signed, near), omega (arith, signed, near))
 
 pub mean-valid : (o : ℤ) → IsOffset o → AreValid (mean_parts o)
-mean-valid o h y rule = (rule, (new_year-is_new_year o h y, (place-months o y).1))
+mean-valid o h y rule = ((rule, (new_year-is_new_year o h y, (place-months o y).1)), mean_months-few o y)
 
 -- the days of the months reach the next year
 pub mean-end : (o y : ℤ) → new_year o (y +ℤ pos 1) ≡ end_of (mean_parts o y)

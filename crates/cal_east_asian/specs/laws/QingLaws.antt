@@ -6,8 +6,8 @@ use Rattle.cal_days.specs.Division.{floor_div}
 use Rattle.cal_days.specs.Gregorian.{gregorian_start, leap_days_through}
 use Rattle.cal_days.proofs.Signed.{signed}
 use Rattle.cal_model.proofs.MonthCases.{by_month}
-use Rattle.cal_east_asian.specs.EastAsianYear.{IsNewYear, IsEastAsianYear, months_of_year}
-use Rattle.cal_east_asian.specs.EastAsianYears.{end_of, has_leap}
+use Rattle.cal_east_asian.specs.EastAsianYear.{IsNewYear, months_of_year}
+use Rattle.cal_east_asian.specs.EastAsianYears.{HasValidParts, end_of, has_leap}
 use Rattle.cal_east_asian.specs.QingYears.{IsQingNumber, qing_rows, qing_parts, row_by_parts}
 
 -- what holds of each year from 1900 to 1911
@@ -21,23 +21,23 @@ near : (y g d : ℕ) → gregorian_start (pos y) ≡ pos g → (g + 18 ≤ d) ×
 near y g d start between year = ((omega (arith, signed), omega (arith, signed)), (omega (arith, signed, start), omega (arith, signed, start)))
 
 abbrev IsQing : ℤ → Type 0
-IsQing y = IsEastAsianYear y (qing_parts y).new_year (qing_parts y).leap_month
+IsQing y = HasValidParts y (qing_parts y)
 
-pub qing-valid : (y : ℤ) → IsQingNumber y → IsEastAsianYear y (qing_parts y).new_year (qing_parts y).leap_month
+pub qing-valid : (y : ℤ) → IsQingNumber y → HasValidParts y (qing_parts y)
 unfolding gregorian_start leap_days_through floor_div
 qing-valid = by_qing IsQing
-    (let f = near 1900 693596 693626 refl (omega arith, omega arith) (omega arith) in (f.0, (f.1, refl)))
-    (let f = near 1901 693961 694010 refl (omega arith, omega arith) (omega arith) in (f.0, (f.1, refl)))
-    (let f = near 1902 694326 694364 refl (omega arith, omega arith) (omega arith) in (f.0, (f.1, refl)))
-    (let f = near 1903 694691 694719 refl (omega arith, omega arith) (omega arith) in (f.0, (f.1, refl)))
-    (let f = near 1904 695056 695102 refl (omega arith, omega arith) (omega arith) in (f.0, (f.1, refl)))
-    (let f = near 1905 695422 695456 refl (omega arith, omega arith) (omega arith) in (f.0, (f.1, refl)))
-    (let f = near 1906 695787 695811 refl (omega arith, omega arith) (omega arith) in (f.0, (f.1, refl)))
-    (let f = near 1907 696152 696195 refl (omega arith, omega arith) (omega arith) in (f.0, (f.1, refl)))
-    (let f = near 1908 696517 696549 refl (omega arith, omega arith) (omega arith) in (f.0, (f.1, refl)))
-    (let f = near 1909 696883 696904 refl (omega arith, omega arith) (omega arith) in (f.0, (f.1, refl)))
-    (let f = near 1910 697248 697288 refl (omega arith, omega arith) (omega arith) in (f.0, (f.1, refl)))
-    (let f = near 1911 697613 697642 refl (omega arith, omega arith) (omega arith) in (f.0, (f.1, refl)))
+    (let f = near 1900 693596 693626 refl (omega arith, omega arith) (omega arith) in ((f.0, (f.1, refl)), omega arith))
+    (let f = near 1901 693961 694010 refl (omega arith, omega arith) (omega arith) in ((f.0, (f.1, refl)), omega arith))
+    (let f = near 1902 694326 694364 refl (omega arith, omega arith) (omega arith) in ((f.0, (f.1, refl)), omega arith))
+    (let f = near 1903 694691 694719 refl (omega arith, omega arith) (omega arith) in ((f.0, (f.1, refl)), omega arith))
+    (let f = near 1904 695056 695102 refl (omega arith, omega arith) (omega arith) in ((f.0, (f.1, refl)), omega arith))
+    (let f = near 1905 695422 695456 refl (omega arith, omega arith) (omega arith) in ((f.0, (f.1, refl)), omega arith))
+    (let f = near 1906 695787 695811 refl (omega arith, omega arith) (omega arith) in ((f.0, (f.1, refl)), omega arith))
+    (let f = near 1907 696152 696195 refl (omega arith, omega arith) (omega arith) in ((f.0, (f.1, refl)), omega arith))
+    (let f = near 1908 696517 696549 refl (omega arith, omega arith) (omega arith) in ((f.0, (f.1, refl)), omega arith))
+    (let f = near 1909 696883 696904 refl (omega arith, omega arith) (omega arith) in ((f.0, (f.1, refl)), omega arith))
+    (let f = near 1910 697248 697288 refl (omega arith, omega arith) (omega arith) in ((f.0, (f.1, refl)), omega arith))
+    (let f = near 1911 697613 697642 refl (omega arith, omega arith) (omega arith) in ((f.0, (f.1, refl)), omega arith))
 
 -- each ends where the next one begins
 pub qing-joins : (y : ℤ) → IsQingNumber y → IsQingNumber (y +ℤ pos 1) → (qing_parts (y +ℤ pos 1)).new_year ≡ end_of (qing_parts y)

@@ -1,6 +1,7 @@
 //! What tests assert. Each kind of assertion is proved once, here, and no test proves the printing of its values.
 
-ghost use Rattle.cal_days.specs.Day.{IsValidDay};
+ghost use Rattle.std.specs.Prelude.{◌≤◌};
+ghost use Rattle.cal_days.specs.Day.{IsFieldYear, IsValidDay};
 
 use std::fmt::{Debug, Display};
 use std::process::Abort;
@@ -35,4 +36,16 @@ pub(super) fn assert_day(rt: &impl Abort, number: i64)
     ensures { IsValidDay number }
 {
     assert!(rt; -365242499 <= number && number <= 365242134);
+}
+
+/// That a date may be packed: its year is one from -1040000 to 1040000, its month has a place from 1 to 13, and its
+/// day a number from 1 to 31.
+pub(super) fn assert_packable(rt: &impl Abort, year: i32, month: u8, day: u8)
+    ensures year { IsFieldYear year }
+    ensures month { (1 ≤ month) × (month ≤ 13) }
+    ensures day { (1 ≤ day) × (day ≤ 31) }
+{
+    assert!(rt; -1040000 <= year && year <= 1040000);
+    assert!(rt; 1 <= month && month <= 13);
+    assert!(rt; 1 <= day && day <= 31);
 }

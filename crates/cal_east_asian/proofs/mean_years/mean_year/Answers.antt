@@ -13,7 +13,7 @@ use Rattle.cal_east_asian.specs.EastAsianMonths.{year_entries}
 use Rattle.cal_east_asian.specs.EastAsianYears.{YearParts, parts_of, end_of}
 use Rattle.cal_east_asian.specs.laws.RuleYearLaws.{rule_year-same}
 use Rattle.cal_east_asian.specs.MeanPlaces.{place_from, month_bits}
-use Rattle.cal_east_asian.specs.laws.MeanMonthLaws.{bits, leap_place, place-months, mean_months-parts}
+use Rattle.cal_east_asian.specs.laws.MeanMonthLaws.{bits, leap_place, place-months, mean_months-parts, mean_months-few}
 use Rattle.cal_east_asian.specs.MeanTraditionalYears.{mean_traditional_year}
 use Rattle.cal_east_asian.specs.MeanParts.{mean_parts}
 use Rattle.cal_east_asian.specs.laws.MeanPartLaws.{new_year-is_new_year, mean-end}
@@ -126,6 +126,19 @@ from_parts-requires-clause-place c =
     let opens = moon-known o y c.requires.offset t.result _ _ c.moon-first.result is far c.day_and_time-day.ensures.day c.last_moon_by.ensures.exact c.last_moon_by.ensures.near c.moon-first.ensures.exact in
     let place = c.leap_place-place.ensures ∙ place-known o y t.result c.moon-first.result c.lead.result _ is far opens c.moon-first.ensures.near c.lead.ensures.exact c.day_and_time-day.ensures.time in
     subst (λ (p : ℕ). IsTrue (is_leap_place p)) (sym place) (place-months o y).1
+
+pub from_parts-requires-clause-few : goal.from_parts-requires-clause-few
+from_parts-requires-clause-few c =
+    let o = c.args.utc_offset in
+    let y = c.args.related_iso in
+    let t = c.second_term-term in
+    let f = c.moon-first in
+    let is = term-known o y c.requires.offset c.requires.year t.result t.ensures.exact in
+    let far : IsFar t.result = (omega (arith, signed, t.ensures.near), omega (arith, signed, t.ensures.near)) in
+    let opens = moon-known o y c.requires.offset t.result _ _ f.result is far c.day_and_time-day.ensures.day c.last_moon_by.ensures.exact c.last_moon_by.ensures.near f.ensures.exact in
+    let place = c.leap_place-place.ensures ∙ place-known o y t.result f.result c.lead.result _ is far opens f.ensures.near c.lead.ensures.exact c.day_and_time-day.ensures.time in
+    let lengths = c.long_months-lengths.ensures ∙ lengths-known o y f.result _ c.leap_place-place.result opens f.ensures.near c.day_and_time-new_year.ensures.time place in
+    rw (lengths, place) (mean_months-few o y)
 
 pub returns-clause-exact : goal.returns-clause-exact
 returns-clause-exact c h =

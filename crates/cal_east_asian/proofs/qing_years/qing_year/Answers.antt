@@ -21,7 +21,7 @@ start-near y d h start = omega (arith, signed, h, start, gregorian_start-bounds 
 
 start-back : (y d : ℤ) → IsQingNumber y → d ≡ (qing_parts y).new_year → IsNewYear (to_z w32 (of_z w32 y)) (to_z w64 (of_z w64 d))
 start-back y d h e =
-    let valid : IsNewYear y d = subst (λ (x : ℤ). IsNewYear y x) (sym e) (qing-valid y h).1.0 in
+    let valid : IsNewYear y d = subst (λ (x : ℤ). IsNewYear y x) (sym e) (qing-valid y h).0.1.0 in
     subst (λ (x : ℤ). IsNewYear x (to_z w64 (of_z w64 d))) (sym (year_back y h)) (subst (λ (x : ℤ). IsNewYear y x) (sym (start-near y d h valid)) valid)
 
 pub from_parts-requires-clause-start : goal.from_parts-requires-clause-start
@@ -30,12 +30,21 @@ from_parts-requires-clause-start c =
     let h : IsQingNumber y = (omega (arith, signed, c.if-related_iso-lt1900.false), omega (arith, signed, c.if-related_iso-gt1911.false)) in
     start-back y c.qing_row-row.result.new_year h (c.qing_row-row.ensures.new_year ∙ ap (λ (z : ℤ). (qing_parts z).new_year) (index_back y h))
 
+pub from_parts-requires-clause-few : goal.from_parts-requires-clause-few
+from_parts-requires-clause-few c =
+    let y = c.args.related_iso in
+    let row = c.qing_row-row in
+    let h : IsQingNumber y = (omega (arith, signed, c.if-related_iso-lt1900.false), omega (arith, signed, c.if-related_iso-gt1911.false)) in
+    let long = row.ensures.long_months ∙ ap (λ (z : ℤ). (qing_parts z).long_months) (index_back y h) in
+    let leap = row.ensures.leap_month ∙ ap (λ (z : ℤ). (qing_parts z).leap_month) (index_back y h) in
+    rw (long, leap) (qing-valid y h).1
+
 pub returns-clause-parts : goal.returns-clause-parts
 returns-clause-parts c =
     let y = c.args.related_iso in
     let h : IsQingNumber y = (omega (arith, signed, c.if-related_iso-lt1900.false), omega (arith, signed, c.if-related_iso-gt1911.false)) in
     let first = c.qing_row-row.ensures.new_year ∙ ap (λ (z : ℤ). (qing_parts z).new_year) (index_back y h) in
-    let valid : IsNewYear y c.qing_row-row.result.new_year = subst (λ (x : ℤ). IsNewYear y x) (sym first) (qing-valid y h).1.0 in
+    let valid : IsNewYear y c.qing_row-row.result.new_year = subst (λ (x : ℤ). IsNewYear y x) (sym first) (qing-valid y h).0.1.0 in
     parts-same (parts_of c.from_parts.result) (qing_parts y)
     (c.from_parts.ensures.start ∙ start-near y c.qing_row-row.result.new_year h valid ∙ first)
     (c.from_parts.ensures.lengths ∙ c.qing_row-row.ensures.long_months ∙ ap (λ (z : ℤ). (qing_parts z).long_months) (index_back y h))

@@ -1,10 +1,10 @@
-use Rattle.std.proofs.Common.{◌≡◌, ◌∙◌, ℕ, refl, ap, arith, IsTrue, ℤ, pos, nat_abs, to_z, of_z, w32, w64, ◌+ℤ◌, ◌-ℤ◌, min}
+use Rattle.std.proofs.Common.{◌≡◌, ◌∙◌, ◌%◌, ◌^◌, ◌<◌, ℕ, refl, ap, arith, IsTrue, ℤ, pos, nat_abs, to_z, of_z, w32, w64, ◌+ℤ◌, ◌-ℤ◌, min}
 use Rattle.cal_days.proofs.GregorianLemmas.{gregorian_start-bounds}
 use Rattle.cal_days.proofs.Signed.{signed, signed_casts}
 use Rattle.cal_days.specs.Day.{IsRuleYear}
 use Rattle.cal_days.specs.Gregorian.{gregorian_start}
 use Rattle.cal_east_asian.specs.RowParts.{place_or_none}
-use Rattle.cal_east_asian.specs.EastAsianYear.{is_leap_place, january_19}
+use Rattle.cal_east_asian.specs.EastAsianYear.{is_leap_place, january_19, months_of_year}
 use Rattle.cal_east_asian.specs.RuleYears.{rule_year}
 use Rattle.cal_east_asian.specs.laws.RuleYearLaws.{rule_year-same}
 use Rattle.cal_east_asian.specs.laws.SameParts.{same_parts}
@@ -18,6 +18,9 @@ january_1-is y d e rule value formula =
 
 place-same : (p : ℕ) → IsTrue (is_leap_place p) → place_or_none p ≡ p
 place-same p h = rw h refl
+
+bits-same : (m p : ℕ) → IsTrue (is_leap_place p) → m < 2 ^ months_of_year p → m % 2 ^ months_of_year (place_or_none p) ≡ m
+bits-same m p h few = ap (λ (q : ℕ). m % 2 ^ months_of_year q) (place-same p h) ∙ omega (arith, few)
 
 pub overflow_cast-result : goal.overflow_cast-result
 overflow_cast-result c =
@@ -40,4 +43,4 @@ returns c =
     let offset : pos n ≡ c.args.self.new_year -ℤ gregorian_start y -ℤ pos 18 = omega (arith, signed_casts, first, bounds, near, rule) in
     let few : min n 34 ≡ n = omega (arith, signed, offset, near) in
     let start : january_19 (rule_year (to_z w32 (of_z w32 y))) +ℤ pos (min n 34) ≡ c.args.self.new_year = omega (arith, signed, ap january_19 number, few, offset) in
-    same_parts _ c.args.self number start refl (place-same c.args.self.leap_month c.args.self.valid.1.1)
+    same_parts _ c.args.self number start (bits-same c.args.self.long_months c.args.self.leap_month c.args.self.valid.1.1 c.args.self.few) (place-same c.args.self.leap_month c.args.self.valid.1.1)

@@ -1,0 +1,133 @@
+//! The bytes that dates are packed into: those of both ends of the valid days, and of other days.
+
+use crate::tests::expected::{assert_at, assert_packable};
+use cal_arith::{PackWithMD, Years};
+use cal_east_asian::{EastAsianRow, EastAsianTraditionalYear};
+use cal_hebrew::{Hebrew, HebrewYear};
+use cal_hijri::{Hijri, HijriRow, HijriYear, TabularAlgorithmEpoch, TabularAlgorithmLeapYears};
+
+/// The month of the place 6 of 5787 is `M05L`.
+#[test]
+fn hebrew_dates_have_their_bytes(rt: HostRuntime) {
+    let cases = [
+        (-996227, 2, 29, [5, 93, 250, 152, 225]),
+        (5787, 6, 10, [5, 202, 54, 45, 0]),
+        (1003748, 6, 26, [2, 218, 200, 161, 30]),
+    ];
+    for (year, month, day, bytes) in cases {
+        assert_packable(&rt, year, month, day);
+        let packed = Hebrew.year_info_from_extended(year).pack(month, day);
+        assert_at(&rt, year, packed, bytes);
+        let kept = HebrewYear::unpack_year(packed);
+        assert_at(&rt, year, kept, Hebrew.year_info_from_extended(year));
+        assert_at(&rt, year, HebrewYear::unpack_month(packed), month);
+        assert_at(&rt, year, HebrewYear::unpack_day(packed), day);
+    }
+}
+
+#[test]
+fn tabular_dates_have_their_bytes(rt: HostRuntime) {
+    let hijri = Hijri::new_tabular(
+        TabularAlgorithmLeapYears::TypeII,
+        TabularAlgorithmEpoch::Friday,
+    );
+    let cases = [
+        (-1031331, 6, 22, [85, 5, 214, 186, 134, 224]),
+        (-1, 12, 30, [85, 61, 158, 255, 255, 255]),
+        (1030050, 3, 30, [85, 37, 126, 68, 111, 31]),
+    ];
+    for (year, month, day, bytes) in cases {
+        assert_packable(&rt, year, month, day);
+        let packed = hijri.year_info_from_extended(year).pack(month, day);
+        assert_at(&rt, year, packed, bytes);
+        let new_year = hijri.year_info_from_extended(year).new_year();
+        assert_at(
+            &rt,
+            year,
+            HijriYear::unpack_year(packed).new_year(),
+            new_year,
+        );
+        assert_at(&rt, year, HijriYear::unpack_month(packed), month);
+        assert_at(&rt, year, HijriYear::unpack_day(packed), day);
+    }
+}
+
+/// The years start 5 days before the start of the mean year, on it, and 5 days after it.
+#[test]
+fn hijri_dates_have_the_bytes_of_their_rows(rt: HostRuntime) {
+    let cases = [
+        (-1031331, 0xFFF, 0, 12, 30, [255, 191, 158, 187, 134, 224]),
+        (1445, 0x92E, 5, 9, 1, [46, 9, 33, 75, 11, 0]),
+        (1030050, 0, 10, 1, 1, [0, 160, 33, 68, 111, 31]),
+    ];
+    for (extended_year, long_months, start_offset, month, day, bytes) in cases {
+        let row = HijriRow {
+            extended_year,
+            long_months,
+            start_offset,
+        };
+        let year = row.year();
+        assert_packable(&rt, year.extended_year(), month, day);
+        let packed = year.pack(month, day);
+        assert_at(&rt, extended_year, packed, bytes);
+        let kept = HijriYear::unpack_year(packed);
+        assert_at(&rt, extended_year, kept.extended_year(), extended_year);
+        assert_at(&rt, extended_year, kept.new_year(), year.new_year());
+        assert_at(&rt, extended_year, HijriYear::unpack_month(packed), month);
+        assert_at(&rt, extended_year, HijriYear::unpack_day(packed), day);
+    }
+}
+
+/// The years start on January 19, 3 days after it, and 34 days after it.
+#[test]
+fn east_asian_dates_have_the_bytes_of_their_rows(rt: HostRuntime) {
+    let cases = [
+        (
+            -1000000,
+            0xAAA,
+            0,
+            0,
+            12,
+            30,
+            [170, 10, 0, 158, 129, 123, 225],
+        ),
+        (2023, 0x15B2, 3, 3, 3, 1, [178, 117, 6, 97, 206, 15, 0]),
+        (
+            1000000,
+            0x1FFF,
+            13,
+            34,
+            13,
+            29,
+            [255, 191, 69, 189, 129, 132, 30],
+        ),
+    ];
+    for (related_iso, long_months, leap_month, start_offset, month, day, bytes) in cases {
+        let row = EastAsianRow {
+            related_iso,
+            long_months,
+            leap_month,
+            start_offset,
+        };
+        let year = row.year();
+        assert_packable(&rt, year.related_iso(), month, day);
+        let packed = year.pack(month, day);
+        assert_at(&rt, related_iso, packed, bytes);
+        let kept = EastAsianTraditionalYear::unpack_year(packed);
+        assert_at(&rt, related_iso, kept.related_iso(), related_iso);
+        assert_at(&rt, related_iso, kept.new_year(), year.new_year());
+        assert_at(&rt, related_iso, kept.leap_month(), year.leap_month());
+        assert_at(
+            &rt,
+            related_iso,
+            EastAsianTraditionalYear::unpack_month(packed),
+            month,
+        );
+        assert_at(
+            &rt,
+            related_iso,
+            EastAsianTraditionalYear::unpack_day(packed),
+            day,
+        );
+    }
+}
