@@ -6,4 +6,5 @@ use Rattle.cal_hebrew.specs.laws.YearLengths.{length_of-known}
 use Rattle.cal_hebrew.specs.declared.hebrew_year.HebrewYear.{HebrewYear}
 
 abbrev pub packed_year : List ℕ → HebrewYear
-packed_year p = record { extended_year = year_from 1 p; length = length_in p; known = length_of-known (slice_index p 0) }
+packed_year p =
+    record { extended_year = year_from 1 p; length = length_in p; known = length_of-known (slice_index p 0) }

@@ -38,7 +38,8 @@ abbrev pub last_reference_day : TabularAlgorithmEpoch → ℕ
 last_reference_day Thursday = 26
 last_reference_day Friday = 25
 
--- months 1 to 10: 1392; month 11: 1392 up to that day, and 1391 from then on; month 12: 1391, but 1390, which has the day 30, from that day on
+-- months 1 to 10: 1392; month 11: 1392 up to that day, and 1391 from then on;
+-- month 12: 1391, but 1390, which has the day 30, from that day on
 abbrev pub tabular_reference_year : TabularAlgorithmEpoch → ℕ → ℕ → ℤ
 tabular_reference_year e month day =
     if nat_le month 10 then pos 1392 else (

@@ -2,12 +2,14 @@
 use Rattle.std.specs.Prelude.{ℕ, ◌+◌, ◌*◌, ◌/◌, ◌%◌, ◌++◌, ◌||◌, ◌≡◌, ◌⊎◌, ◌≤◌, nat_eq, nat_lt, if◌then◌else◌, min, List, ℤ, pos, slice_index}
 use Rattle.date_bytes.specs.Bytes.{bytes_of, date_bytes}
 
--- bits 0 to 12: the places with 30 days, given as one number; bits 13 to 16: the leap place, or 0; bits 17 to 22: the days after January 19
+-- bits 0 to 12: the places with 30 days, given as one number; bits 13 to 16: the leap place, or 0;
+-- bits 17 to 22: the days after January 19
 abbrev pub east_asian_bits : ℕ → ℕ → ℕ → ℕ
 east_asian_bits long leap start = long + 8192 * leap + 131072 * start
 
 abbrev pub east_asian_bytes : ℤ → ℕ → ℕ → ℕ → ℕ → ℕ → List ℕ
-east_asian_bytes year long leap start month day = bytes_of 3 (pos (east_asian_bits long leap start)) ++ date_bytes year month day
+east_asian_bytes year long leap start month day =
+    bytes_of 3 (pos (east_asian_bits long leap start)) ++ date_bytes year month day
 
 -- what the bytes hold
 abbrev pub bits_in : List ℕ → ℕ

@@ -2,7 +2,8 @@
 use Rattle.std.specs.Prelude.{ℕ, ◌+◌, ◌*◌, ◌/◌, ◌%◌, ◌++◌, nat_eq, int_lt, if◌then◌else◌, unsigned_abs, min, List, ℤ, pos, neg_ℤ, slice_index}
 use Rattle.date_bytes.specs.Bytes.{bytes_of, date_bytes}
 
--- bits 0 to 11: the months with 30 days, given as one number; bit 12: whether the offset is negative; bits 13 to 15: its size
+-- bits 0 to 11: the months with 30 days, given as one number; bit 12: whether the offset is negative;
+-- bits 13 to 15: its size
 abbrev pub hijri_bits : ℕ → ℤ → ℕ
 hijri_bits long offset = long + 4096 * (if int_lt offset (pos 0) then 1 else 0) + 8192 * unsigned_abs offset
 
