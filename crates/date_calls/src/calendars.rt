@@ -3,7 +3,7 @@
 ghost use Rattle.std.specs.Prelude.{◌≡◌};
 ghost use Rattle.cal_hijri.specs.TabularRules.{tabular_system};
 ghost use Rattle.cal_tables.specs.Kinds.{kind_system, table_contents};
-ghost use Rattle.icu_calendar_c.specs.Calendars.{calendar_of, choice_system, chosen_system};
+ghost use Rattle.date_calls.specs.Calendars.{calendar_of, choice_system, chosen_system};
 
 use crate::codes::{kind_of, tables_of};
 use crate::outcomes::{UNKNOWN_CALENDAR, UNKNOWN_YEARS};

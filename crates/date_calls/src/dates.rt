@@ -2,7 +2,7 @@
 
 ghost use Rattle.std.specs.Prelude.{◌≡◌, IsTrue};
 ghost use Rattle.cal_types.specs.Year.{era_year_or_related_iso_of, extended_year_of};
-ghost use Rattle.icu_calendar_c.specs.Dates.{AreParts, cyclic_number, flag};
+ghost use Rattle.date_calls.specs.Dates.{AreParts, cyclic_number, flag};
 
 use crate::days::ValidDay;
 use crate::questions::Question;
@@ -93,7 +93,7 @@ pub(crate) struct OfDay {
 }
 
 impl Question for OfDay {
-    ghost use Rattle.icu_calendar_c.specs.Dates.{IsShown};
+    ghost use Rattle.date_calls.specs.Dates.{IsShown};
 
     type Answer = CalendarDate;
 

@@ -1,8 +1,8 @@
 //! What is added to dates, and how far apart they are.
 
 ghost use Rattle.std.specs.Prelude.{◌≡◌};
-ghost use Rattle.icu_calendar_c.specs.Dates.{flag};
-ghost use Rattle.icu_calendar_c.specs.Durations.{duration_given, duration_told};
+ghost use Rattle.date_calls.specs.Dates.{flag};
+ghost use Rattle.date_calls.specs.Durations.{duration_given, duration_told};
 
 use crate::dates::{CalendarDate, parts_of};
 use crate::days::ValidDay;
@@ -62,7 +62,7 @@ pub(crate) struct Sum {
 
 impl Question for Sum {
     ghost use Rattle.cal_model.specs.Adding.{add_overflow_of};
-    ghost use Rattle.icu_calendar_c.specs.Durations.{IsAdded};
+    ghost use Rattle.date_calls.specs.Durations.{IsAdded};
 
     type Answer = Result<CalendarDate, DateAddError>;
 
@@ -90,7 +90,7 @@ pub(crate) struct Difference {
 
 impl Question for Difference {
     ghost use Rattle.cal_model.specs.Difference.{largest_unit_of};
-    ghost use Rattle.icu_calendar_c.specs.Durations.{IsApart};
+    ghost use Rattle.date_calls.specs.Durations.{IsApart};
 
     type Answer = DateDuration;
 

@@ -4,7 +4,7 @@ use Rattle.cal_errors.specs.declared.errors.DateFromFieldsError.{DateFromFieldsE
 use Rattle.cal_errors.specs.declared.errors.DateFromFieldsError.TheVariants.{NotEnoughFields, TooManyFields, Overflow, InvalidEra, InconsistentYear, MonthCodeInvalidSyntax, MonthNotInCalendar, MonthNotInYear, InconsistentMonth, InvalidOrdinalMonth, InvalidDay}
 use Rattle.cal_errors.specs.declared.errors.DateAddError.{DateAddError}
 use Rattle.cal_errors.specs.declared.errors.DateAddError.TheVariants as add
-use Rattle.icu_calendar_c.specs.declared.outcomes.Fault.{Fault}
+use Rattle.date_calls.specs.declared.outcomes.Fault.{Fault}
 
 -- the code of a cause, and the greatest number that would do where the cause has one, 0 otherwise
 abbrev pub why : ℕ → ℕ → Fault

@@ -1,7 +1,7 @@
 //! The code of the era of a day's year.
 
 ghost use Rattle.std.specs.Prelude.{◌≡◌};
-ghost use Rattle.icu_calendar_c.specs.Eras.{era_text};
+ghost use Rattle.date_calls.specs.Eras.{era_text};
 
 use crate::days::ValidDay;
 use crate::questions::Question;
@@ -25,7 +25,7 @@ pub(crate) struct EraOf {
 }
 
 impl Question for EraOf {
-    ghost use Rattle.icu_calendar_c.specs.Eras.{IsEraOf};
+    ghost use Rattle.date_calls.specs.Eras.{IsEraOf};
 
     type Answer = TinyAsciiStr<16>;
 

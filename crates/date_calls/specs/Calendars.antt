@@ -3,8 +3,8 @@ use Rattle.std.specs.Prelude.{ℕ, Option, Some, None, Result, Ok, Err}
 use Rattle.cal_kinds.specs.declared.any_calendar_kind.AnyCalendarKind.{AnyCalendarKind}
 use Rattle.cal_model.specs.CalendarSystem.{CalendarSystem}
 use Rattle.cal_tables.specs.Kinds.{TableContents, kind_system, table_contents}
-use Rattle.icu_calendar_c.specs.Codes.{contents_of_code, kind_of_code}
-use Rattle.icu_calendar_c.specs.declared.calendars.Chosen.{Chosen}
+use Rattle.date_calls.specs.Codes.{contents_of_code, kind_of_code}
+use Rattle.date_calls.specs.declared.calendars.Chosen.{Chosen}
 
 -- the calendar of a kind over tables, where there are both; otherwise the code of the fault
 abbrev pub system_over : AnyCalendarKind → Option TableContents → Result CalendarSystem ℕ

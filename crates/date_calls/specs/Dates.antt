@@ -5,7 +5,7 @@ use Rattle.cal_types.specs.declared.year.YearInfo.{YearInfo}
 use Rattle.cal_types.specs.declared.year.YearInfo.TheVariants.{Era, Cyclic}
 use Rattle.cal_model.specs.CalendarList.{Date, IsOn, day_number, month_at}
 use Rattle.cal_model.specs.CalendarSystem.{CalendarSystem}
-use Rattle.icu_calendar_c.specs.declared.dates.CalendarDate.{CalendarDate}
+use Rattle.date_calls.specs.declared.dates.CalendarDate.{CalendarDate}
 
 -- 1 for what is so, 0 for what isn't
 abbrev pub flag : Bool → ℕ

@@ -2,7 +2,7 @@ use Rattle.std.proofs.Common.{◌≡◌, sym, ap, subst, ◌∙◌}
 use Rattle.cal_model.specs.CalendarSystem.{CalendarSystem}
 use Rattle.cal_tables.specs.Kinds.{TableContents, kind_system, table_contents}
 use Rattle.cal_kinds.specs.declared.any_calendar_kind.AnyCalendarKind.{AnyCalendarKind}
-use Rattle.icu_calendar_c.proofs.calendars.ask_kind.Goals as goal
+use Rattle.date_calls.proofs.calendars.ask_kind.Goals as goal
 
 -- what the calendar that is made for a kind answers, the calendar of that kind answers
 asked_in : (Says : CalendarSystem → Type 0) (t : TableContents) (made : CalendarSystem) (kind named : AnyCalendarKind) → made ≡ kind_system t named → kind ≡ named → Says made → Says (kind_system t kind)

@@ -9,9 +9,9 @@ use Rattle.cal_model.specs.Adding.{IsSum}
 use Rattle.cal_model.specs.CalendarList.{Date, IsOn}
 use Rattle.cal_model.specs.CalendarSystem.{CalendarSystem}
 use Rattle.cal_model.specs.Difference.{IsDifference}
-use Rattle.icu_calendar_c.specs.Dates.{AreParts, flag}
-use Rattle.icu_calendar_c.specs.declared.dates.CalendarDate.{CalendarDate}
-use Rattle.icu_calendar_c.specs.declared.durations.CalendarDuration.{CalendarDuration}
+use Rattle.date_calls.specs.Dates.{AreParts, flag}
+use Rattle.date_calls.specs.declared.dates.CalendarDate.{CalendarDate}
+use Rattle.date_calls.specs.declared.durations.CalendarDuration.{CalendarDuration}
 
 -- the duration that a caller gives, which goes back in time where the last number isn't 0
 abbrev pub duration_given : CalendarDuration → DateDuration

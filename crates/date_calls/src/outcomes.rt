@@ -1,7 +1,7 @@
 //! The codes that calls on dates answer.
 
 ghost use Rattle.std.specs.Prelude.{◌≡◌};
-ghost use Rattle.icu_calendar_c.specs.Outcomes.{fields_fault, sum_fault};
+ghost use Rattle.date_calls.specs.Outcomes.{fields_fault, sum_fault};
 
 use cal_types::{DateAddError, DateFromFieldsError};
 
@@ -21,7 +21,7 @@ pub(crate) const UNKNOWN_OPTION: u8 = 3;
 pub(crate) const INVALID_DAY_NUMBER: u8 = 4;
 
 /// There is no room for the text.
-pub(crate) const NO_ROOM: u8 = 8;
+pub const NO_ROOM: u8 = 8;
 
 /// Why there is no date: the code of the cause, and the greatest number that would do where the cause has one.
 #[derive(Clone, Copy, Debug, PartialEq, Eq)]

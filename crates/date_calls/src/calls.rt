@@ -3,12 +3,12 @@
 ghost use Rattle.std.specs.Prelude.{◌≡◌, MatchResult};
 ghost use Rattle.cal_types.specs.Bag.{bag_of};
 ghost use Rattle.cal_model.specs.Adding.{add_overflow_of};
-ghost use Rattle.icu_calendar_c.specs.Calendars.{calendar_of, choice_system};
-ghost use Rattle.icu_calendar_c.specs.Calls.{AddsIn, AddsTo, DiffersIn, IsLeft, IsLeftWith, IsTold, NamesDate, NamesIn, ShowsDay, ShowsEra, fields_options};
-ghost use Rattle.icu_calendar_c.specs.Codes.{overflow_of_code, strategy_of_code, unit_of_code};
-ghost use Rattle.icu_calendar_c.specs.Durations.{duration_given};
-ghost use Rattle.icu_calendar_c.specs.Fields.{bag_given};
-ghost use Rattle.icu_calendar_c.specs.Outcomes.{fields_fault, sum_fault};
+ghost use Rattle.date_calls.specs.Calendars.{calendar_of, choice_system};
+ghost use Rattle.date_calls.specs.Calls.{AddsIn, AddsTo, DiffersIn, IsLeft, IsLeftWith, IsTold, NamesDate, NamesIn, ShowsDay, ShowsEra, fields_options};
+ghost use Rattle.date_calls.specs.Codes.{overflow_of_code, strategy_of_code, unit_of_code};
+ghost use Rattle.date_calls.specs.Durations.{duration_given};
+ghost use Rattle.date_calls.specs.Fields.{bag_given};
+ghost use Rattle.date_calls.specs.Outcomes.{fields_fault, sum_fault};
 
 use crate::calendars::{Chosen, ask, choose};
 use crate::codes::{overflow_of, strategy_of, unit_of};
@@ -39,13 +39,7 @@ fn show_day(chosen: &Chosen, day: i64, date: &mut CalendarDate) -> u8
 /// The calendar's code is one of `ICU_CALENDAR_ISO` and the like, and `years` says whether they are computed (0) or
 /// published (1). The answer is 0, or 1 to 4, in this order, for a code that is no calendar's, one that is none of
 /// years, and a day number that isn't from -365242499 to 365242134. Then `date` is as it was.
-#[unsafe(no_mangle)]
-pub extern "C" fn icu_calendar_date_of_day(
-    calendar: u8,
-    years: u8,
-    day: i64,
-    date: &mut CalendarDate,
-) -> u8
+pub fn date_of_day(calendar: u8, years: u8, day: i64, date: &mut CalendarDate) -> u8
     ensures { MatchResult (calendar_of calendar years) (λ s. ShowsDay s day result date.old date.new)
         (λ why. IsLeft why result date.old date.new) }
 {
@@ -117,8 +111,7 @@ fn name_with(
 /// missing year or day is supplied. The answer is 0, or 1 to 3 for codes that are none, or 10 to 20 for the first fault
 /// of the fields, with the greatest number that would do in `max` for 19 and 20, which is 0 otherwise. Where the answer
 /// isn't 0, `date` is as it was.
-#[unsafe(no_mangle)]
-pub extern "C" fn icu_calendar_date_of_fields(
+pub fn date_of_fields(
     calendar: u8,
     years: u8,
     fields: &CalendarFields,
@@ -192,8 +185,7 @@ fn add_in(
 /// answer is 0, or 1 to 4 for codes that are none and a day number that isn't valid, or 12, 17 or 20 where the sum is
 /// refused, with the greatest day that would do in `max` for 20, which is 0 otherwise. Where the answer isn't 0, `date`
 /// is as it was.
-#[unsafe(no_mangle)]
-pub extern "C" fn icu_calendar_add(
+pub fn add(
     calendar: u8,
     years: u8,
     day: i64,
@@ -246,8 +238,7 @@ fn differ_in(
 ///
 /// The largest unit is years (1), months (2), weeks (3) or days (0 or 4). The answer is 0, or 1 to 4 for codes that are
 /// none and day numbers that aren't valid; then `duration` is as it was.
-#[unsafe(no_mangle)]
-pub extern "C" fn icu_calendar_until(
+pub fn until(
     calendar: u8,
     years: u8,
     first: i64,
@@ -284,14 +275,7 @@ fn show_era(chosen: &Chosen, day: i64, room: &mut [u8], written: &mut usize) -> 
 /// Puts the code of the era that a day's year is in at the start of `room`, and the count of its bytes, at most 16, into
 /// `written`: 0 for a year of a cycle. The answer is 0, or 1 to 4 as for `icu_calendar_date_of_day`, with 0 in
 /// `written`, or 8 where the room is too short. Where it isn't 0, `room` is as it was.
-#[unsafe(no_mangle)]
-pub extern "C" fn icu_calendar_era_of_day(
-    calendar: u8,
-    years: u8,
-    day: i64,
-    room: &mut [u8],
-    written: &mut usize,
-) -> u8
+pub fn era_of_day(calendar: u8, years: u8, day: i64, room: &mut [u8], written: &mut usize) -> u8
     ensures { MatchResult (calendar_of calendar years) (λ s. ShowsEra s day result room.old room.new written.new)
         (λ why. IsLeftWith why result written.new room.old room.new) }
 {

@@ -3,7 +3,7 @@
 ghost use Rattle.std.specs.Prelude.{◌≡◌, Result, MatchResult};
 ghost use Rattle.std.specs.Option.{option_map};
 ghost use Rattle.cal_tables.specs.Kinds.{table_contents};
-ghost use Rattle.icu_calendar_c.specs.Codes.{contents_of_code, kind_of_code, overflow_of_code, strategy_of_code, unit_of_code};
+ghost use Rattle.date_calls.specs.Codes.{contents_of_code, kind_of_code, overflow_of_code, strategy_of_code, unit_of_code};
 
 use cal_kinds::AnyCalendarKind;
 use cal_tables::Tables;

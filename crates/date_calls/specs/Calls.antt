@@ -12,14 +12,14 @@ use Rattle.cal_errors.specs.declared.errors.DateFromFieldsError.{DateFromFieldsE
 use Rattle.cal_model.specs.Adding.{add_overflow_of}
 use Rattle.cal_model.specs.CalendarSystem.{CalendarSystem}
 use Rattle.cal_model.specs.Difference.{largest_unit_of}
-use Rattle.icu_calendar_c.specs.Dates.{IsShown}
-use Rattle.icu_calendar_c.specs.Durations.{IsAdded, IsApart, duration_told}
-use Rattle.icu_calendar_c.specs.Eras.{IsEraOf}
-use Rattle.icu_calendar_c.specs.Fields.{IsResolved}
-use Rattle.icu_calendar_c.specs.Outcomes.{fields_fault, sum_fault}
-use Rattle.icu_calendar_c.specs.declared.dates.CalendarDate.{CalendarDate}
-use Rattle.icu_calendar_c.specs.declared.durations.CalendarDuration.{CalendarDuration}
-use Rattle.icu_calendar_c.specs.declared.outcomes.Fault.{Fault}
+use Rattle.date_calls.specs.Dates.{IsShown}
+use Rattle.date_calls.specs.Durations.{IsAdded, IsApart, duration_told}
+use Rattle.date_calls.specs.Eras.{IsEraOf}
+use Rattle.date_calls.specs.Fields.{IsResolved}
+use Rattle.date_calls.specs.Outcomes.{fields_fault, sum_fault}
+use Rattle.date_calls.specs.declared.dates.CalendarDate.{CalendarDate}
+use Rattle.date_calls.specs.declared.durations.CalendarDuration.{CalendarDuration}
+use Rattle.date_calls.specs.declared.outcomes.Fault.{Fault}
 
 -- a code is told, and what was there is there still
 pub record IsLeft {T : Type 0} (why : ℕ) (code : ℕ) (before now : T) : Type 0 where

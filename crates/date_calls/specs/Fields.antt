@@ -6,9 +6,9 @@ use Rattle.cal_types.specs.declared.options.DateFromFieldsOptions.{DateFromField
 use Rattle.cal_errors.specs.declared.errors.DateFromFieldsError.{DateFromFieldsError}
 use Rattle.cal_model.specs.CalendarList.{Date}
 use Rattle.cal_model.specs.CalendarSystem.{CalendarSystem, resolve_fields}
-use Rattle.icu_calendar_c.specs.Dates.{AreParts}
-use Rattle.icu_calendar_c.specs.declared.dates.CalendarDate.{CalendarDate}
-use Rattle.icu_calendar_c.specs.declared.fields.CalendarFields.{CalendarFields}
+use Rattle.date_calls.specs.Dates.{AreParts}
+use Rattle.date_calls.specs.declared.dates.CalendarDate.{CalendarDate}
+use Rattle.date_calls.specs.declared.fields.CalendarFields.{CalendarFields}
 
 -- a value that is given where a number isn't 0
 abbrev pub given_if : {T : Type 0} → ℕ → T → Option T

@@ -4,7 +4,7 @@ ghost use Rattle.std.specs.Prelude.{◌≡◌};
 ghost use Rattle.std.specs.Option.{option_map};
 ghost use Rattle.cal_types.specs.Bag.{bag_of};
 ghost use Rattle.cal_types.specs.MonthParts.{month_parts};
-ghost use Rattle.icu_calendar_c.specs.Fields.{bag_given, given_if, month_of, text_given};
+ghost use Rattle.date_calls.specs.Fields.{bag_given, given_if, month_of, text_given};
 
 use crate::dates::{CalendarDate, parts_of};
 use crate::questions::Question;
@@ -97,7 +97,7 @@ pub(crate) struct OfFields<'a> {
 }
 
 impl<'a> Question for OfFields<'a> {
-    ghost use Rattle.icu_calendar_c.specs.Fields.{IsResolved};
+    ghost use Rattle.date_calls.specs.Fields.{IsResolved};
 
     type Answer = Result<CalendarDate, DateFromFieldsError>;
 

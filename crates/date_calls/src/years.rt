@@ -4,7 +4,7 @@ ghost use Rattle.std.specs.Prelude.{◌≡◌, ◌≢◌, MatchBool};
 ghost use Rattle.cal_days.specs.Day.{is_valid_day};
 ghost use Rattle.cal_days.specs.Easter.{IsGregorianEaster, IsJulianEaster};
 ghost use Rattle.icu_calendar.specs.Weeks.{IsInWeek};
-ghost use Rattle.icu_calendar_c.specs.Weeks.{IsWeekLeft, IsWeekTold};
+ghost use Rattle.date_calls.specs.Weeks.{IsWeekLeft, IsWeekTold};
 
 use crate::days::ValidDay;
 use crate::outcomes::{DONE, INVALID_DAY_NUMBER, UNKNOWN_OPTION};
@@ -14,8 +14,7 @@ use icu_calendar::{Calendar, Date, Iso, IsoWeekOfYear};
 /// Puts into `day` the day number of Easter in a year of the Gregorian calendar (`rule` 0), or of the Julian calendar
 /// by the older rule (1). The rules are carried on to all years, so that the day may not be valid where the year hasn't
 /// at most six digits. The answer is 0, or 3 for a rule that is none; then `day` is as it was.
-#[unsafe(no_mangle)]
-pub extern "C" fn icu_calendar_easter(rule: u8, year: i32, day: &mut i64) -> u8
+pub fn easter(rule: u8, year: i32, day: &mut i64) -> u8
     ensures gregorian { rule ≡ 0 → (result ≡ 0) × IsGregorianEaster year day.new }
     ensures julian { rule ≡ 1 → (result ≡ 0) × IsJulianEaster year day.new }
     ensures others { rule ≢ 0 → rule ≢ 1 → (result ≡ 3) × (day.new ≡ day.old) }
@@ -41,8 +40,7 @@ fn week_of(day: ValidDay) -> IsoWeekOfYear
 /// Puts the week of a day, and the year that it belongs to, into `week` and `year` (ISO 8601): a week runs from Monday to
 /// Sunday and belongs to the year of its Thursday, so that week 1 has the year's first Thursday. The answer is 0, or 4
 /// for a day number that isn't from -365242499 to 365242134; then both are as they were.
-#[unsafe(no_mangle)]
-pub extern "C" fn icu_calendar_week_of_year(day: i64, year: &mut i32, week: &mut u8) -> u8
+pub fn week_of_year(day: i64, year: &mut i32, week: &mut u8) -> u8
     ensures { MatchBool (is_valid_day day) (IsWeekTold day result year.new week.new)
         (IsWeekLeft result year.old week.old year.new week.new) }
 {
