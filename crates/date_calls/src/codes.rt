@@ -39,7 +39,7 @@ pub(crate) fn kind_of(code: u8) -> Option<AnyCalendarKind>
 }
 
 /// The tables that a code stands for: without rows, or with the published years.
-pub(crate) fn tables_of(code: u8) -> Option<Tables<'static>>
+pub fn tables_of(code: u8) -> Option<Tables<'static>>
     ensures { option_map table_contents result ≡ contents_of_code code }
 {
     match code {

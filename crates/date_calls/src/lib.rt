@@ -20,9 +20,10 @@ mod rooms;
 mod years;
 
 pub use calls::{add, date_of_day, date_of_fields, era_of_day, until};
+pub use codes::tables_of;
 pub use dates::CalendarDate;
 pub use durations::CalendarDuration;
 pub use fields::CalendarFields;
-pub use outcomes::NO_ROOM;
+pub use outcomes::{NO_ROOM, UNKNOWN_YEARS};
 pub use rooms::put;
 pub use years::{easter, week_of_year};

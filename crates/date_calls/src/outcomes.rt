@@ -12,7 +12,7 @@ pub(crate) const DONE: u8 = 0;
 pub(crate) const UNKNOWN_CALENDAR: u8 = 1;
 
 /// The code for the years is none.
-pub(crate) const UNKNOWN_YEARS: u8 = 2;
+pub const UNKNOWN_YEARS: u8 = 2;
 
 /// The code of an option is none.
 pub(crate) const UNKNOWN_OPTION: u8 = 3;
