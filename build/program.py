@@ -1,6 +1,7 @@
 #!/usr/bin/env python3
 """Proves and builds the program `calspan`: each crate that it stands on once, crates that don't stand on one another side by side.
-With names of libraries as arguments, it proves these and what they stand on in its place; of a static library it builds the archive. With
+With names of libraries as arguments, it proves these and what they stand on in its place; of a static library it builds the archive, and of
+the one for WebAssembly the module `web/icu_calendar.wasm`. With
 `--progress` first, it says on standard error how far it is: how many of the crates are proved, and how many minutes have gone.
 
 A crate is built as soon as the crates below it are. Where one crate has by far the longest chain of others behind it, the chain decides
@@ -23,6 +24,10 @@ from typing import NamedTuple
 TOP = Path(__file__).resolve().parent.parent
 PROGRAM = "calspan"
 TARGET = "x86_64-unknown-linux-gnu"
+# The static library that is built for WebAssembly, and the stack of its module.
+MODULE = "icu_calendar_wasm"
+MODULE_TARGET = "wasm64-unknown-unknown"
+MODULE_STACK = 131072
 # More jobs than four gain nothing in one crate.
 MOST_JOBS = 4
 # A crate has a right to processors beside the one with the longest chain where its own is at least this part of it.
@@ -127,6 +132,7 @@ def command(name: str, crates: dict[str, list[str]], tools: Kit, room: Path, job
     words += ["--antt-project", tools.logic, "--logic-built", tools.built_logic]
     words += ["--jobs", str(jobs)]
     words += ["--crate-type", "staticlib"] if is_static else []
+    words += ["--target", MODULE_TARGET] if name == MODULE else []
     words += ["--toolchain", tools.toolchain, "--backend", "llvm"] if is_program or is_static else ["--statements"]
     return [str(it) for it in [*words, "-o", made(name, room)]]
 
@@ -235,6 +241,12 @@ def link(tools: Kit, room: Path) -> int:
     return subprocess.run(words, stdin=subprocess.DEVNULL).returncode
 
 
+def link_module(tools: Kit, archive: Path) -> int:
+    """Links the archive for WebAssembly into a module, and answers the linker's status."""
+    words = [tools.linker, "--target", MODULE_TARGET, "--toolchain", tools.toolchain, "--stack", str(MODULE_STACK)]
+    return subprocess.run([*words, "-o", TOP / "web/icu_calendar.wasm", archive], stdin=subprocess.DEVNULL).returncode
+
+
 def hand_out(room: Path, tops: list[str]) -> None:
     """Puts archives into the folders where `rt lib` would make them."""
     for name in static_libraries().intersection(tops):
@@ -260,6 +272,8 @@ def main(words: list[str]) -> int:
         if status := build.whole():
             return status
         hand_out(room, tops)
+        if MODULE in tops and (status := link_module(build.tools, made(MODULE, room))):
+            return status
         return link(build.tools, room) if PROGRAM in tops else 0
 
 

@@ -5,24 +5,9 @@
 //! that it is given, and answers a code.
 #![tactic(auto)]
 
-mod calendars;
-mod calls;
-mod codes;
-mod dates;
-mod days;
-mod durations;
-mod eras;
-mod fields;
+mod exports;
 mod kept;
-mod outcomes;
 mod program;
-mod questions;
-mod rooms;
 #[cfg(test)]
 mod tests;
 mod words;
-mod years;
-
-pub use dates::CalendarDate;
-pub use durations::CalendarDuration;
-pub use fields::CalendarFields;

@@ -8,11 +8,10 @@ ghost use Rattle.icu_calendar_c.specs.Words.{words_in};
 ghost use Rattle.icu_calendar_c.specs.Program.{Asks, HasCommand, IsAnsweredIn, IsBegunIn, IsUntouched, NeedsRoom, rules_of};
 
 use crate::kept::Kept;
-use crate::outcomes::NO_ROOM;
-use crate::rooms::put;
 use crate::words::words_of;
 use byte_io::PlainSource;
 use calspan_run::{Status, code, run};
+use date_calls::{NO_ROOM, put};
 use std::alloc::Global;
 use std::str;
 

@@ -1,0 +1,10 @@
+pub mod Codes
+pub mod Calendars
+pub mod Dates
+pub mod Fields
+pub mod Durations
+pub mod Eras
+pub mod Rooms
+pub mod Outcomes
+pub mod Calls
+pub mod Weeks

@@ -1,0 +1,88 @@
+//! The codes that callers give: calendars, where their years come from, and options.
+
+ghost use Rattle.std.specs.Prelude.{◌≡◌, Result, MatchResult};
+ghost use Rattle.std.specs.Option.{option_map};
+ghost use Rattle.cal_tables.specs.Kinds.{table_contents};
+ghost use Rattle.date_calls.specs.Codes.{contents_of_code, kind_of_code, overflow_of_code, strategy_of_code, unit_of_code};
+
+use cal_kinds::AnyCalendarKind;
+use cal_tables::Tables;
+use cal_types::{DateDurationUnit, MissingFieldsStrategy, Overflow};
+
+/// The kind of calendar that a code stands for.
+pub(crate) fn kind_of(code: u8) -> Option<AnyCalendarKind>
+    ensures { result ≡ kind_of_code code }
+{
+    match code {
+        0 => Some(AnyCalendarKind::Buddhist),
+        1 => Some(AnyCalendarKind::Chinese),
+        2 => Some(AnyCalendarKind::Coptic),
+        3 => Some(AnyCalendarKind::Dangi),
+        4 => Some(AnyCalendarKind::Ethiopian),
+        5 => Some(AnyCalendarKind::EthiopianAmeteAlem),
+        6 => Some(AnyCalendarKind::Gregorian),
+        7 => Some(AnyCalendarKind::Hebrew),
+        8 => Some(AnyCalendarKind::Indian),
+        9 => Some(AnyCalendarKind::HijriTabularTypeIIFriday),
+        10 => Some(AnyCalendarKind::HijriSimulatedMecca),
+        11 => Some(AnyCalendarKind::HijriTabularTypeIIThursday),
+        12 => Some(AnyCalendarKind::HijriUmmAlQura),
+        13 => Some(AnyCalendarKind::Iso),
+        14 => Some(AnyCalendarKind::Japanese),
+        15 => Some(AnyCalendarKind::Julian),
+        16 => Some(AnyCalendarKind::Persian),
+        17 => Some(AnyCalendarKind::Roc),
+        18 => Some(AnyCalendarKind::HijriTabularTypeIFriday),
+        19 => Some(AnyCalendarKind::HijriTabularTypeIThursday),
+        _ => None,
+    }
+}
+
+/// The tables that a code stands for: without rows, or with the published years.
+pub fn tables_of(code: u8) -> Option<Tables<'static>>
+    ensures { option_map table_contents result ≡ contents_of_code code }
+{
+    match code {
+        0 => Some(Tables::none()),
+        1 => Some(published_years::tables()),
+        _ => None,
+    }
+}
+
+/// The option `overflow` that a code stands for, which 0 leaves out.
+pub(crate) fn overflow_of(code: u8) -> Option<Option<Overflow>>
+    ensures { result ≡ overflow_of_code code }
+{
+    match code {
+        0 => Some(None),
+        1 => Some(Some(Overflow::Constrain)),
+        2 => Some(Some(Overflow::Reject)),
+        _ => None,
+    }
+}
+
+/// The option for missing fields that a code stands for, which 0 leaves out.
+pub(crate) fn strategy_of(code: u8) -> Option<Option<MissingFieldsStrategy>>
+    ensures { result ≡ strategy_of_code code }
+{
+    match code {
+        0 => Some(None),
+        1 => Some(Some(MissingFieldsStrategy::Reject)),
+        2 => Some(Some(MissingFieldsStrategy::Ecma)),
+        _ => None,
+    }
+}
+
+/// The largest unit that a code stands for, which 0 leaves out.
+pub(crate) fn unit_of(code: u8) -> Option<Option<DateDurationUnit>>
+    ensures { result ≡ unit_of_code code }
+{
+    match code {
+        0 => Some(None),
+        1 => Some(Some(DateDurationUnit::Years)),
+        2 => Some(Some(DateDurationUnit::Months)),
+        3 => Some(Some(DateDurationUnit::Weeks)),
+        4 => Some(Some(DateDurationUnit::Days)),
+        _ => None,
+    }
+}

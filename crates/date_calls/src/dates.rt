@@ -1,0 +1,108 @@
+//! The date of a day, and what it says.
+
+ghost use Rattle.std.specs.Prelude.{◌≡◌, IsTrue};
+ghost use Rattle.cal_types.specs.Year.{era_year_or_related_iso_of, extended_year_of};
+ghost use Rattle.date_calls.specs.Dates.{AreParts, cyclic_number, flag};
+
+use crate::days::ValidDay;
+use crate::questions::Question;
+use cal_base::Calendar;
+use cal_types::{IntoYearInfo, YearInfo};
+
+/// What a date says in its calendar.
+#[repr(C)]
+#[derive(Clone, Copy, Debug, PartialEq, Eq, Drop)]
+pub struct CalendarDate {
+    /// The number of the day: 1 is 0001-01-01 in the ISO calendar.
+    pub day_number: i64,
+    /// The extended year, which numbers a calendar's years without eras.
+    pub extended_year: i32,
+    /// The year in its era, or the ISO year in which a year of the cycle of sixty begins.
+    pub era_year: i32,
+    /// The year in the cycle of sixty years, from 1; 0 where the year is in an era.
+    pub cyclic_year: u8,
+    /// The place of the month in its year, from 1.
+    pub ordinal_month: u8,
+    /// The month's number, which after a leap month isn't its place.
+    pub month_number: u8,
+    /// 1 for a leap month, otherwise 0.
+    pub month_is_leap: u8,
+    /// The day of the month, from 1.
+    pub day: u8,
+}
+
+/// 1 for what is so, 0 for what isn't.
+fn flag(holds: bool) -> u8
+    ensures { result ≡ flag holds }
+{
+    u8::from(holds)
+}
+
+/// What a year is numbered by.
+#[derive(Clone, Copy, Debug)]
+struct YearNumbers {
+    extended: i32,
+    in_era: i32,
+    in_cycle: u8,
+}
+
+/// The numbers of a year.
+fn numbers_of(year: YearInfo) -> YearNumbers
+    ensures extended { result.extended ≡ extended_year_of year }
+    ensures in_era { result.in_era ≡ era_year_or_related_iso_of year }
+    ensures in_cycle { result.in_cycle ≡ cyclic_number year }
+{
+    match year {
+        YearInfo::Era(era) => YearNumbers {
+            extended: era.extended_year,
+            in_era: era.year,
+            in_cycle: 0,
+        },
+        YearInfo::Cyclic(cyclic) => YearNumbers {
+            extended: cyclic.related_iso,
+            in_era: cyclic.related_iso,
+            in_cycle: cyclic.year,
+        },
+    }
+}
+
+/// What an inner date says.
+pub(crate) fn parts_of<C: Calendar>(calendar: &C, date: &C::DateInner) -> CalendarDate
+    requires { IsTrue (C.belongs calendar.now date.now) }
+    ensures { AreParts (C.system calendar.now) (C.date_of calendar.now date.now) result }
+{
+    let year = numbers_of(calendar.year_info(date).into_year_info());
+    let info = calendar.month(date);
+    let month = info.to_input();
+    CalendarDate {
+        day_number: calendar.to_rata_die(date).to_i64_date(),
+        extended_year: year.extended,
+        era_year: year.in_era,
+        cyclic_year: year.in_cycle,
+        ordinal_month: info.ordinal,
+        month_number: month.number(),
+        month_is_leap: flag(month.is_leap()),
+        day: calendar.day_of_month(date).0,
+    }
+}
+
+/// Which date a day is.
+#[derive(Clone, Copy, Debug)]
+pub(crate) struct OfDay {
+    pub(crate) day: ValidDay,
+}
+
+impl Question for OfDay {
+    ghost use Rattle.date_calls.specs.Dates.{IsShown};
+
+    type Answer = CalendarDate;
+
+    ghost answers = { λ q s date. IsShown s q.day.day date };
+
+    fn ask<C: Calendar>(&self, calendar: &C) -> CalendarDate
+        ensures { IsShown (C.system calendar.now) self.now.day.day result }
+    {
+        let date = calendar.from_rata_die(self.day.rata_die());
+        parts_of(calendar, &date)
+    }
+}

@@ -1,0 +1,68 @@
+//! The codes that calls on dates answer.
+
+ghost use Rattle.std.specs.Prelude.{◌≡◌};
+ghost use Rattle.date_calls.specs.Outcomes.{fields_fault, sum_fault};
+
+use cal_types::{DateAddError, DateFromFieldsError};
+
+/// There is an answer.
+pub(crate) const DONE: u8 = 0;
+
+/// The code for a calendar is none.
+pub(crate) const UNKNOWN_CALENDAR: u8 = 1;
+
+/// The code for the years is none.
+pub const UNKNOWN_YEARS: u8 = 2;
+
+/// The code of an option is none.
+pub(crate) const UNKNOWN_OPTION: u8 = 3;
+
+/// The day number isn't in the valid range.
+pub(crate) const INVALID_DAY_NUMBER: u8 = 4;
+
+/// There is no room for the text.
+pub const NO_ROOM: u8 = 8;
+
+/// Why there is no date: the code of the cause, and the greatest number that would do where the cause has one.
+#[derive(Clone, Copy, Debug, PartialEq, Eq)]
+pub(crate) struct Fault {
+    pub(crate) code: u8,
+    pub(crate) max: u8,
+}
+
+const fn why(code: u8, max: u8) -> Fault
+    ensures code { result.code ≡ code }
+    ensures max { result.max ≡ max }
+{
+    Fault { code, max }
+}
+
+/// The fault of fields that name no date.
+pub(crate) fn fault_of_fields(cause: DateFromFieldsError) -> Fault
+    ensures { result ≡ fields_fault cause }
+{
+    match cause {
+        DateFromFieldsError::NotEnoughFields => why(10, 0),
+        DateFromFieldsError::TooManyFields => why(11, 0),
+        DateFromFieldsError::Overflow => why(12, 0),
+        DateFromFieldsError::InvalidEra => why(13, 0),
+        DateFromFieldsError::InconsistentYear => why(14, 0),
+        DateFromFieldsError::MonthCodeInvalidSyntax => why(15, 0),
+        DateFromFieldsError::MonthNotInCalendar => why(16, 0),
+        DateFromFieldsError::MonthNotInYear => why(17, 0),
+        DateFromFieldsError::InconsistentMonth => why(18, 0),
+        DateFromFieldsError::InvalidOrdinalMonth { max } => why(19, max),
+        DateFromFieldsError::InvalidDay { max } => why(20, max),
+    }
+}
+
+/// The fault of a duration that can't be added. The codes are those of fields.
+pub(crate) fn fault_of_sum(cause: DateAddError) -> Fault
+    ensures { result ≡ sum_fault cause }
+{
+    match cause {
+        DateAddError::Overflow => why(12, 0),
+        DateAddError::MonthNotInYear => why(17, 0),
+        DateAddError::InvalidDay { max } => why(20, max),
+    }
+}
