@@ -124,9 +124,9 @@ kind_limits rows accepted kind.Roc = record {
   ranged = ranged-renumbered roc_offset (true-offset roc_offset refl) gregorian_list gregorian_list-bounded;
   apart = apart-renumbered roc_offset (true-offset roc_offset refl) gregorian_list gregorian_list-bounded;
 }
+kind_limits rows accepted kind.HijriTabularTypeIFriday = tabular_limits (record { leap_years = TypeI; epoch = Friday })
+kind_limits rows accepted kind.HijriTabularTypeIThursday = tabular_limits (record { leap_years = TypeI; epoch = Thursday })
 
 -- so is that of each kind without rows
 pub plain_limits : (k : AnyCalendarKind) → IsWithinLimits (kind_system no_contents k)
 plain_limits k = kind_limits no_rows no_rows_accepted k
-kind_limits rows accepted kind.HijriTabularTypeIFriday = tabular_limits (record { leap_years = TypeI; epoch = Friday })
-kind_limits rows accepted kind.HijriTabularTypeIThursday = tabular_limits (record { leap_years = TypeI; epoch = Thursday })

@@ -92,6 +92,8 @@ pub use Rattle.cal_hijri.specs.HijriNames
 pub use Rattle.cal_hijri.specs.HijriRows
 pub use Rattle.cal_hijri.specs.HijriSystem
 pub use Rattle.cal_hijri.specs.TabularRules
+pub use Rattle.cal_hijri.specs.TabularYears
+pub use Rattle.cal_hijri.specs.TypeIYears
 pub use Rattle.cal_hijri.specs.TableRules
 pub use Rattle.cal_hijri.specs.TableAccepted
 pub use Rattle.cal_hijri.specs.LengthenedTables as HijriLengthening
