@@ -1,11 +1,10 @@
 -- A date whose year has the same first day and the same months in another list is the same there.
-use Rattle.std.proofs.Common.{◌≡◌, ◌∙◌, ◌-◌, ◌+◌, ◌≤◌, true, false, List, length, sym, ap, subst, arith, ℤ, pos, ◌+ℤ◌}
-use Rattle.std.specs.Prelude.{not, slice_index_or, sum_by, take, nat_eq}
-use Rattle.std.specs.Ordering.{int_eq}
+use Rattle.std.proofs.Common.{◌≡◌, ◌∙◌, ◌-◌, ◌≤◌, true, false, List, length, ap, subst, arith}
+use Rattle.std.specs.Prelude.{not, slice_index_or, sum_by, take}
 use Rattle.std.proofs.lemmas.Int.{ints}
 use Rattle.std.proofs.lemmas.Bool.Decides.{nat_tests}
 use Rattle.cal_days.proofs.Signed.{signed}
-use Rattle.cal_model.specs.CalendarList.{CalendarList, Date, Entry, IsDate, IsOn, day_number, days_before, days_of, no_entry, start_of_year}
+use Rattle.cal_model.specs.CalendarList.{CalendarList, Date, Entry, IsDate, IsOn, day_number, days_before, days_of, no_entry}
 use Rattle.cal_model.specs.DateOrder.{date_eq}
 use Rattle.cal_model.specs.SameYear.{HaveSameYear}
 use Rattle.cal_model.proofs.ListLemmas.{on-unique}

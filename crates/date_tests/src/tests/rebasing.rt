@@ -96,23 +96,18 @@ fn days_of_added_hijri_years_are_moved(rt: HostRuntime) {
     assert!(rt; count_moved(&rt, before, after, 794002, 795001) == 0);
 }
 
-/// The table of the first 50 of these rows, and its table when the others are added.
-fn lengthened_from_50(
-    rt: &impl Abort,
-    side: Side,
-    rows: &'static [EastAsianRow],
-) -> (EastAsianTable<'static>, EastAsianTable<'static>) {
-    let first_50 = rows.get(..50).expect(rt, "there are more rows");
-    let table = EastAsianTable::try_new(side, first_50);
-    let table = table.expect(rt, "the years meet the next one");
-    let longer = table.lengthened(rows).expect(rt, "the others are added");
-    (table, longer)
+/// The first 50 of some rows.
+fn first_50(rt: &impl Abort, rows: &'static [EastAsianRow]) -> &'static [EastAsianRow] {
+    rows.get(..50).expect(rt, "there are more rows")
 }
 
 /// The years 1912 to 1961, and then 1962 to 2099, which have the days 716276 to 766683.
 #[test]
 fn days_of_added_chinese_years_are_moved(rt: HostRuntime) {
-    let (table, longer) = lengthened_from_50(&rt, Side::China, china_table().rows());
+    let rows = china_table().rows();
+    let table = EastAsianTable::try_new(Side::China, first_50(&rt, rows));
+    let table = table.expect(&rt, "the years meet the next one");
+    let longer = table.lengthened(rows).expect(&rt, "the others are added");
     let before = ChineseTraditional::new(table);
     let after = ChineseTraditional::new(longer);
     assert!(rt; count_moved(&rt, before, after, 715276, 716275) == 0);
@@ -123,7 +118,10 @@ fn days_of_added_chinese_years_are_moved(rt: HostRuntime) {
 /// The years 1912 to 1961, and then 1962 to 2097, which have the days 716276 to 765945.
 #[test]
 fn days_of_added_korean_years_are_moved(rt: HostRuntime) {
-    let (table, longer) = lengthened_from_50(&rt, Side::Korea, korea_table().rows());
+    let rows = korea_table().rows();
+    let table = EastAsianTable::try_new(Side::Korea, first_50(&rt, rows));
+    let table = table.expect(&rt, "the years meet the next one");
+    let longer = table.lengthened(rows).expect(&rt, "the others are added");
     let before = KoreanTraditional::new(table);
     let after = KoreanTraditional::new(longer);
     assert!(rt; count_moved(&rt, before, after, 715276, 716275) == 0);
