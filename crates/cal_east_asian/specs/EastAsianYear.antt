@@ -1,5 +1,5 @@
 -- The parts of a year of a Chinese or Korean calendar: its number, its first day and the place of its leap month.
-use Rattle.std.specs.Prelude.{ℕ, ◌+◌, Bool, ◌&&◌, ◌||◌, nat_eq, nat_le, if◌then◌else◌, IsTrue, ℤ, pos, ◌+ℤ◌}
+use Rattle.std.specs.Prelude.{ℕ, ◌+◌, Bool, ◌&&◌, ◌||◌, nat_eq, nat_le, if◌then◌else◌, IsTrue, ℤ, pos, ◌+ℤ◌, ◌-ℤ◌, unsigned_abs}
 use Rattle.cal_days.specs.Day.{IsBetween, IsRuleYear}
 use Rattle.cal_days.specs.Gregorian.{gregorian_start}
 
@@ -10,6 +10,10 @@ january_19 y = gregorian_start y +ℤ pos 18
 -- a year starts 0 to 34 days after January 19 of its number
 abbrev pub IsNewYear : ℤ → ℤ → Type 0
 IsNewYear y day = IsBetween (january_19 y) (january_19 y +ℤ pos 34) day
+
+-- how many days after January 19 of its number a year starts
+abbrev pub days_after_january_19 : ℤ → ℤ → ℕ
+days_after_january_19 y day = unsigned_abs (day -ℤ january_19 y)
 
 -- the place of a leap month, or 0 where there is none
 abbrev pub is_leap_place : ℕ → Bool

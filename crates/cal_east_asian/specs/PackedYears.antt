@@ -1,5 +1,5 @@
 -- The year of a date that is kept or packed.
-use Rattle.std.specs.Prelude.{ℕ, List, pos, unsigned_abs, ℤ, ◌+ℤ◌, ◌-ℤ◌}
+use Rattle.std.specs.Prelude.{ℕ, List, pos, ℤ, ◌+ℤ◌}
 use Rattle.date_bytes.specs.Bytes.{year_from}
 use Rattle.date_bytes.specs.EastAsianBytes.{leap_in, long_in, start_in}
 use Rattle.cal_east_asian.specs.EastAsianYear.{january_19}
@@ -17,10 +17,6 @@ kept_year k = record {
   valid = k.valid;
   few = k.few;
 }
-
--- how many days after January 19 of its number a year starts
-abbrev pub days_after_january_19 : ℤ → ℤ → ℕ
-days_after_january_19 y day = unsigned_abs (day -ℤ january_19 y)
 
 -- the number that bytes hold, or the nearest one of a rule year; four bytes hold no other
 abbrev pub year_in : List ℕ → ℤ

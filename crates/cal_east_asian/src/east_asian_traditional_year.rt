@@ -7,7 +7,7 @@ ghost use Rattle.std.specs.Ordering.{int_cmp, int_eq, on, as_partial_cmp};
 ghost use Rattle.std.specs.Hash as fed;
 ghost use Rattle.cal_days.specs.Day.{IsBetween, IsRuleYear};
 ghost use Rattle.cal_east_asian.specs.EastAsianPlaces.{month_days};
-ghost use Rattle.cal_east_asian.specs.EastAsianYear.{IsEastAsianYear, IsNewYear, is_leap_place, january_19, months_of_year};
+ghost use Rattle.cal_east_asian.specs.EastAsianYear.{IsEastAsianYear, IsNewYear, days_after_january_19, is_leap_place, january_19, months_of_year};
 ghost use Rattle.cal_east_asian.specs.MonthStarts.{AreYearStarts, HaveLengthsOf, leap_place_read, leap_place_shown, start_at};
 
 use crate::east_asian_months::{days_in_month, months_in_year};
@@ -211,6 +211,16 @@ fn january_19(related_iso: i32) -> i64
     gregorian::year_start(related_iso).to_i64_date() + 18
 }
 
+/// How many days after January 19 of its number a year starts.
+fn days_after_january_19(related_iso: i32, new_year: i64) -> u8
+    requires number { IsRuleYear related_iso }
+    requires start { IsNewYear related_iso new_year }
+    ensures value { result ≡ days_after_january_19 related_iso new_year }
+    ensures small { result ≤ 34 }
+{
+    (new_year - january_19(related_iso)) as u8
+}
+
 /// A year of a Chinese or Korean calendar that the fields of a date may name, the place of a month in it, and a day of
 /// that month, both from 1.
 ///
@@ -249,7 +259,7 @@ impl PackWithMD for EastAsianTraditionalYear {
     ghost use Rattle.cal_arith.specs.Dates.{ymd};
     ghost use Rattle.date_bytes.specs.Bytes.{day_from, month_from};
     ghost use Rattle.date_bytes.specs.EastAsianBytes.{east_asian_bytes};
-    ghost use Rattle.cal_east_asian.specs.PackedYears.{days_after_january_19, kept_year, packed_year};
+    ghost use Rattle.cal_east_asian.specs.PackedYears.{kept_year, packed_year};
 
     type Packed = [u8; 7];
 
@@ -269,12 +279,12 @@ impl PackWithMD for EastAsianTraditionalYear {
             result ≡ east_asian_bytes self.related_iso self.long_months self.leap_month start month day }
         ensures parts { ymd (packed_year result) (month_from 3 result) (day_from 3 result) ≡ ymd self month day }
     {
-        let start = self.new_year - january_19(self.related_iso);
+        let start = days_after_january_19(self.related_iso, self.new_year);
         east_asian::pack(
             self.related_iso,
             self.long_months,
             self.leap_month,
-            start as u8,
+            start,
             month,
             day,
         )
@@ -282,12 +292,10 @@ impl PackWithMD for EastAsianTraditionalYear {
 
     fn unpack_year(packed: [u8; 7]) -> EastAsianTraditionalYear {
         let related_iso = east_asian::unpack_year(packed);
-        EastAsianTraditionalYear {
-            related_iso,
-            new_year: january_19(related_iso) + i64::from(east_asian::unpack_start(packed)),
-            long_months: east_asian::unpack_long_months(packed),
-            leap_month: east_asian::unpack_leap_month(packed),
-        }
+        let new_year = january_19(related_iso) + i64::from(east_asian::unpack_start(packed));
+        let long_months = east_asian::unpack_long_months(packed);
+        let leap_month = east_asian::unpack_leap_month(packed);
+        EastAsianTraditionalYear::from_parts(related_iso, new_year, long_months, leap_month)
     }
 
     fn unpack_month(packed: [u8; 7]) -> u8 {

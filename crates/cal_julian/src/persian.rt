@@ -124,6 +124,8 @@ impl PackWithMD for PersianYear {
 }
 
 impl<'t> YearShapes for Persian<'t> {
+    ghost use Rattle.std.specs.Ordering.{int_cmp, nat_cmp, on, then_cmp};
+    ghost use Rattle.date_bytes.specs.Bytes.{day_from, month_from, year_from};
     ghost use Rattle.std.specs.Prelude.{refl};
     ghost use Rattle.cal_julian.specs.PersianList.{persian_years};
     ghost use Rattle.cal_julian.specs.PersianCorrected.{corrected_years};
@@ -192,7 +194,10 @@ impl<'t> YearShapes for Persian<'t> {
         Some(ordinal_month)
     }
 
-    fn order(first: [u8; 4], second: [u8; 4]) -> Ordering {
+    fn order(first: [u8; 4], second: [u8; 4]) -> Ordering
+        ensures { result ≡ then_cmp (on (year_from 0) int_cmp) (then_cmp (on (month_from 0) nat_cmp)
+            (on (day_from 0) nat_cmp)) first second }
+    {
         solar::order(first, second)
     }
 

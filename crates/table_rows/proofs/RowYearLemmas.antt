@@ -161,7 +161,7 @@ starts-hijri_year r h =
     let starts = starts_of 13 r.start r.lengths in
     let long = start_bits starts 0 12 in
     let near : IsNearMean r.year r.start = subst (IsNearMean r.year) (first_start 12 r.start r.lengths) h.near in
-    let y : HijriYear = record { extended_year = r.year; first_day = r.start; long_months = long; near = near } in (
+    let y : HijriYear = record { extended_year = r.year; first_day = r.start; long_months = long; near = near; twelve = bits-few starts 12 0 } in (
       y,
       record {
         within = h.year;
@@ -237,7 +237,7 @@ starts-east_asian_year r (place, h) =
     let starts = starts_of 14 r.start r.lengths in
     let months = months_of_year r.leap in
     let start : IsNewYear r.year r.start = subst (IsNewYear r.year) (first_start 13 r.start r.lengths) h.start in
-    let y : EastAsianTraditionalYear = record { related_iso = r.year; new_year = r.start; long_months = start_bits starts 0 months; leap_month = r.leap; valid = (h.year, (start, place)) } in (
+    let y : EastAsianTraditionalYear = record { related_iso = r.year; new_year = r.start; long_months = start_bits starts 0 months; leap_month = r.leap; valid = (h.year, (start, place)); few = bits-few starts months 0 } in (
       y,
       record {
         number = refl;

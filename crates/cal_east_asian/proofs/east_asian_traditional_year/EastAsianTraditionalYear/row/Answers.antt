@@ -1,6 +1,6 @@
-use Rattle.std.proofs.Common.{◌≡◌, ◌∙◌, ◌%◌, ◌^◌, ◌<◌, ℕ, refl, ap, arith, IsTrue, ℤ, pos, nat_abs, to_z, of_z, w32, w64, ◌+ℤ◌, ◌-ℤ◌, min}
+use Rattle.std.proofs.Common.{◌≡◌, ◌∙◌, ◌%◌, ◌^◌, ◌<◌, ◌+◌, ℕ, Bool, nat_eq, if◌then◌else◌, refl, ap, subst, arith, IsTrue, ℤ, pos, nat_abs, to_z, of_z, w32, w64, ◌+ℤ◌, ◌-ℤ◌, min}
 use Rattle.cal_days.proofs.GregorianLemmas.{gregorian_start-bounds}
-use Rattle.cal_days.proofs.Signed.{signed, signed_casts}
+use Rattle.cal_days.proofs.Signed.{by_bool, signed, signed_casts}
 use Rattle.cal_days.specs.Day.{IsRuleYear}
 use Rattle.cal_days.specs.Gregorian.{gregorian_start}
 use Rattle.cal_east_asian.specs.RowParts.{place_or_none}
@@ -20,7 +20,11 @@ place-same : (p : ℕ) → IsTrue (is_leap_place p) → place_or_none p ≡ p
 place-same p h = rw h refl
 
 bits-same : (m p : ℕ) → IsTrue (is_leap_place p) → m < 2 ^ months_of_year p → m % 2 ^ months_of_year (place_or_none p) ≡ m
-bits-same m p h few = ap (λ (q : ℕ). m % 2 ^ months_of_year q) (place-same p h) ∙ omega (arith, few)
+bits-same m p h few =
+    ap (λ (q : ℕ). m % 2 ^ months_of_year q) (place-same p h)
+    ∙ by_bool {P = m % 2 ^ months_of_year p ≡ m} (nat_eq p 0)
+    (λ none. let less : m < 4096 = subst (λ (b : Bool). m < 2 ^ (12 + (if b then 0 else 1))) none few in rw none (omega (arith, less)))
+    (λ some. let less : m < 8192 = subst (λ (b : Bool). m < 2 ^ (12 + (if b then 0 else 1))) some few in rw some (omega (arith, less)))
 
 pub overflow_cast-result : goal.overflow_cast-result
 overflow_cast-result c =
