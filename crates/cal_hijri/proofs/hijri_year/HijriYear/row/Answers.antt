@@ -1,4 +1,4 @@
-use Rattle.std.proofs.Common.{◌≡◌, ◌∙◌, refl, ap, arith, ℤ, pos, nat_abs, to_z, of_z, w32, w64, FitsSigned, rules, ◌+ℤ◌, ◌-ℤ◌, min}
+use Rattle.std.proofs.Common.{◌≡◌, ◌∙◌, ◌%◌, ap, arith, ℤ, pos, nat_abs, to_z, of_z, w32, w64, FitsSigned, rules, ◌+ℤ◌, ◌-ℤ◌, min}
 use Rattle.cal_days.proofs.Signed.{signed, signed_casts}
 use Rattle.cal_days.proofs.IslamicLemmas.{mean_start-bounds}
 use Rattle.cal_days.specs.Day.{IsRuleYear}
@@ -36,4 +36,5 @@ returns-clause-row c =
     let offset : pos n ≡ c.args.self.first_day +ℤ pos 5 -ℤ islamic_mean_start y = omega (arith, signed_casts, mean, bounds, c.args.self.near, rule) in
     let few : min n 10 ≡ n = omega (arith, signed, offset, c.args.self.near) in
     let start : start_after (nearest_rule_year (to_z w32 (of_z w32 y))) n ≡ c.args.self.first_day = omega (arith, signed, ap islamic_mean_start number, few, offset) in
-    same_parts _ c.args.self number start refl
+    let bits : c.args.self.long_months % 4096 ≡ c.args.self.long_months = omega (arith, c.args.self.twelve) in
+    same_parts _ c.args.self number start bits
