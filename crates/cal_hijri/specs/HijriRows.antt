@@ -32,7 +32,7 @@ start-near y offset =
     (omega (arith, signed), omega (arith, signed, few))
 
 -- the bits above the twelfth month's are of no month
-row-twelve : (bits : ℕ) → bits % 4096 < 4096
+pub row-twelve : (bits : ℕ) → bits % 4096 < 4096
 row-twelve bits = omega arith
 
 -- the year of a row
