@@ -7,6 +7,7 @@ use Rattle.cal_base.specs.PackedDates.{packed_date}
 use Rattle.cal_coptic.specs.CopticSystem.{coptic_date}
 use Rattle.cal_coptic.specs.EthiopianSystem.{kept_date as in_coptic_years}
 use Rattle.cal_hebrew.specs.HebrewSystem.{hebrew_date, has_hebrew_length}
+use Rattle.cal_hebrew.specs.PackedYears as packed_hebrew
 use Rattle.cal_east_asian.specs.EastAsianSystem as east_asian
 use Rattle.cal_east_asian.specs.PackedYears as packed_east_asian
 use Rattle.cal_east_asian.specs.declared.east_asian_traditional_year.EastAsianTraditionalYear.{EastAsianTraditionalYear}
@@ -64,7 +65,7 @@ kept_date (inner.Roc d) = packed_date d.0.packed
 
 -- whether the year that a Hebrew date keeps has its length
 abbrev pub keeps_hebrew_length : AnyDateInner → Bool
-keeps_hebrew_length (inner.Hebrew d) = has_hebrew_length d.0.packed.year
+keeps_hebrew_length (inner.Hebrew d) = has_hebrew_length (packed_hebrew.packed_year d.0.packed)
 keeps_hebrew_length _ = true
 
 -- the year that a Hijri date keeps; of other dates, any
