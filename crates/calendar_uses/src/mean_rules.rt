@@ -34,7 +34,8 @@ impl Rules for MeanRules {
     ghost use Rattle.std.specs.Prelude.{None, codes};
     ghost use Rattle.std.specs.Ordering.{int_eq};
     ghost use Rattle.std.specs.Cmp.{on_equiv, int_eq_equiv};
-    ghost use Rattle.icu_calendar.specs.MeanTraditionalYears.{mean_traditional_year, mean-years};
+    ghost use Rattle.icu_calendar.specs.MeanTraditionalYears.{mean_traditional_year};
+    ghost use Rattle.icu_calendar.specs.MeanTraditionalLaws.{mean-years};
     ghost use Rattle.icu_calendar.specs.RuleLaws.{mean-shared, unimplemented-year, unimplemented-kind, unimplemented-leap_month};
 
     type DateCompatibilityError = OtherOffset;

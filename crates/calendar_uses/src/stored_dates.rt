@@ -1,7 +1,7 @@
 //! What becomes of stored dates when the rows of a further year are published.
 
 ghost use Rattle.std.specs.Prelude.{IfOk};
-ghost use Rattle.icu_calendar.specs.RecordDates.{date};
+ghost use Rattle.icu_calendar.specs.CalendarList.{date};
 ghost use Rattle.icu_calendar.specs.Clamping.{clamped_day};
 ghost use Rattle.calendar_uses.specs.StoredDates.{IsUpdated};
 

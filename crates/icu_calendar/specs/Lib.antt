@@ -89,6 +89,7 @@ pub use Rattle.cal_hebrew.specs.HebrewSystem
 pub use Rattle.cal_hijri.specs.HijriList
 pub use Rattle.cal_hijri.specs.HijriMonths
 pub use Rattle.cal_hijri.specs.HijriNames
+pub use Rattle.cal_hijri.specs.laws.HijriNameLaws
 pub use Rattle.cal_hijri.specs.HijriRows
 pub use Rattle.cal_hijri.specs.HijriSystem
 pub use Rattle.cal_hijri.specs.TabularRules
@@ -105,6 +106,7 @@ pub use Rattle.cal_east_asian.specs.EastAsianSystem
 pub use Rattle.cal_east_asian.specs.EastAsianReferences
 pub use Rattle.cal_east_asian.specs.MeanYears
 pub use Rattle.cal_east_asian.specs.MeanTraditionalYears
+pub use Rattle.cal_east_asian.specs.laws.MeanTraditionalLaws
 pub use Rattle.cal_east_asian.specs.laws.RuleLaws
 pub use Rattle.cal_east_asian.specs.QingYears
 pub use Rattle.cal_east_asian.specs.ComputedYears

@@ -52,8 +52,8 @@ pub extern "C" fn calspan_answer(
     written: &mut usize,
 ) -> u8
     ensures { MatchOption (contents_of_code years)
-        (λ tables. IsLineAnswered tables line.now number result output.old output.new written.new)
-        ((result ≡ 2) × (output.new ≡ output.old) × (written.new ≡ 0)) }
+        ((result ≡ 2) × (output.new ≡ output.old) × (written.new ≡ 0))
+        (λ tables. IsLineAnswered tables line.now number result output.old output.new written.new) }
 {
     *written = 0;
     match tables_of(years) {

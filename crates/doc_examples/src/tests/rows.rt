@@ -62,3 +62,11 @@ fn show_years_of_rows(rt: &impl Abort) -> Option<()> {
 fn years_of_rows(rt: HostRuntime) {
     assert!(rt; show_years_of_rows(&rt).is_some());
 }
+
+#[test]
+fn longer_hijri_rows() -> Result<(), Fail> {
+    let rows = <[HijriRow; 301]>::try_from(published::umm_al_qura_table().rows())?;
+    let table = HijriTable::try_new(&rows[..50])?;
+    let lengthened = table.lengthened(&rows)?;
+    Ok(())
+}

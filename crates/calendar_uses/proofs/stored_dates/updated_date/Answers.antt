@@ -1,7 +1,7 @@
 use Rattle.std.proofs.Common.{◌≡◌, ◌∙◌, ℤ, refl, ap, sym, subst}
 use Rattle.icu_calendar.specs.CalendarList.{Date}
 use Rattle.icu_calendar.specs.HijriLengthening.{Lengthens, IsNotAdded, list_with}
-use Rattle.icu_calendar.specs.HijriNames.{years-named}
+use Rattle.icu_calendar.specs.HijriNameLaws.{years-named}
 use Rattle.icu_calendar.specs.HijriSystem.{packed_date}
 use Rattle.icu_calendar.specs.OwnRows.{rows_said}
 use Rattle.calendar_uses.specs.StoredDates.{IsUpdated}
