@@ -21,7 +21,7 @@
 //! have moved, which `moved` tells. Dates under the two tables can't be compared.
 //!
 //! ```
-//! let rows = TableRows::try_read(alloc, b"row hijri 1445 ..\nrow hijri 1446 ..\n")?;
+//! let rows = TableRows::try_read(alloc, text)?; // the rows of 1445 and of 1446
 //! let longer = Hijri::new_umm_al_qura(table.lengthened(rows.umm_al_qura())?);
 //! let rebased = stored.rebase(longer);
 //! ```

@@ -1,7 +1,10 @@
 //! The examples of the docs: published years, and rows of a text.
 
 use icu_calendar::rows::TableRows;
-use icu_calendar::{AnyCalendar, AnyCalendarKind, Date, Month, RataDie, Tables, published};
+use icu_calendar::{
+    AnyCalendar, AnyCalendarKind, Date, Hijri, HijriRow, HijriTable, Month, RataDie, Tables,
+    published,
+};
 use std::test::Fail;
 
 #[test]
@@ -64,4 +67,37 @@ fn calendars_over_tables(rt: HostRuntime) {
     let persian = published::tables().persian();
     let date = Date::from_rata_die(RataDie::new(739331), persian);
     assert!(rt; date.day_of_year().0 == 1); // 2025-03-21
+}
+
+/// `row hijri 1445 738720 sllslslslsll`
+const YEAR_1445: HijriRow = HijriRow {
+    extended_year: 1445,
+    long_months: 0xd56,
+    start_offset: 5,
+};
+
+/// `row hijri 1446 739075 sllslslslsls`
+const YEAR_1446: HijriRow = HijriRow {
+    extended_year: 1446,
+    long_months: 0x556,
+    start_offset: 6,
+};
+
+#[test]
+fn stored_dates(rt: HostRuntime) -> Result<(), Fail> {
+    let table = HijriTable::try_new(&[YEAR_1445])?;
+    let before = Hijri::new_umm_al_qura(table);
+    let stored = Date::try_new(1446.into(), Month::new(2), 1, before)?;
+    let rows = [YEAR_1445, YEAR_1446];
+    let longer = Hijri::new_umm_al_qura(table.lengthened(&rows)?);
+    let rebased = stored.rebase(longer);
+    assert!(rt; rebased.moved && rebased.date.day_of_month().0 == 2);
+
+    let alloc = rt.alloc();
+    let text = b"row hijri 1445 738720 sllslslslsll\nrow hijri 1446 739075 sllslslslsls\n";
+    let rows = TableRows::try_read(alloc, text)?; // the rows of 1445 and of 1446
+    let longer = Hijri::new_umm_al_qura(table.lengthened(rows.umm_al_qura())?);
+    let rebased = stored.rebase(longer);
+    assert!(rt; rebased.moved);
+    Ok(())
 }

@@ -64,6 +64,14 @@ fn years_of_rows(rt: HostRuntime) {
 }
 
 #[test]
+fn longer_chinese_rows() -> Result<(), Fail> {
+    let rows = <[EastAsianRow; 188]>::try_from(published::china_table().rows())?;
+    let table = EastAsianTable::try_new(Side::China, &rows[..50])?;
+    let lengthened = table.lengthened(&rows)?;
+    Ok(())
+}
+
+#[test]
 fn longer_hijri_rows() -> Result<(), Fail> {
     let rows = <[HijriRow; 301]>::try_from(published::umm_al_qura_table().rows())?;
     let table = HijriTable::try_new(&rows[..50])?;

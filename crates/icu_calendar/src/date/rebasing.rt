@@ -35,7 +35,7 @@ where
     /// ```
     /// let longer = Hijri::new_umm_al_qura(table.lengthened(&rows)?);
     /// let rebased = stored.rebase(longer);
-    /// assert!(rebased.moved && rebased.date.day_of_month().0 == 2);
+    /// assert!(rt; rebased.moved && rebased.date.day_of_month().0 == 2);
     /// ```
     pub fn rebase<A2: AsCalendar>(&self, calendar: A2) -> Rebased<A2>
     where
