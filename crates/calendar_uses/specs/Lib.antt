@@ -3,4 +3,3 @@ pub mod Forms
 pub mod Recurrence
 pub mod Feasts
 pub mod ComingDays
-pub mod StoredDates

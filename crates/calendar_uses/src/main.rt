@@ -13,13 +13,14 @@ use almanac::new_year_by_rows;
 use coming_days::{next_birthdays, paydays, reunions};
 use every_calendar::print_every_calendar;
 use feasts::{hebrew_text_in_gregorian, next_easter};
+use icu_calendar::rows::TableRows;
 use icu_calendar::{
     AnyCalendar, AsCalendar, Calendar, Date, DateDuration, EastAsianTraditional, Gregorian, Hebrew,
-    HijriRow, HijriTable, Iso, Julian, RataDie, Window,
+    Hijri, HijriRow, HijriTable, Iso, Julian, RataDie, Window,
 };
 use mean_rules::MeanRules;
 use std::io;
-use stored_dates::{UpdatedDate, updated_date};
+use stored_dates::updated_date;
 use uses::{age, date_of_form, in_chosen_calendar, is_earlier, months_later, there_and_back};
 
 const GREGORIAN: AnyCalendar<'static> = AnyCalendar::Gregorian(Gregorian);
@@ -213,29 +214,47 @@ fn print_stored_dates(rt: &HostRuntime) -> io::Result<()> {
     let other: &[u8] = b"row hijri 1445 738720 lslslslslsll";
     let late: &[u8] = b"row hijri 1445 738720 sllslslslsll
 row hijri 1446 739075 sllslslslsll";
+    let (first, second) = (RataDie::new(738749), RataDie::new(739105));
     for (text, day) in [
-        (TWO_YEARS, 738749),
-        (TWO_YEARS, 739105),
-        (other, 738749),
-        (late, 738749),
+        (TWO_YEARS, first),
+        (TWO_YEARS, second),
+        (other, first),
+        (late, first),
     ] {
-        match updated_date(rt.alloc(), table, text, RataDie::new(day)) {
-            Ok(date) => print_stored_date(rt, day, date)?,
-            Err(fault) => println!(rt; "stored day {day}: {fault}")?,
+        match TableRows::try_read(rt.alloc(), text) {
+            Ok(rows) => print_stored_date(rt, &table, &rows, day)?,
+            Err(fault) => println!(rt; "stored day: {fault}")?,
         }
     }
     Ok(())
 }
 
-/// A stored date, and whether it has moved.
-fn print_stored_date(rt: &HostRuntime, stored: i64, date: UpdatedDate) -> io::Result<()> {
-    let UpdatedDate {
-        year,
-        month,
-        day,
-        moved,
-    } = date;
-    println!(rt; "stored day {stored}: {year}-{month}-{day}, moved: {moved}")
+/// A day that was stored under a table, once rows have arrived.
+fn print_stored_date(
+    rt: &HostRuntime,
+    table: &HijriTable<'_>,
+    rows: &TableRows,
+    day: RataDie,
+) -> io::Result<()> {
+    let stored = Date::from_rata_die(day, Hijri::new_umm_al_qura(*table));
+    match updated_date(&stored, table, rows) {
+        Ok(rebased) => print_rebased(rt, &stored, &rebased.date, rebased.moved),
+        Err(fault) => println!(rt; "stored {stored:?}: {fault}"),
+    }
+}
+
+/// A stored date, the date of its day under the longer table, and whether it has moved.
+fn print_rebased<A: AsCalendar, B: AsCalendar>(
+    rt: &HostRuntime,
+    stored: &Date<A>,
+    date: &Date<B>,
+    moved: bool,
+) -> io::Result<()>
+where
+    A::Calendar: Calendar,
+    B::Calendar: Calendar,
+{
+    println!(rt; "stored {stored:?}: {date:?}, moved: {moved}")
 }
 
 fn main(rt: HostRuntime) -> io::Result<()> {

@@ -1,24 +1,22 @@
-use Rattle.std.proofs.Common.{◌≡◌, ◌∙◌, ℤ, refl, ap, sym, subst}
-use Rattle.icu_calendar.specs.CalendarList.{Date}
-use Rattle.icu_calendar.specs.HijriLengthening.{Lengthens, IsNotAdded, list_with}
-use Rattle.icu_calendar.specs.HijriNameLaws.{years-named}
+use Rattle.std.proofs.Common.{◌≡◌, ◌∙◌, ℤ, Bool, false, List, refl, ap, sym, subst}
+use Rattle.icu_calendar.specs.HijriLengthening.{IsNotAdded, Lengthens}
 use Rattle.icu_calendar.specs.HijriSystem.{packed_date}
-use Rattle.icu_calendar.specs.OwnRows.{rows_said}
-use Rattle.calendar_uses.specs.StoredDates.{IsUpdated}
+use Rattle.icu_calendar.specs.declared.HijriRow.{HijriRow}
+use Rattle.icu_calendar.specs.declared.HijriTable.{HijriTable}
 use Rattle.calendar_uses.proofs.stored_dates.updated_date.Goals as goal
 
-pub returns : goal.returns
-returns c =
-    let longer = c.in-Ok-lengthened.longer in
-    let updated = packed_date c.umm_al_qura_date_kept-rebased.result.date.inner.0.packed in
-    record {
-      rows = rows_said c.in-Ok.rows;
-      gives = c.in-Ok.ensures.reads;
-      longer = longer.rows.now;
-      said = refl;
-      lengthens = c.in-Ok-lengthened.ensures.exact.0 refl;
-      before = packed_date c.from_rata_die-before.result.inner.0.packed;
-      on_before = c.from_rata_die-before.ensures.on;
-      rebased = c.umm_al_qura_date_kept-rebased.ensures.rebased;
-      stays = c.umm_al_qura_date_kept-rebased.ensures.stays (c.in-Ok-lengthened.ensures.exact.0 refl);
-    }
+-- what is said of the rows of two calendars, over a table's rows and those of a text
+kept : (stored old shown longer : List HijriRow) (year : ℤ) (moved : Bool) → stored ≡ old → shown ≡ longer → Lengthens old longer → IsNotAdded old longer year
+    → (Lengthens stored shown → IsNotAdded stored shown year → moved ≡ false) → moved ≡ false
+kept stored old shown longer year moved same made lengthens free law =
+    law (subst (λ (rows : List HijriRow). Lengthens rows shown) (sym same) (subst (Lengthens old) (sym made) lengthens))
+    (subst (λ (rows : List HijriRow). IsNotAdded rows shown year) (sym same) (subst (λ (rows : List HijriRow). IsNotAdded old rows year) (sym made) free))
+
+pub returns-in-Ok-clause-stays : goal.returns-in-Ok-clause-stays
+returns-in-Ok-clause-stays c same free =
+    let old = c.args.table.now.rows.now in
+    let longer = c.args.rows.now.hijri.items in
+    let lengthens : Lengthens old longer = subst (Lengthens old) c.umm_al_qura.ensures (c.in-Ok.ensures.exact.0 refl) in
+    let made = ap (λ (table : HijriTable). table.rows.now) c.new_umm_al_qura.ensures ∙ (c.in-Ok.ensures.first ∙ c.umm_al_qura.ensures) in
+    kept c.args.stored.now.calendar.0.table.rows.now old _ longer (packed_date c.args.stored.now.inner.0.packed).year c.umm_al_qura_date_kept.result.moved
+    same made lengthens free c.umm_al_qura_date_kept.ensures.stays
