@@ -16,7 +16,7 @@ use feasts::{hebrew_text_in_gregorian, next_easter};
 use icu_calendar::rows::TableRows;
 use icu_calendar::{
     AnyCalendar, AsCalendar, Calendar, Date, DateDuration, EastAsianTraditional, Gregorian, Hebrew,
-    Hijri, HijriRow, HijriTable, Iso, Julian, RataDie, Window,
+    Hijri, HijriRow, HijriTable, Iso, Julian, LengthenFault, RataDie, Window,
 };
 use mean_rules::MeanRules;
 use std::io;
@@ -239,8 +239,20 @@ fn print_stored_date(
     let stored = Date::from_rata_die(day, Hijri::new_umm_al_qura(*table));
     match updated_date(&stored, table, rows) {
         Ok(rebased) => print_rebased(rt, &stored, &rebased.date, rebased.moved),
-        Err(fault) => println!(rt; "stored {stored:?}: {fault}"),
+        Err(fault) => print_not_rebased(rt, &stored, fault),
     }
+}
+
+/// A stored date, and why there is no longer table.
+fn print_not_rebased<A: AsCalendar>(
+    rt: &HostRuntime,
+    stored: &Date<A>,
+    fault: LengthenFault,
+) -> io::Result<()>
+where
+    A::Calendar: Calendar,
+{
+    println!(rt; "stored {stored:?}: {fault}")
 }
 
 /// A stored date, the date of its day under the longer table, and whether it has moved.
