@@ -73,6 +73,8 @@ const CAUSES = new Map([
   [18, ["InconsistentMonth", "The month and its place in the year differ."]],
   [19, ["InvalidOrdinalMonth", "The year doesn't have a month in this place."]],
   [20, ["InvalidDay", "The month doesn't have the day."]],
+  [101, ["InvalidWindow", "The window's days aren't valid days in order."]],
+  [102, ["Every", "The number of units isn't from 1 to 4294967295."]],
 ]);
 
 /** A call is refused: `cause` names why, and `max` is the greatest number that would do, where there is one. */
@@ -231,6 +233,8 @@ export class CalendarDate {
 
 // Where values stand in the module's memory, from the start of the host's part of it on.
 const AT = { date: 0, fields: 32, duration: 64, max: 96, count: 104, week: 112, text: 128, code: 192, line: 256, output: 1024 };
+// Why a year may lack a day that other years have.
+const LACKING = new Set(["MonthNotInYear", "InvalidDay", "OutOfRange"]);
 const LONGEST_LINE = 700;
 const LONGEST_ANSWER = 512;
 
@@ -306,14 +310,70 @@ export class Calendars {
     return this.#date(fields.calendar, years);
   }
 
-  /** The same, or null where it is refused. @param {Fields} fields @param {Years} years @param {Overflow} overflow */
-  dateOrNull(fields, years, overflow) {
+  /**
+   * The same, or null where it is refused for one of these causes, and for any where none is named.
+   * @param {Fields} fields @param {Years} years @param {Overflow} overflow @param {ReadonlySet<string>} [causes]
+   */
+  dateOrNull(fields, years, overflow, causes) {
     try {
       return this.dateOfFields(fields, { years, overflow });
     } catch (error) {
-      if (error instanceof CalendarError) return null;
+      if (error instanceof CalendarError && (!causes || causes.has(error.cause))) return null;
       throw error;
     }
+  }
+
+  /**
+   * The days from `first` to `last`, as day numbers, that a month and a day name, one a year and in order.
+   * @param {{ calendar: CalendarName, monthCode: string, day: number }} fields
+   * @param {{ first: number, last: number, years?: Years, overflow?: Overflow }} window `reject` leaves years out that don't have the day, and
+   *   `constrain` takes the nearest in them
+   * @returns {Generator<CalendarDate>}
+   */
+  *anniversaries(fields, { first, last, years = "published", overflow = "reject" }) {
+    const [from, to] = this.#window(first, last, fields.calendar, years);
+    // A month that no year of the calendar has is refused, whatever the window.
+    this.dateOrNull({ ...fields, year: from.extendedYear, day: 1 }, years, "constrain", LACKING);
+    if (!(Number.isInteger(fields.day) && 1 <= fields.day && fields.day <= 31)) throw new CalendarError(20);
+    for (let year = from.extendedYear; year <= to.extendedYear; year += 1) {
+      const date = this.dateOrNull({ ...fields, year }, years, overflow, LACKING);
+      if (date && first <= date.dayNumber && date.dayNumber <= last) yield date;
+    }
+  }
+
+  /**
+   * The days from `first` to `last` that lie so many times a number of units behind a date, each counted from it, with the number of times.
+   * @param {CalendarDate} start
+   * @param {{ first: number, last: number, unit: Unit, every?: number, overflow?: Overflow }} rule `reject` leaves out what isn't there
+   * @returns {Generator<{ index: number, date: CalendarDate }>}
+   */
+  *recurrences(start, { first, last, unit, every = 1, overflow = "constrain" }) {
+    const [from] = this.#window(first, last, start.calendar, start.years);
+    if (!(Number.isInteger(every) && 1 <= every && every < 2 ** 32)) throw new CalendarError(102);
+    // What lies a rule's step before the first day is looked at too: a clamped day may stand in for a later one.
+    const passed = first <= start.dayNumber ? 0 : Math.floor(start.until(from, { largestUnit: unit })[unit] / every);
+    for (let index = Math.max(0, passed - 1); index * every < 2 ** 32; index += 1) {
+      const date = this.#addedOrNull(start, { [unit]: index * every }, overflow);
+      if (date === undefined || (date && date.dayNumber > last)) return;
+      if (date && date.dayNumber >= first) yield { index, date };
+    }
+  }
+
+  /** The sum, null where it isn't there, or undefined where it is beyond what the calendars hold. */
+  #addedOrNull(start, duration, overflow) {
+    try {
+      return this.add(start, duration, overflow);
+    } catch (error) {
+      if (!(error instanceof CalendarError)) throw error;
+      return error.cause === "OutOfRange" ? undefined : null;
+    }
+  }
+
+  /** The dates of a window's ends. @returns {[CalendarDate, CalendarDate]} */
+  #window(first, last, calendar, years) {
+    const isValid = (day) => Number.isInteger(day) && FIRST_DAY <= day && day <= LAST_DAY;
+    if (!(isValid(first) && isValid(last) && first <= last)) throw new CalendarError(101);
+    return [this.dateOfDay(first, calendar, years), this.dateOfDay(last, calendar, years)];
   }
 
   /** Whether fields may name a year. @param {CalendarName} calendar @param {Years} years @param {number} year */

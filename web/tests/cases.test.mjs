@@ -5,6 +5,7 @@ import test from "node:test";
 import { fileURLToPath } from "node:url";
 
 import { load } from "../icu_calendar.mjs";
+import { CAUSES, fieldsOf, written } from "./forms.mjs";
 
 const top = new URL("../../", import.meta.url);
 const module = process.env.ICU_CALENDAR_MODULE ?? fileURLToPath(new URL("web/icu_calendar.wasm", top));
@@ -32,30 +33,7 @@ for (const name of names) {
   });
 }
 
-/** The fields that a bag of words names, in a calendar. */
-function fieldsOf(calendar, words) {
-  const fields = { calendar };
-  const numbers = { "era-year": "eraYear", year: "year", ordinal: "ordinalMonth", day: "day" };
-  for (const word of words) {
-    const [key, value] = [word.slice(0, word.indexOf("=")), word.slice(word.indexOf("=") + 1)];
-    if (key in numbers) fields[numbers[key]] = Number(value);
-    else if (key === "era") fields.era = value;
-    else if (key === "month-code") fields.monthCode = value;
-    else Object.assign(fields, { month: Number(value.slice(1, 3)), monthIsLeap: value.endsWith("L") });
-  }
-  return fields;
-}
-
 const none = (word) => (word === "none" ? "default" : word);
-
-/** A date as the program writes it. */
-function written(date) {
-  const era = date.era === null ? `cycle.${date.cyclicYear}` : `${date.era}.${date.eraYear}`;
-  return `${date.extendedYear}/${era}/${date.monthCode}/${String(date.day).padStart(2, "0")}@${date.dayNumber}`;
-}
-
-// Causes that the program writes by other names.
-const CAUSES = { OutOfRange: "Overflow", MonthCodeSyntax: "MonthCodeInvalidSyntax" };
 
 /** The answer to a request, put together from the calls on dates. */
 function spanned(line) {
