@@ -7,7 +7,8 @@ the one for WebAssembly the module `web/icu_calendar.wasm`. With
 A crate is built as soon as the crates below it are. Where one crate has by far the longest chain of others behind it, the chain decides
 when the program is there: so that crate has all processors, and others run beside it with less right to them. The libraries have
 statements alone (`--statements`): with their proofs in them, each crate above takes half a minute more to load. What is built stays in
-the user's cache folder with what it was made of, so that a later build proves only the crates that changed and those above them.
+the user's cache folder with what it was made of, so that a later build proves only the crates that changed and those above them; and what
+`rt ci` left in this checkout is taken over.
 """
 
 import fcntl
@@ -149,6 +150,24 @@ def is_made(name: str, room: Path, stamp: str) -> bool:
     return made(name, room).exists() and said.is_file() and said.read_text() == stamp
 
 
+def newest(paths: list[Path]) -> float:
+    return max((it.stat().st_mtime for it in paths), default=0.0)
+
+
+def take_over(room: Path, crates: dict[str, list[str]], stamps: dict[str, str]) -> None:
+    """Puts libraries into the room that `rt ci` left in this checkout, where they are newer than their files and those of all crates below."""
+    sources: dict[str, float] = {}
+    for name, names in crates.items():
+        sources[name] = max([newest(files_of(name)), *(sources.get(it, 0.0) for it in names)])
+        left = TOP / "crates" / name / "out/rlib" / f"{name}.rlib"
+        seal = left / "format"
+        if not seal.is_file() or seal.stat().st_mtime <= sources[name] or is_made(name, room, stamps[name]):
+            continue
+        clear(name, room)
+        shutil.copytree(left, made(name, room))
+        (room / f"{name}.sum").write_text(stamps[name])
+
+
 def clear(name: str, room: Path) -> None:
     (room / f"{name}.sum").unlink(missing_ok=True)
     if made(name, room).is_dir():
@@ -164,6 +183,7 @@ class Build:
         self.sums, self.seconds = sums(self.crates, self.tools), proof_seconds(self.crates)
         self.chains = longest_chains(self.crates, self.seconds)
         self.processors = len(os.sched_getaffinity(0))
+        take_over(room, self.crates, self.sums)
         self.built = {it for it in self.crates if is_made(it, room, self.sums[it])}
         self.left = sorted(set(self.crates) - self.built, key=lambda it: -self.chains[it])
         self.running: dict[str, tuple[subprocess.Popen, int]] = {}

@@ -11,12 +11,7 @@ rt=$(command -v rt) || { echo "the toolchain's command rt is not on the PATH" >&
 heap=$(dirname "$(dirname "$(readlink -f "$rt")")")/c/liblibc_c.a
 
 if [ ! -f "$archive" ] || [ -n "$(find "$top/crates.txt" "$top"/crates/*/src "$top"/crates/*/specs "$top"/crates/*/proofs -type f -newer "$archive" -print -quit 2>/dev/null)" ]; then
-  if [ -d "$top/crates/calspan_run/out/rlib" ]; then
-    # What `rt ci` or `rt check` proved is there: the crate alone is left to build.
-    (cd "$crate" && rt lib)
-  else
-    python3 "$top/build/program.py" icu_calendar_c
-  fi
+  python3 "$top/build/program.py" icu_calendar_c
   touch "$archive"
 fi
 "${CC:-cc}" -shared -o "$shared" -Wl,--whole-archive "$archive" -Wl,--no-whole-archive "$heap" -Wl,--exclude-libs,liblibc_c.a
