@@ -155,16 +155,20 @@ def newest(paths: list[Path]) -> float:
 
 
 def take_over(room: Path, crates: dict[str, list[str]], stamps: dict[str, str]) -> None:
-    """Puts libraries into the room that `rt ci` left in this checkout, where they are newer than their files and those of all crates below."""
+    """Puts the libraries into the room that `rt ci` left in this checkout, where each is newer than its files and those of all crates below.
+    It is all of them or none, since libraries of one build fit no other."""
+    left = {it: TOP / "crates" / it / "out/rlib" / f"{it}.rlib" for it in crates if it != PROGRAM and it not in static_libraries()}
     sources: dict[str, float] = {}
     for name, names in crates.items():
         sources[name] = max([newest(files_of(name)), *(sources.get(it, 0.0) for it in names)])
-        left = TOP / "crates" / name / "out/rlib" / f"{name}.rlib"
-        seal = left / "format"
-        if not seal.is_file() or seal.stat().st_mtime <= sources[name] or is_made(name, room, stamps[name]):
+    if not all((it / "format").is_file() and (it / "format").stat().st_mtime > sources[name] for name, it in left.items()):
+        return
+    for name, it in left.items():
+        kept = made(name, room) / "format"
+        if is_made(name, room, stamps[name]) and kept.is_file() and kept.read_bytes() == (it / "format").read_bytes():
             continue
         clear(name, room)
-        shutil.copytree(left, made(name, room))
+        shutil.copytree(it, made(name, room))
         (room / f"{name}.sum").write_text(stamps[name])
 
 
