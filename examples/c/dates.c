@@ -88,7 +88,7 @@ int main(void) {
         return 3;
     }
     printf("2024-01-01 is in week %u of %" PRId32 ", and Easter 2024 is day %" PRId64 "\n", week, year, easter);
-    printf("codes that are none: %u %u %u %u\n", icu_calendar_date_of_day(18, 0, 1, &date), icu_calendar_date_of_day(0, 2, 1, &date),
+    printf("codes that are none: %u %u %u %u\n", icu_calendar_date_of_day(20, 0, 1, &date), icu_calendar_date_of_day(0, 2, 1, &date),
            icu_calendar_until(0, 0, 1, 1, 5, &apart), icu_calendar_date_of_day(0, 0, INT64_MIN, &date));
     return 0;
 }
