@@ -22,7 +22,7 @@ FIELDS = [
     (icu_calendar.InconsistentMonth, HEBREW, {"year": 5784, "month": 6, "ordinal_month": 6, "day": 1}, 0),
     (icu_calendar.InvalidOrdinalMonth, HEBREW, {"year": 5785, "ordinal_month": 13, "day": 1}, 12),
     (icu_calendar.InvalidDay, ISO, {"year": 2023, "month": 2, "day": 29}, 28),
-    (icu_calendar.UnknownCalendar, 18, IN_2024, 0),
+    (icu_calendar.UnknownCalendar, 20, IN_2024, 0),
     (icu_calendar.UnknownOption, ISO, {**IN_2024, "overflow": 3}, 0),
     (icu_calendar.UnknownOption, ISO, {**IN_2024, "missing": 3}, 0),
 ]
