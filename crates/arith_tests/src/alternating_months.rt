@@ -35,13 +35,9 @@ fn is_plain_month(month: Month) -> bool
 impl PackWithMD for AlternatingYear {
     type Packed = Ymd<AlternatingYear>;
 
-    type Kept = Ymd<AlternatingYear>;
-
     ghost stored = { λ y. y.number };
 
     ghost unpacked = { λ p. p };
-
-    ghost parts = { λ p. p };
 
     fn pack(self, month: u8, day: u8) -> Ymd<AlternatingYear> {
         Ymd {
@@ -61,14 +57,6 @@ impl PackWithMD for AlternatingYear {
 
     fn unpack_day(packed: Ymd<AlternatingYear>) -> u8 {
         packed.day
-    }
-
-    fn keep(self, month: u8, day: u8) -> Ymd<AlternatingYear> {
-        self.pack(month, day)
-    }
-
-    fn read(kept: Ymd<AlternatingYear>) -> Ymd<AlternatingYear> {
-        kept
     }
 }
 

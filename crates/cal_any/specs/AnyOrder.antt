@@ -3,18 +3,15 @@ use Rattle.std.specs.Prelude.{ℕ, pos, Bool, true, ◌&&◌, ◌==◌, Option, 
 use Rattle.std.specs.declared.cmp.Ordering.{Ordering}
 use Rattle.cal_model.specs.CalendarList.{Date}
 use Rattle.cal_model.specs.DateOrder.{date_eq, date_cmp}
-use Rattle.cal_base.specs.PackedDates.{packed_date}
+use Rattle.cal_base.specs.PackedDates.{kept_date as in_iso_years}
 use Rattle.cal_coptic.specs.CopticSystem.{coptic_date}
 use Rattle.cal_coptic.specs.EthiopianSystem.{kept_date as in_coptic_years}
 use Rattle.cal_hebrew.specs.HebrewSystem.{hebrew_date, has_hebrew_length}
-use Rattle.cal_hebrew.specs.PackedYears as packed_hebrew
 use Rattle.cal_east_asian.specs.EastAsianSystem as east_asian
-use Rattle.cal_east_asian.specs.PackedYears as packed_east_asian
 use Rattle.cal_east_asian.specs.declared.east_asian_traditional_year.EastAsianTraditionalYear.{EastAsianTraditionalYear}
 use Rattle.cal_east_asian.specs.laws.ComputedLaws.{computed_year}
 use Rattle.cal_east_asian.specs.declared.sides.Side.TheVariants.{China}
 use Rattle.cal_hijri.specs.HijriSystem as hijri
-use Rattle.cal_hijri.specs.PackedYears as packed_hijri
 use Rattle.cal_hijri.specs.TableFriday.{friday_year}
 use Rattle.cal_hijri.specs.declared.hijri_year.HijriYear.{HijriYear}
 use Rattle.cal_julian.specs.IndianSystem.{indian_date}
@@ -45,40 +42,40 @@ kind_of (inner.Roc _) = 16
 
 -- a date as it is kept: in ISO years in the Gregorian calendars, and in Coptic years in the Ethiopian one
 abbrev pub kept_date : AnyDateInner → Date
-kept_date (inner.Buddhist d) = packed_date d.0.packed
-kept_date (inner.Chinese d) = east_asian.packed_date d.0.packed
+kept_date (inner.Buddhist d) = in_iso_years d.0.parts
+kept_date (inner.Chinese d) = east_asian.kept_date d.0.parts
 kept_date (inner.Coptic d) = coptic_date d
-kept_date (inner.Dangi d) = east_asian.packed_date d.0.packed
+kept_date (inner.Dangi d) = east_asian.kept_date d.0.parts
 kept_date (inner.Ethiopian d) = in_coptic_years d
-kept_date (inner.Gregorian d) = packed_date d.0.packed
+kept_date (inner.Gregorian d) = in_iso_years d.0.parts
 kept_date (inner.Hebrew d) = hebrew_date d
-kept_date (inner.HijriSimulated d) = hijri.packed_date d.0.packed
-kept_date (inner.HijriTabular d) = hijri.packed_date d.0.packed
-kept_date (inner.HijriUmmAlQura d) = hijri.packed_date d.0.packed
+kept_date (inner.HijriSimulated d) = hijri.kept_date d.0.parts
+kept_date (inner.HijriTabular d) = hijri.kept_date d.0.parts
+kept_date (inner.HijriUmmAlQura d) = hijri.kept_date d.0.parts
 kept_date (inner.Indian d) = indian_date d
-kept_date (inner.Iso d) = packed_date d.0.packed
-kept_date (inner.Japanese d) = packed_date d.0.packed
-kept_date (inner.JapaneseExtended d) = packed_date d.0.packed
+kept_date (inner.Iso d) = in_iso_years d.0.parts
+kept_date (inner.Japanese d) = in_iso_years d.0.parts
+kept_date (inner.JapaneseExtended d) = in_iso_years d.0.parts
 kept_date (inner.Julian d) = julian_date d
 kept_date (inner.Persian d) = persian_date d
-kept_date (inner.Roc d) = packed_date d.0.packed
+kept_date (inner.Roc d) = in_iso_years d.0.parts
 
 -- whether the year that a Hebrew date keeps has its length
 abbrev pub keeps_hebrew_length : AnyDateInner → Bool
-keeps_hebrew_length (inner.Hebrew d) = has_hebrew_length (packed_hebrew.packed_year d.0.packed)
+keeps_hebrew_length (inner.Hebrew d) = has_hebrew_length d.0.parts.year
 keeps_hebrew_length _ = true
 
 -- the year that a Hijri date keeps; of other dates, any
 abbrev pub hijri_year : AnyDateInner → HijriYear
-hijri_year (inner.HijriSimulated d) = packed_hijri.kept_year d.0.packed
-hijri_year (inner.HijriTabular d) = packed_hijri.kept_year d.0.packed
-hijri_year (inner.HijriUmmAlQura d) = packed_hijri.kept_year d.0.packed
+hijri_year (inner.HijriSimulated d) = d.0.parts.year
+hijri_year (inner.HijriTabular d) = d.0.parts.year
+hijri_year (inner.HijriUmmAlQura d) = d.0.parts.year
 hijri_year _ = friday_year (pos 1)
 
 -- the year that a Chinese or Korean date keeps; of other dates, any
 abbrev pub east_asian_year : AnyDateInner → EastAsianTraditionalYear
-east_asian_year (inner.Chinese d) = packed_east_asian.kept_year d.0.packed
-east_asian_year (inner.Dangi d) = packed_east_asian.kept_year d.0.packed
+east_asian_year (inner.Chinese d) = d.0.parts.year
+east_asian_year (inner.Dangi d) = d.0.parts.year
 east_asian_year _ = computed_year China (pos 1)
 
 -- equal dates of one kind of calendar

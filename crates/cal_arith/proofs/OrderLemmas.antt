@@ -1,7 +1,7 @@
 -- Dates whose years have stored numbers are equal and ordered as their day numbers.
 use Rattle.std.proofs.Common.{◌≡◌, Bool, sym, ap, ◌∙◌, arith, ℤ, ◌+ℤ◌}
 use Rattle.std.specs.Prelude.{◌==◌, ◌&&◌}
-use Rattle.std.specs.Ordering.{nat_cmp, int_cmp, int_eq, is_eq, ordering_then, on, then_cmp, eq_of_both}
+use Rattle.std.specs.Ordering.{nat_cmp, int_cmp, int_eq, is_eq, ordering_then}
 use Rattle.std.specs.Cmp.{int_cmp_is}
 use Rattle.std.specs.declared.cmp.Ordering.{Ordering}
 use Rattle.std.specs.declared.cmp.Ordering.TheVariants.{Less, Equal, Greater}
@@ -26,17 +26,15 @@ int_cmp-shifted a b n =
 pub int_eq-shifted : (a b n : ℤ) → int_eq (a +ℤ n) (b +ℤ n) ≡ int_eq a b
 int_eq-shifted a b n = ap is_eq (int_cmp-shifted a b n)
 
-module _ {A Y : Type 0} (years : CalendarYears Y) (stored : Y → ℤ) (parts : A → Ymd Y) (a b : A) (a_stored : stored (parts a).year ≡ years.extended (parts a).year +ℤ years.offset) (b_stored : stored (parts b).year ≡ years.extended (parts b).year +ℤ years.offset) (a_date : IsDate years.list (date_of years (parts a))) (b_date : IsDate years.list (date_of years (parts b))) where
-  -- packed dates are equal where their day numbers are
-  pub packed-equal : (eq : Y → Y → Bool) → ((x y : Y) → eq x y ≡ int_eq (stored x) (stored y)) → eq_of_both (on (λ p. (parts p).year) eq) (eq_of_both (on (λ p. (parts p).month) ◌==◌) (on (λ p. (parts p).day) ◌==◌)) a b ≡ int_eq (day_number years.list (date_of years (parts a))) (day_number years.list (date_of years (parts b)))
-  packed-equal eq same =
-      let p = parts a in let q = parts b in
-      let numbers : eq p.year q.year ≡ int_eq (years.extended p.year) (years.extended q.year) = same p.year q.year ∙ (ap (λ (z : ℤ). int_eq z (stored q.year)) a_stored ∙ (ap (int_eq (years.extended p.year +ℤ years.offset)) b_stored ∙ int_eq-shifted (years.extended p.year) (years.extended q.year) years.offset)) in
-      ap (λ (b : Bool). b && (p.month == q.month && p.day == q.day)) numbers ∙ dates-equal years.list (date_of years p) (date_of years q) a_date b_date
+module _ {Y : Type 0} (years : CalendarYears Y) (stored : Y → ℤ) (p q : Ymd Y) (p_stored : stored p.year ≡ years.extended p.year +ℤ years.offset) (q_stored : stored q.year ≡ years.extended q.year +ℤ years.offset) (p_date : IsDate years.list (date_of years p)) (q_date : IsDate years.list (date_of years q)) where
+  -- kept dates are equal where their day numbers are
+  pub kept-equal : (eq : Y → Y → Bool) → ((x y : Y) → eq x y ≡ int_eq (stored x) (stored y)) → (eq p.year q.year && (p.month == q.month && p.day == q.day)) ≡ int_eq (day_number years.list (date_of years p)) (day_number years.list (date_of years q))
+  kept-equal eq same =
+      let numbers : eq p.year q.year ≡ int_eq (years.extended p.year) (years.extended q.year) = same p.year q.year ∙ (ap (λ (z : ℤ). int_eq z (stored q.year)) p_stored ∙ (ap (int_eq (years.extended p.year +ℤ years.offset)) q_stored ∙ int_eq-shifted (years.extended p.year) (years.extended q.year) years.offset)) in
+      ap (λ (b : Bool). b && (p.month == q.month && p.day == q.day)) numbers ∙ dates-equal years.list (date_of years p) (date_of years q) p_date q_date
 
   -- and are ordered as these
-  pub packed-ordered : (cmp : Y → Y → Ordering) → ((x y : Y) → cmp x y ≡ int_cmp (stored x) (stored y)) → then_cmp (on (λ p. (parts p).year) cmp) (then_cmp (on (λ p. (parts p).month) nat_cmp) (on (λ p. (parts p).day) nat_cmp)) a b ≡ int_cmp (day_number years.list (date_of years (parts a))) (day_number years.list (date_of years (parts b)))
-  packed-ordered cmp same =
-      let p = parts a in let q = parts b in
-      let numbers : cmp p.year q.year ≡ int_cmp (years.extended p.year) (years.extended q.year) = same p.year q.year ∙ (ap (λ (z : ℤ). int_cmp z (stored q.year)) a_stored ∙ (ap (int_cmp (years.extended p.year +ℤ years.offset)) b_stored ∙ int_cmp-shifted (years.extended p.year) (years.extended q.year) years.offset)) in
-      ap (λ (o : Ordering). ordering_then o (ordering_then (nat_cmp p.month q.month) (nat_cmp p.day q.day))) numbers ∙ dates-ordered years.list (date_of years p) (date_of years q) a_date b_date
+  pub kept-ordered : (cmp : Y → Y → Ordering) → ((x y : Y) → cmp x y ≡ int_cmp (stored x) (stored y)) → ordering_then (cmp p.year q.year) (ordering_then (nat_cmp p.month q.month) (nat_cmp p.day q.day)) ≡ int_cmp (day_number years.list (date_of years p)) (day_number years.list (date_of years q))
+  kept-ordered cmp same =
+      let numbers : cmp p.year q.year ≡ int_cmp (years.extended p.year) (years.extended q.year) = same p.year q.year ∙ (ap (λ (z : ℤ). int_cmp z (stored q.year)) p_stored ∙ (ap (int_cmp (years.extended p.year +ℤ years.offset)) q_stored ∙ int_cmp-shifted (years.extended p.year) (years.extended q.year) years.offset)) in
+      ap (λ (o : Ordering). ordering_then o (ordering_then (nat_cmp p.month q.month) (nat_cmp p.day q.day))) numbers ∙ dates-ordered years.list (date_of years p) (date_of years q) p_date q_date

@@ -10,7 +10,8 @@ ghost use Rattle.std.specs.Hash as fed;
 ghost use Rattle.cal_days.specs.Day.{IsFieldYear, IsValidDay};
 ghost use Rattle.cal_model.specs.CalendarList.{IsOn, day_number};
 ghost use Rattle.cal_model.specs.Adding.{add_overflow_of, IsSum};
-ghost use Rattle.cal_model.specs.Difference.{IsDifference, largest_unit_of};
+ghost use Rattle.cal_model.specs.Difference.{largest_unit_of};
+ghost use Rattle.cal_model.specs.Until.{IsUntil};
 ghost use Rattle.cal_arith.specs.Dates.{answer_by, date_of, Belongs};
 ghost use Rattle.cal_arith.specs.Ticks.{most_ticks};
 
@@ -18,7 +19,7 @@ use crate::adding::added;
 use crate::dates::{Ymd, from_rata_die, to_rata_die};
 use crate::difference::{difference, largest_unit};
 use crate::steps::Steps;
-use crate::years::{DateFieldsResolver, PackWithMD, YearShapes};
+use crate::years::{YearShapes, Years};
 use cal_days::RataDie;
 use cal_types::{DateAddError, DateAddOptions, DateDifferenceOptions, DateDuration, Overflow};
 use std::alloc::AllocError;
@@ -33,76 +34,78 @@ use std::sync::ledger::{Blank, Ledger};
 ///
 /// It belongs to a calendar where its year is one that the calendar gave, the calendar has the date, and its
 /// day number is in the valid range. Dates are equal and ordered by year, month's place and day.
-pub struct ArithmeticDate<C, P = <<C as YearShapes>::YearInfo as PackWithMD>::Kept> {
-    pub(crate) packed: P,
+pub struct ArithmeticDate<C, Y = <C as YearShapes>::YearInfo> {
+    pub(crate) parts: Ymd<Y>,
     pub(crate) of: PhantomData<C>,
 }
 
-impl<C, P: Copy> Copy for ArithmeticDate<C, P> {}
+impl<C, Y: Copy> Copy for ArithmeticDate<C, Y> {}
 
-impl<C, P: Copy> Clone for ArithmeticDate<C, P> {
+impl<C, Y: Copy> Clone for ArithmeticDate<C, Y> {
     ghost is_clone = { λ a b. b ≡ a };
 
     ghost is_infallible = { λ _. ⊤ };
 
     fn clone(&self) -> Result<Self, AllocError> {
         let same: Self = ArithmeticDate {
-            packed: self.packed,
+            parts: self.parts,
             of: PhantomData,
         };
         Ok(same)
     }
 }
 
-impl<C, P: Copy> ArithmeticDate<C, P> {
-    /// The same parts as a date of another calendar that packs its dates alike.
-    pub fn cast<D>(self) -> ArithmeticDate<D, P>
-        ensures { result.packed ≡ self.packed }
+impl<C, Y: Copy> ArithmeticDate<C, Y> {
+    /// The year.
+    pub fn year(self) -> Y
+        ensures { result ≡ self.parts.year }
+    {
+        self.parts.year
+    }
+
+    /// The place of the month in its year, from 1.
+    pub fn month(self) -> u8
+        ensures { result ≡ self.parts.month }
+    {
+        self.parts.month
+    }
+
+    /// The day of the month, from 1.
+    pub fn day(self) -> u8
+        ensures { result ≡ self.parts.day }
+    {
+        self.parts.day
+    }
+
+    /// The same parts as a date of another calendar that has the same years.
+    pub fn cast<D>(self) -> ArithmeticDate<D, Y>
+        ensures { result.parts ≡ self.parts }
     {
         ArithmeticDate {
-            packed: self.packed,
+            parts: self.parts,
+            of: PhantomData,
+        }
+    }
+
+    /// The date of these parts.
+    pub(crate) fn of_parts(date: Ymd<Y>) -> ArithmeticDate<C, Y>
+        ensures { result.parts ≡ date }
+    {
+        ArithmeticDate {
+            parts: date,
             of: PhantomData,
         }
     }
 }
 
-impl<C: DateFieldsResolver> ArithmeticDate<C> {
+impl<C: Years> ArithmeticDate<C> {
     /// The date of a valid day.
     pub fn from_rata_die(rd: RataDie, cal: &C) -> Self
         requires { IsValidDay rd }
-        ensures on { let y = C.years cal.now in IsOn y.list rd (date_of y (C.YearInfo.parts result.packed)) }
-        ensures belongs { Belongs (C.years cal.now) (C.YearInfo.parts result.packed) }
+        ensures on { let y = C.years cal.now in IsOn y.list rd (date_of y result.parts) }
+        ensures belongs { Belongs (C.years cal.now) result.parts }
     {
-        ArithmeticDate::from_parts(from_rata_die(rd, cal), cal)
-    }
-
-    /// The day number of a date that belongs to the calendar.
-    pub fn to_rata_die(self, cal: &C) -> RataDie
-        requires { Belongs (C.years cal.now) (C.YearInfo.parts self.packed) }
-        ensures { let y = C.years cal.now in result ≡ day_number y.list (date_of y (C.YearInfo.parts self.packed)) }
-    {
-        to_rata_die(parts::<C>(self.packed), cal)
-    }
-
-    /// The year.
-    pub fn year(self) -> C::YearInfo
-        ensures { result ≡ (C.YearInfo.parts self.packed).year }
-    {
-        parts::<C>(self.packed).year
-    }
-
-    /// The place of the month in its year, from 1.
-    pub fn month(self) -> u8
-        ensures { result ≡ (C.YearInfo.parts self.packed).month }
-    {
-        parts::<C>(self.packed).month
-    }
-
-    /// The day of the month, from 1.
-    pub fn day(self) -> u8
-        ensures { result ≡ (C.YearInfo.parts self.packed).day }
-    {
-        parts::<C>(self.packed).day
+        ArithmeticDate::of_parts(from_rata_die(rd, cal))
     }
 
     /// The date with a duration added, as ECMAScript Temporal's NonISODateAdd; the default of the option
@@ -119,11 +122,11 @@ impl<C: DateFieldsResolver> ArithmeticDate<C> {
         cal: &C,
         options: DateAddOptions,
     ) -> Result<Self, DateAddError>
-        requires { Belongs (C.years cal.now) (C.YearInfo.parts self.now.packed) }
-        ensures sum { let y = C.years cal.now in let parts = C.YearInfo.parts in
-            IsSum y.list (pos 0) (date_of y (parts self.now.packed)) duration (add_overflow_of options.overflow)
-            (answer_by (λ a. date_of y (parts a.packed)) result) }
-        ensures belongs { IfOk result (λ a. Belongs (C.years cal.now) (C.YearInfo.parts a.packed)) }
+        requires { Belongs (C.years cal.now) self.now.parts }
+        ensures sum { let y = C.years cal.now in
+            IsSum y.list (pos 0) (date_of y self.now.parts) duration (add_overflow_of options.overflow)
+            (answer_by (λ a. date_of y a.parts) result) }
+        ensures belongs { IfOk result (λ a. Belongs (C.years cal.now) a.parts) }
     {
         self.added_shifted(duration, cal, options, 0)
     }
@@ -138,32 +141,39 @@ impl<C: DateFieldsResolver> ArithmeticDate<C> {
         options: DateAddOptions,
         shift: i32,
     ) -> Result<Self, DateAddError>
-        requires date { Belongs (C.years cal.now) (C.YearInfo.parts self.now.packed) }
+        requires date { Belongs (C.years cal.now) self.now.parts }
         requires shift { IsFieldYear shift }
-        ensures sum { let y = C.years cal.now in let parts = C.YearInfo.parts in
-            IsSum y.list shift (date_of y (parts self.now.packed)) duration (add_overflow_of options.overflow)
-            (answer_by (λ a. date_of y (parts a.packed)) result) }
-        ensures belongs { IfOk result (λ a. Belongs (C.years cal.now) (C.YearInfo.parts a.packed)) }
+        ensures sum { let y = C.years cal.now in
+            IsSum y.list shift (date_of y self.now.parts) duration (add_overflow_of options.overflow)
+            (answer_by (λ a. date_of y a.parts) result) }
+        ensures belongs { IfOk result (λ a. Belongs (C.years cal.now) a.parts) }
     {
-        let from = parts::<C>(self.packed);
+        let from = self.parts;
         match added(from, duration, add_overflow(options), shift, cal) {
-            Ok(sum) => Ok(ArithmeticDate::from_parts(sum, cal)),
+            Ok(sum) => Ok(ArithmeticDate::of_parts(sum)),
             Err(e) => Err(e),
         }
+    }
+}
+
+impl<C: YearShapes> ArithmeticDate<C> {
+    /// The day number of a date that belongs to the calendar.
+    pub fn to_rata_die(self, cal: &C) -> RataDie
+        requires { Belongs (C.years cal.now) self.parts }
+        ensures { let y = C.years cal.now in result ≡ day_number y.list (date_of y self.parts) }
+    {
+        to_rata_die(self.parts, cal)
     }
 
     /// The difference to another date, as ECMAScript Temporal's NonISODateUntil: years, then months, then
     /// weeks and days, each as many as do not surpass the other date. The default of the option
     /// `largest_unit` is days. Added to this date under [`Overflow::Constrain`], it gives the other date.
     pub fn until(&self, other: &Self, cal: &C, options: DateDifferenceOptions) -> DateDuration
-        requires from { Belongs (C.years cal.now) (C.YearInfo.parts self.now.packed) }
-        requires to { Belongs (C.years cal.now) (C.YearInfo.parts other.now.packed) }
-        ensures difference { let y = C.years cal.now in let parts = C.YearInfo.parts in
-            IsDifference y.list (date_of y (parts self.now.packed)) (date_of y (parts other.now.packed))
+        requires from { Belongs (C.years cal.now) self.now.parts }
+        requires to { Belongs (C.years cal.now) other.now.parts }
+        ensures { let y = C.years cal.now in
+            IsUntil y.list y.offset (date_of y self.now.parts) (date_of y other.now.parts)
             (largest_unit_of options.largest_unit) result }
-        ensures leads_back { let y = C.years cal.now in let parts = C.YearInfo.parts in
-            IsSum y.list y.offset (date_of y (parts self.now.packed)) result Overflow.Constrain
-            (Ok (date_of y (parts other.now.packed))) }
     {
         ArithmeticDate::<C>::until_with_blank::<Brand>(self, other, cal, options, Blank::new(1))
     }
@@ -177,20 +187,17 @@ impl<C: DateFieldsResolver> ArithmeticDate<C> {
         options: DateDifferenceOptions,
         steps: &mut Steps<L>,
     ) -> DateDuration
-        requires from { Belongs (C.years cal.now) (C.YearInfo.parts self.now.packed) }
-        requires to { Belongs (C.years cal.now) (C.YearInfo.parts other.now.packed) }
-        ensures difference { let y = C.years cal.now in let parts = C.YearInfo.parts in
-            IsDifference y.list (date_of y (parts self.now.packed)) (date_of y (parts other.now.packed))
+        requires from { Belongs (C.years cal.now) self.now.parts }
+        requires to { Belongs (C.years cal.now) other.now.parts }
+        ensures until { let y = C.years cal.now in
+            IsUntil y.list y.offset (date_of y self.now.parts) (date_of y other.now.parts)
             (largest_unit_of options.largest_unit) result }
-        ensures leads_back { let y = C.years cal.now in let parts = C.YearInfo.parts in
-            IsSum y.list y.offset (date_of y (parts self.now.packed)) result Overflow.Constrain
-            (Ok (date_of y (parts other.now.packed))) }
-        ensures ticks { let y = C.years cal.now in let parts = C.YearInfo.parts in
+        ensures ticks { let y = C.years cal.now in
             steps.new ≤ steps.old + most_ticks (largest_unit_of options.largest_unit)
-            (unsigned_abs (y.extended (parts other.now.packed).year -ℤ y.extended (parts self.now.packed).year)) }
+            (unsigned_abs (y.extended other.now.parts.year -ℤ y.extended self.now.parts.year)) }
     {
-        let from = parts::<C>(self.packed);
-        let to = parts::<C>(other.packed);
+        let from = self.parts;
+        let to = other.parts;
         difference(from, to, largest_unit(options), cal, steps)
     }
 
@@ -202,39 +209,18 @@ impl<C: DateFieldsResolver> ArithmeticDate<C> {
         options: DateDifferenceOptions,
         blank: Blank,
     ) -> DateDuration
-        requires from { Belongs (C.years cal.now) (C.YearInfo.parts self.now.packed) }
-        requires to { Belongs (C.years cal.now) (C.YearInfo.parts other.now.packed) }
+        requires from { Belongs (C.years cal.now) self.now.parts }
+        requires to { Belongs (C.years cal.now) other.now.parts }
         requires name { blank.name ≡ L.name }
         requires parts { blank.parts ≡ L.parts }
         requires some { 0 < blank.parts }
-        ensures difference { let y = C.years cal.now in let parts = C.YearInfo.parts in
-            IsDifference y.list (date_of y (parts self.now.packed)) (date_of y (parts other.now.packed))
+        ensures { let y = C.years cal.now in
+            IsUntil y.list y.offset (date_of y self.now.parts) (date_of y other.now.parts)
             (largest_unit_of options.largest_unit) result }
-        ensures leads_back { let y = C.years cal.now in let parts = C.YearInfo.parts in
-            IsSum y.list y.offset (date_of y (parts self.now.packed)) result Overflow.Constrain
-            (Ok (date_of y (parts other.now.packed))) }
     {
         let mut steps = Steps::<L>::new(blank);
         self.until_counted(other, cal, options, &mut steps)
     }
-
-    /// The date of these parts, which belong to a calendar.
-    pub(crate) fn from_parts(date: Ymd<C::YearInfo>, cal: &C) -> Self
-        requires { Belongs (C.years cal.now) date }
-        ensures { C.YearInfo.parts result.packed ≡ date }
-    {
-        ArithmeticDate {
-            packed: date.year.keep(date.month, date.day),
-            of: PhantomData,
-        }
-    }
-}
-
-/// The parts of a date as it is kept.
-pub(crate) fn parts<C: YearShapes>(kept: <C::YearInfo as PackWithMD>::Kept) -> Ymd<C::YearInfo>
-    ensures { result ≡ C.YearInfo.parts kept }
-{
-    <C::YearInfo as PackWithMD>::read(kept)
 }
 
 /// Which overflow the options of adding ask for.
@@ -248,77 +234,81 @@ fn add_overflow(options: DateAddOptions) -> Overflow
 }
 
 /// By year, month's place and day.
-impl<C: DateFieldsResolver> PartialEq for ArithmeticDate<C> {
-    ghost eq = { eq_of_both (on (λ a. (C.YearInfo.parts a.packed).year) C.YearInfo.eq)
-        (eq_of_both (on (λ a. (C.YearInfo.parts a.packed).month) ◌==◌)
-        (on (λ a. (C.YearInfo.parts a.packed).day) ◌==◌)) };
+impl<C, Y: Copy + PartialEq> PartialEq for ArithmeticDate<C, Y> {
+    ghost eq = { eq_of_both (on (λ a. a.parts.year) Y.eq)
+        (eq_of_both (on (λ a. a.parts.month) ◌==◌)
+        (on (λ a. a.parts.day) ◌==◌)) };
 
-    ghost laws = { Prim.search (comparing, rules, C.YearInfo.PartialEq.laws) };
+    ghost laws = { Prim.search (comparing, rules, Y.PartialEq.laws) };
 
     fn eq(&self, other: &Self) -> bool {
-        let a = parts::<C>(self.packed);
-        let b = parts::<C>(other.packed);
+        let a = self.parts;
+        let b = other.parts;
         a.year == b.year && a.month == b.month && a.day == b.day
     }
 }
 
-impl<C: DateFieldsResolver> Eq for ArithmeticDate<C> {
-    ghost laws = { Prim.search (comparing, rules, C.YearInfo.Eq.laws) };
+impl<C, Y: Copy + Eq> Eq for ArithmeticDate<C, Y> {
+    ghost laws = { Prim.search (comparing, rules, Y.Eq.laws) };
 }
 
 /// By year, then month's place, then day.
-impl<C: DateFieldsResolver> Ord for ArithmeticDate<C> {
-    ghost cmp = { then_cmp (on (λ a. (C.YearInfo.parts a.packed).year) C.YearInfo.cmp)
-        (then_cmp (on (λ a. (C.YearInfo.parts a.packed).month) nat_cmp)
-        (on (λ a. (C.YearInfo.parts a.packed).day) nat_cmp)) };
+impl<C, Y: Copy + Ord> Ord for ArithmeticDate<C, Y> {
+    ghost cmp = { then_cmp (on (λ a. a.parts.year) Y.cmp)
+        (then_cmp (on (λ a. a.parts.month) nat_cmp)
+        (on (λ a. a.parts.day) nat_cmp)) };
 
-    ghost total = { (then_total (on_total (λ a. (C.YearInfo.parts a.packed).year) C.YearInfo.total)
-        (then_total (on_total (λ a. (C.YearInfo.parts a.packed).month) nat_cmp_total)
-        (on_total (λ a. (C.YearInfo.parts a.packed).day) nat_cmp_total))) };
+    ghost total = { (then_total (on_total (λ a. a.parts.year) Y.total)
+        (then_total (on_total (λ a. a.parts.month) nat_cmp_total)
+        (on_total (λ a. a.parts.day) nat_cmp_total))) };
 
     ghost matches_partial_cmp = { Prim.search (comparing, rules) };
 
-    ghost matches_eq = { Prim.search (comparing, rules, C.YearInfo.matches_eq) };
+    ghost matches_eq = { Prim.search (comparing, rules, Y.matches_eq) };
 
     fn cmp(&self, other: &Self) -> Ordering {
-        C::order(self.packed, other.packed)
+        let (a, b) = (self.parts, other.parts);
+        a.year
+            .cmp(&b.year)
+            .then(a.month.cmp(&b.month))
+            .then(a.day.cmp(&b.day))
     }
 }
 
-impl<C: DateFieldsResolver> PartialOrd for ArithmeticDate<C> {
+impl<C, Y: Copy + Ord> PartialOrd for ArithmeticDate<C, Y> {
     ghost partial_cmp = { as_partial_cmp
-        (then_cmp (on (λ a. (C.YearInfo.parts a.packed).year) C.YearInfo.cmp)
-        (then_cmp (on (λ a. (C.YearInfo.parts a.packed).month) nat_cmp)
-        (on (λ a. (C.YearInfo.parts a.packed).day) nat_cmp))) };
+        (then_cmp (on (λ a. a.parts.year) Y.cmp)
+        (then_cmp (on (λ a. a.parts.month) nat_cmp)
+        (on (λ a. a.parts.day) nat_cmp))) };
 
     ghost laws = { partial_order_from_own_ties
         (partial_order_from_total
-        (then_total (on_total (λ a. (C.YearInfo.parts a.packed).year) C.YearInfo.total)
-        (then_total (on_total (λ a. (C.YearInfo.parts a.packed).month) nat_cmp_total)
-        (on_total (λ a. (C.YearInfo.parts a.packed).day) nat_cmp_total))))
-        (Prim.search (comparing, rules, C.YearInfo.matches_eq)) };
+        (then_total (on_total (λ a. a.parts.year) Y.total)
+        (then_total (on_total (λ a. a.parts.month) nat_cmp_total)
+        (on_total (λ a. a.parts.day) nat_cmp_total))))
+        (Prim.search (comparing, rules, Y.matches_eq)) };
 
     fn partial_cmp(&self, other: &Self) -> Option<Ordering> {
         Some(self.cmp(other))
     }
 }
 
-impl<C: DateFieldsResolver> Hash for ArithmeticDate<C> {
-    ghost hash_input = { λ a. C.YearInfo.hash_input (C.YearInfo.parts a.packed).year
-        ++ fed.u8 (C.YearInfo.parts a.packed).month ++ fed.u8 (C.YearInfo.parts a.packed).day };
+impl<C, Y: Copy + Hash> Hash for ArithmeticDate<C, Y> {
+    ghost hash_input = { λ a. Y.hash_input a.parts.year
+        ++ fed.u8 a.parts.month ++ fed.u8 a.parts.day };
 
-    ghost respects_eq = { Prim.search (hashing, rules, C.YearInfo.respects_eq) };
+    ghost respects_eq = { Prim.search (hashing, rules, Y.respects_eq) };
 
     fn hash<H: Hasher>(&self, state: &mut H) {
-        let date = parts::<C>(self.packed);
+        let date = self.parts;
         date.year.hash(state);
         date.month.hash(state);
         date.day.hash(state);
     }
 }
 
-impl<C: DateFieldsResolver> Debug for ArithmeticDate<C> {
+impl<C, Y: Copy + Debug> Debug for ArithmeticDate<C, Y> {
     fn fmt<W: fmt::Write>(&self, f: &mut fmt::Formatter<W>) -> fmt::Result {
-        parts::<C>(self.packed).fmt(f)
+        self.parts.fmt(f)
     }
 }

@@ -100,12 +100,12 @@ impl<C: DateFieldsResolver> ArithmeticDate<C> {
         calendar: &C,
     ) -> Result<Self, DateNewError>
         ensures made { let y = C.years calendar.now in
-            answer_by (λ a. date_of y (C.YearInfo.parts a.packed)) result ≡ made_date y.list (C.names calendar.now)
+            answer_by (λ a. date_of y a.parts) result ≡ made_date y.list (C.names calendar.now)
             year.entry (month_parts month) day }
-        ensures belongs { IfOk result (λ a. Belongs (C.years calendar.now) (C.YearInfo.parts a.packed)) }
+        ensures belongs { IfOk result (λ a. Belongs (C.years calendar.now) a.parts) }
     {
         match date_of_input(year, month, day, calendar) {
-            Ok(date) => Ok(ArithmeticDate::from_parts(date, calendar)),
+            Ok(date) => Ok(ArithmeticDate::of_parts(date)),
             Err(e) => Err(e),
         }
     }

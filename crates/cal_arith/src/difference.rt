@@ -3,7 +3,8 @@
 ghost use Rattle.std.specs.Prelude.{◌≡◌, ◌+◌, ◌-◌, ◌*◌, ◌<◌, ◌≤◌, ◌<ℤ◌, ◌-ℤ◌, unsigned_abs, IsTrue, false, Ok, ◌↔◌};
 ghost use Rattle.cal_model.specs.CalendarList.{date};
 ghost use Rattle.cal_model.specs.Adding.{IsSum};
-ghost use Rattle.cal_model.specs.Difference.{IsDifference, admits_weeks, largest_unit_of};
+ghost use Rattle.cal_model.specs.Difference.{admits_weeks, largest_unit_of};
+ghost use Rattle.cal_model.specs.Until.{IsUntil};
 ghost use Rattle.cal_arith.specs.Dates.{date_of, ymd, Belongs};
 ghost use Rattle.cal_arith.specs.Directions.{is_backward};
 ghost use Rattle.cal_arith.specs.Ticks.{most_ticks};
@@ -55,10 +56,8 @@ pub(crate) fn difference<C: YearShapes, L: Ledger>(
 ) -> DateDuration
     requires from { Belongs (C.years cal.now) from }
     requires to { Belongs (C.years cal.now) to }
-    ensures difference { let y = C.years cal.now in
-        IsDifference y.list (date_of y from) (date_of y to) unit result }
-    ensures leads_back { let y = C.years cal.now in
-        IsSum y.list y.offset (date_of y from) result Overflow.Constrain (Ok (date_of y to)) }
+    ensures until { let y = C.years cal.now in
+        IsUntil y.list y.offset (date_of y from) (date_of y to) unit result }
     ensures ticks { let y = C.years cal.now in
         steps.new ≤ steps.old + most_ticks unit (unsigned_abs (y.extended to.year -ℤ y.extended from.year)) }
 {
@@ -92,12 +91,9 @@ pub fn difference_counted<C: YearShapes, L: Ledger>(
 ) -> DateDuration
     requires from { Belongs (C.years calendar.now) (ymd from.0 from.1 from.2) }
     requires to { Belongs (C.years calendar.now) (ymd to.0 to.1 to.2) }
-    ensures difference { let y = C.years calendar.now in
-        IsDifference y.list (date (y.extended from.0) from.1 from.2) (date (y.extended to.0) to.1 to.2)
+    ensures until { let y = C.years calendar.now in
+        IsUntil y.list y.offset (date (y.extended from.0) from.1 from.2) (date (y.extended to.0) to.1 to.2)
         (largest_unit_of options.largest_unit) result }
-    ensures leads_back { let y = C.years calendar.now in
-        IsSum y.list y.offset (date (y.extended from.0) from.1 from.2) result Overflow.Constrain
-        (Ok (date (y.extended to.0) to.1 to.2)) }
     ensures ticks { let y = C.years calendar.now in
         steps.new ≤ steps.old + most_ticks (largest_unit_of options.largest_unit)
         (unsigned_abs (y.extended to.0 -ℤ y.extended from.0)) }

@@ -406,13 +406,13 @@ impl<C: DateFieldsResolver> ArithmeticDate<C> {
         calendar: &C,
     ) -> Result<Self, DateFromFieldsError>
         ensures resolved { let y = C.years calendar.now in
-            answer_by (λ a. date_of y (C.YearInfo.parts a.packed)) result ≡ resolve y.list (C.names calendar.now)
+            answer_by (λ a. date_of y a.parts) result ≡ resolve y.list (C.names calendar.now)
             (bag_of fields.entry) (overflow_of options.overflow) (missing_fields_of options.missing_fields_strategy) }
-        ensures belongs { IfOk result (λ a. Belongs (C.years calendar.now) (C.YearInfo.parts a.packed)) }
+        ensures belongs { IfOk result (λ a. Belongs (C.years calendar.now) a.parts) }
     {
         let (overflow, strategy) = (fields_overflow(options), missing_fields(options));
         match date_of_fields(fields, overflow, strategy, calendar) {
-            Ok(date) => Ok(ArithmeticDate::from_parts(date, calendar)),
+            Ok(date) => Ok(ArithmeticDate::of_parts(date)),
             Err(e) => Err(e),
         }
     }

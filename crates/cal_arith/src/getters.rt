@@ -7,78 +7,77 @@ ghost use Rattle.cal_model.specs.CalendarList.{date, day_number, is_date, is_val
 ghost use Rattle.cal_arith.specs.Dates.{date_of, Belongs, IsGivenDate};
 ghost use Rattle.cal_arith.specs.Given.{IsGiven};
 
-use crate::arithmetic_date::{ArithmeticDate, parts};
+use crate::arithmetic_date::ArithmeticDate;
 use crate::dates::{Ymd, to_rata_die};
-use crate::years::{DateFieldsResolver, YearShapes};
+use crate::years::YearShapes;
 use cal_days::RataDie;
 use cal_days::ranges::{is_covered_year, is_valid_day};
 use cal_types::Month;
 
-impl<C: DateFieldsResolver> ArithmeticDate<C> {
+impl<C: YearShapes> ArithmeticDate<C> {
     /// The extended year, which numbers the calendar's years without eras.
     pub fn extended_year(self, cal: &C) -> i32
-        requires { Belongs (C.years cal.now) (C.YearInfo.parts self.packed) }
-        ensures { result ≡ (C.years cal.now).extended (C.YearInfo.parts self.packed).year }
+        requires { Belongs (C.years cal.now) self.parts }
+        ensures { result ≡ (C.years cal.now).extended self.parts.year }
     {
-        cal.extended_from_year_info(parts::<C>(self.packed).year)
+        cal.extended_from_year_info(self.parts.year)
     }
 
     /// How many months the date's year has, 12 or 13.
     pub fn months_in_year(self, cal: &C) -> u8
-        requires { Belongs (C.years cal.now) (C.YearInfo.parts self.packed) }
+        requires { Belongs (C.years cal.now) self.parts }
         ensures { let y = C.years cal.now in
-            result ≡ month_count y.list (y.extended (C.YearInfo.parts self.packed).year) }
+            result ≡ month_count y.list (y.extended self.parts.year) }
     {
-        cal.months_in_provided_year(parts::<C>(self.packed).year)
+        cal.months_in_provided_year(self.parts.year)
     }
 
     /// How many days the date's year has, at most 403.
     pub fn days_in_year(self, cal: &C) -> u16
-        requires { Belongs (C.years cal.now) (C.YearInfo.parts self.packed) }
+        requires { Belongs (C.years cal.now) self.parts }
         ensures { let y = C.years cal.now in
-            result ≡ year_length y.list (y.extended (C.YearInfo.parts self.packed).year) }
+            result ≡ year_length y.list (y.extended self.parts.year) }
     {
-        days_of_year(parts::<C>(self.packed).year, cal)
+        days_of_year(self.parts.year, cal)
     }
 
     /// How many days the date's month has, from 1 to 31.
     pub fn days_in_month(self, cal: &C) -> u8
-        requires { Belongs (C.years cal.now) (C.YearInfo.parts self.packed) }
-        ensures { let y = C.years cal.now in let parts = C.YearInfo.parts in
-            result ≡ month_length y.list (y.extended (parts self.packed).year) (parts self.packed).month }
+        requires { Belongs (C.years cal.now) self.parts }
+        ensures { let y = C.years cal.now in
+            result ≡ month_length y.list (y.extended self.parts.year) self.parts.month }
     {
-        let date = parts::<C>(self.packed);
+        let date = self.parts;
         cal.days_in_provided_month(date.year, date.month)
     }
 
     /// The day's number in its year, from 1.
     pub fn day_of_year(self, cal: &C) -> u16
-        requires { Belongs (C.years cal.now) (C.YearInfo.parts self.packed) }
-        ensures { let y = C.years cal.now in let parts = C.YearInfo.parts in
-            start_of_year y.list (y.extended (parts self.packed).year) +ℤ pos result
-            ≡ day_number y.list (date_of y (parts self.packed)) +ℤ pos 1 }
+        requires { Belongs (C.years cal.now) self.parts }
+        ensures { let y = C.years cal.now in start_of_year y.list (y.extended self.parts.year) +ℤ pos result
+            ≡ day_number y.list (date_of y self.parts) +ℤ pos 1 }
     {
-        day_in_year(parts::<C>(self.packed), cal)
+        day_in_year(self.parts, cal)
     }
 
     /// The month by its number, which is a leap month or not; its place in the year may be another number.
     pub fn month_in_calendar(self, cal: &C) -> Month
-        requires { Belongs (C.years cal.now) (C.YearInfo.parts self.packed) }
-        ensures { let y = C.years cal.now in let parts = C.YearInfo.parts in
-            month_parts result ≡ month_at y.list (y.extended (parts self.packed).year) (parts self.packed).month }
+        requires { Belongs (C.years cal.now) self.parts }
+        ensures { let y = C.years cal.now in
+            month_parts result ≡ month_at y.list (y.extended self.parts.year) self.parts.month }
     {
-        let date = parts::<C>(self.packed);
+        let date = self.parts;
         cal.month_from_ordinal(date.year, date.month)
     }
 
     /// Whether the calendar has this date and its day number is in the valid range. The year is one that the
     /// calendar gave; the month's place and the day may be any numbers.
     pub fn is_date_of(self, cal: &C) -> bool
-        requires { IsGiven (C.years cal.now) (C.YearInfo.parts self.packed).year }
+        requires { IsGiven (C.years cal.now) self.parts.year }
         ensures { let y = C.years cal.now in
-            result ≡ is_valid_date y.list (date_of y (C.YearInfo.parts self.packed)) }
+            result ≡ is_valid_date y.list (date_of y self.parts) }
     {
-        let date = parts::<C>(self.packed);
+        let date = self.parts;
         is_listed(date, cal) && has_valid_day(date, cal)
     }
 }

@@ -9,7 +9,7 @@ ghost use Rattle.cal_model.specs.Difference.{IsDifference};
 ghost use Rattle.cal_arith.specs.Dates.{date_of, Belongs};
 
 use crate::arithmetic_date::ArithmeticDate;
-use crate::years::{DateFieldsResolver, YearShapes};
+use crate::years::{YearShapes, Years};
 use cal_types::{
     DateAddError, DateAddOptions, DateDifferenceOptions, DateDuration, DateDurationUnit, Overflow,
 };
@@ -29,31 +29,29 @@ pub fn difference_added_back<C: YearShapes>(cal: &C, duration: DateDuration, uni
 {}
 
 /// Whether two dates of a calendar are the same: just where their day numbers are.
-pub fn are_same_day<C: DateFieldsResolver>(
+pub fn are_same_day<C: YearShapes>(
     first: &ArithmeticDate<C>,
     second: &ArithmeticDate<C>,
     cal: &C,
 ) -> bool
-    requires first { Belongs (C.years cal.now) (C.YearInfo.parts first.now.packed) }
-    requires second { Belongs (C.years cal.now) (C.YearInfo.parts second.now.packed) }
-    ensures { let y = C.years cal.now in let parts = C.YearInfo.parts in
-        result ≡ int_eq (day_number y.list (date_of y (parts first.now.packed)))
-        (day_number y.list (date_of y (parts second.now.packed))) }
+    requires first { Belongs (C.years cal.now) first.now.parts }
+    requires second { Belongs (C.years cal.now) second.now.parts }
+    ensures { let y = C.years cal.now in result ≡ int_eq (day_number y.list (date_of y first.now.parts))
+        (day_number y.list (date_of y second.now.parts)) }
 {
     first == second
 }
 
 /// The order of two dates of a calendar: that of their day numbers.
-pub fn order_of_days<C: DateFieldsResolver>(
+pub fn order_of_days<C: YearShapes>(
     first: &ArithmeticDate<C>,
     second: &ArithmeticDate<C>,
     cal: &C,
 ) -> Ordering
-    requires first { Belongs (C.years cal.now) (C.YearInfo.parts first.now.packed) }
-    requires second { Belongs (C.years cal.now) (C.YearInfo.parts second.now.packed) }
-    ensures { let y = C.years cal.now in let parts = C.YearInfo.parts in
-        result ≡ int_cmp (day_number y.list (date_of y (parts first.now.packed)))
-        (day_number y.list (date_of y (parts second.now.packed))) }
+    requires first { Belongs (C.years cal.now) first.now.parts }
+    requires second { Belongs (C.years cal.now) second.now.parts }
+    ensures { let y = C.years cal.now in result ≡ int_cmp (day_number y.list (date_of y first.now.parts))
+        (day_number y.list (date_of y second.now.parts)) }
 {
     first.cmp(second)
 }
@@ -66,16 +64,15 @@ pub fn sum_has_one_answer<C: YearShapes>(cal: &C, duration: DateDuration, overfl
 {}
 
 /// The difference of two dates in any unit, added to the first under [`Overflow::Constrain`]: always the second.
-pub fn added_back<C: DateFieldsResolver>(
+pub fn added_back<C: Years>(
     first: &ArithmeticDate<C>,
     second: &ArithmeticDate<C>,
     cal: &C,
     options: DateDifferenceOptions,
 ) -> Result<ArithmeticDate<C>, DateAddError>
-    requires first { Belongs (C.years cal.now) (C.YearInfo.parts first.now.packed) }
-    requires second { Belongs (C.years cal.now) (C.YearInfo.parts second.now.packed) }
-    ensures { let parts = C.YearInfo.parts in
-        MatchResult result (λ a. parts a.packed ≡ parts second.now.packed) (λ _. ⊥) }
+    requires first { Belongs (C.years cal.now) first.now.parts }
+    requires second { Belongs (C.years cal.now) second.now.parts }
+    ensures { MatchResult result (λ a. a.parts ≡ second.now.parts) (λ _. ⊥) }
 {
     let duration = first.until(second, cal, options);
     let constrain = DateAddOptions {

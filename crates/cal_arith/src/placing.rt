@@ -202,12 +202,12 @@ impl<C: DateFieldsResolver> ArithmeticDate<C> {
         calendar: &C,
     ) -> Result<Self, LunisolarDateError>
         ensures made { let y = C.years calendar.now in
-            answer_by (λ a. date_of y (C.YearInfo.parts a.packed)) result ≡ lunisolar_answer
+            answer_by (λ a. date_of y a.parts) result ≡ lunisolar_answer
             (made_date y.list (C.names calendar.now) (Extended year) (month_parts month) day) }
-        ensures belongs { IfOk result (λ a. Belongs (C.years calendar.now) (C.YearInfo.parts a.packed)) }
+        ensures belongs { IfOk result (λ a. Belongs (C.years calendar.now) a.parts) }
     {
         match date_of_input(YearInput::Extended(year), month, day, calendar) {
-            Ok(date) => Ok(ArithmeticDate::from_parts(date, calendar)),
+            Ok(date) => Ok(ArithmeticDate::of_parts(date)),
             Err(cause) => Err(lunisolar_cause(cause)),
         }
     }
@@ -219,12 +219,12 @@ impl<C: DateFieldsResolver> ArithmeticDate<C> {
     /// year's count of months, or `day` from 1 to the month's length.
     pub fn from_year_month_day(year: i32, month: u8, day: u8, cal: &C) -> Result<Self, RangeError>
         ensures placed { let y = C.years cal.now in
-            result_map_both (λ a. date_of y (C.YearInfo.parts a.packed)) range_parts result
+            result_map_both (λ a. date_of y a.parts) range_parts result
             ≡ placed_date y.list year month day }
-        ensures belongs { IfOk result (λ a. Belongs (C.years cal.now) (C.YearInfo.parts a.packed)) }
+        ensures belongs { IfOk result (λ a. Belongs (C.years cal.now) a.parts) }
     {
         match placed(year, month, day, cal) {
-            Ok(date) => Ok(ArithmeticDate::from_parts(date, cal)),
+            Ok(date) => Ok(ArithmeticDate::of_parts(date)),
             Err(cause) => Err(cause),
         }
     }
@@ -244,12 +244,12 @@ impl<C: DateFieldsResolver> ArithmeticDate<C> {
         cal: &C,
     ) -> Result<Self, DateError>
         ensures placed { let y = C.years cal.now in
-            result_map_both (λ a. date_of y (C.YearInfo.parts a.packed)) date_fault result
+            result_map_both (λ a. date_of y a.parts) date_fault result
             ≡ placed_of_era y.list (C.names cal.now) era.now year month day }
-        ensures belongs { IfOk result (λ a. Belongs (C.years cal.now) (C.YearInfo.parts a.packed)) }
+        ensures belongs { IfOk result (λ a. Belongs (C.years cal.now) a.parts) }
     {
         match placed_of_era(era, year, month, day, cal) {
-            Ok(date) => Ok(ArithmeticDate::from_parts(date, cal)),
+            Ok(date) => Ok(ArithmeticDate::of_parts(date)),
             Err(cause) => Err(cause),
         }
     }

@@ -1,7 +1,7 @@
 //! What a calendar offers of its years.
 
 ghost use Rattle.std.specs.Prelude.{◌≡◌, ℕ, ℤ, ◌+◌, ◌<◌, ◌≤◌, ◌↔◌, ◌≤ℤ◌, ◌<ℤ◌, ◌+ℤ◌, ◌-ℤ◌, pos, neg_ℤ, unsigned_abs, false, Some, Err, IfOk, IsTrue, List};
-ghost use Rattle.std.specs.Ordering.{int_cmp, int_eq, nat_cmp, on, then_cmp};
+ghost use Rattle.std.specs.Ordering.{int_cmp, int_eq};
 ghost use Rattle.cal_days.specs.Day.{IsBetween, IsValidDay, IsFieldYear, IsRuleYear, IsCoveredYear, IsConstructorYear};
 ghost use Rattle.cal_days.specs.Sums.{total};
 ghost use Rattle.cal_types.specs.Month.{MonthParts};
@@ -19,7 +19,6 @@ use crate::dates::{Ymd, month_by_month};
 use crate::steps::Steps;
 use cal_days::RataDie;
 use cal_types::{EcmaReferenceYearError, Month, MonthError, Overflow, UnknownEraError};
-use std::cmp::Ordering;
 use std::fmt::Debug;
 use std::hash::Hash;
 use std::sync::ledger::Ledger;
@@ -33,8 +32,7 @@ use std::sync::ledger::Ledger;
 /// Julian year is its number alone, but a year of a table also knows the lengths of its months and its first day.
 /// Unpacking has no condition: any packed value gives some year.
 ///
-/// Dates are kept in a form of their own, which may be the packed one. Where a year takes long to unpack, dates keep it
-/// as it is: a [`Ymd`] does for any year.
+/// Dates keep the year itself, which is faster to read than a packed form. What stores many dates packs them.
 ///
 /// ```text
 /// #[derive(Clone, Copy)]
@@ -42,7 +40,6 @@ use std::sync::ledger::Ledger;
 ///
 /// impl PackWithMD for Year {
 ///     type Packed = [u8; 4];
-///     type Kept = Ymd<Year>;
 ///
 ///     fn pack(self, month: u8, day: u8) -> [u8; 4] {
 ///         (512 * self.0 + 32 * i32::from(month) + i32::from(day)).to_le_bytes()
@@ -60,30 +57,17 @@ use std::sync::ledger::Ledger;
 ///         packed[0] & 31
 ///     }
 ///
-///     fn keep(self, month: u8, day: u8) -> Ymd<Year> {
-///         Ymd { year: self, month, day }
-///     }
-///
-///     fn read(kept: Ymd<Year>) -> Ymd<Year> {
-///         kept
-///     }
 /// }
 /// ```
 pub trait PackWithMD: Copy {
     /// A year, the place of a month and a day in a few bytes.
     type Packed: Copy + Debug;
 
-    /// A year, the place of a month and a day as dates keep them.
-    type Kept: Copy;
-
     /// The number that the year knows by itself.
     ghost stored: { Self → ℤ };
 
     /// The year, the place of the month and the day that are packed.
     ghost unpacked: { Self.Packed → Ymd Self };
-
-    /// The year, the place of the month and the day that are kept.
-    ghost parts: { Self.Kept → Ymd Self };
 
     /// Packs a year with a month's place from 1 to 13 and a day from 1 to 31; unpacking gives them back.
     fn pack(self, month: u8, day: u8) -> Self::Packed
@@ -103,17 +87,6 @@ pub trait PackWithMD: Copy {
     /// The day of the month of a packed date.
     fn unpack_day(packed: Self::Packed) -> u8
         ensures { result ≡ (unpacked packed).day };
-
-    /// What a date keeps of a year, a month's place from 1 to 13 and a day from 1 to 31; reading it gives them back.
-    fn keep(self, month: u8, day: u8) -> Self::Kept
-        requires storable { IsFieldYear (stored self) }
-        requires month { (1 ≤ month) × (month ≤ 13) }
-        requires day { (1 ≤ day) × (day ≤ 31) }
-        ensures { parts result ≡ ymd self month day };
-
-    /// The year, the place of the month and the day that a date keeps.
-    fn read(kept: Self::Kept) -> Ymd<Self>
-        ensures { result ≡ parts kept };
 }
 
 /// The shapes of a calendar's years: their months, and the lengths of these. Its only look-up of a year is
@@ -212,24 +185,6 @@ pub trait YearShapes {
     {
         let month = self.month_from_ordinal(year, ordinal_month);
         self.ordinal_from_month(other, month, overflow).ok()
-    }
-
-    /// The order of two dates as they are kept: by year, then the place of the month, then the day. A calendar whose
-    /// kept dates are numbers of that order compares these.
-    fn order(
-        first: <Self::YearInfo as PackWithMD>::Kept,
-        second: <Self::YearInfo as PackWithMD>::Kept,
-    ) -> Ordering
-        ensures { result ≡ then_cmp (on (λ p. (Self.YearInfo.parts p).year) Self.YearInfo.cmp)
-            (then_cmp (on (λ p. (Self.YearInfo.parts p).month) nat_cmp)
-            (on (λ p. (Self.YearInfo.parts p).day) nat_cmp)) first second }
-    {
-        let a = <Self::YearInfo as PackWithMD>::read(first);
-        let b = <Self::YearInfo as PackWithMD>::read(second);
-        a.year
-            .cmp(&b.year)
-            .then(a.month.cmp(&b.month))
-            .then(a.day.cmp(&b.day))
     }
 
     /// A year and its extended year give each other back.

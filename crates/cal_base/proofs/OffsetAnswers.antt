@@ -1,13 +1,12 @@
 -- The answers of the arithmetic of dates belong to the calendar.
-use Rattle.std.specs.Prelude.{ℕ, ℤ, List, Result, Ok, Err, IsTrue, IfOk}
-use Rattle.cal_arith.specs.Dates.{Belongs, ymd}
+use Rattle.std.specs.Prelude.{ℤ, Result, Ok, Err, IsTrue, IfOk}
+use Rattle.cal_arith.specs.Dates.{Belongs}
 use Rattle.cal_arith.specs.declared.arithmetic_date.ArithmeticDate.{ArithmeticDate}
+use Rattle.cal_base.specs.declared.iso_year.IsoYear.{IsoYear}
 use Rattle.cal_base.specs.OffsetList.{offset_years}
-use Rattle.cal_base.specs.OffsetSystem.{packed_belongs}
-use Rattle.cal_base.specs.laws.OffsetSystemLaws.{belongs-packed}
-use Rattle.date_bytes.specs.Bytes.{day_from, month_from}
-use Rattle.cal_base.specs.PackedDates.{packed_year}
+use Rattle.cal_base.specs.OffsetSystem.{kept_belongs}
+use Rattle.cal_base.specs.laws.OffsetSystemLaws.{belongs-kept}
 
-pub ok-belongs : {C E : Type 0} (offset : ℤ) (r : Result (ArithmeticDate C (List ℕ)) E) → IfOk r (λ a. Belongs (offset_years offset) (ymd (packed_year a.packed) (month_from 0 a.packed) (day_from 0 a.packed))) → IfOk r (λ a. IsTrue (packed_belongs a.packed))
-ok-belongs offset (Ok a) h = belongs-packed offset a.packed h
+pub ok-belongs : {C E : Type 0} (offset : ℤ) (r : Result (ArithmeticDate C IsoYear) E) → IfOk r (λ a. Belongs (offset_years offset) a.parts) → IfOk r (λ a. IsTrue (kept_belongs a.parts))
+ok-belongs offset (Ok a) h = belongs-kept offset a.parts h
 ok-belongs offset (Err e) h = h

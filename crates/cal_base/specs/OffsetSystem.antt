@@ -8,10 +8,11 @@ use Rattle.cal_model.specs.CalendarList.{Date, date, month_at, is_valid_date}
 use Rattle.cal_model.specs.CalendarSystem.{CalendarSystem}
 use Rattle.cal_model.specs.PlainMonths.{is_plain_month}
 use Rattle.cal_model.specs.YearNames.{YearNames, reference_of_known}
-use Rattle.date_bytes.specs.Bytes.{day_from, month_from, year_from}
+use Rattle.cal_arith.specs.declared.dates.Ymd.{Ymd}
+use Rattle.cal_base.specs.declared.iso_year.IsoYear.{IsoYear}
 use Rattle.cal_base.specs.GregorianList.{gregorian_list}
 use Rattle.cal_base.specs.OffsetList.{offset_list}
-use Rattle.cal_base.specs.PackedDates.{packed_date}
+use Rattle.cal_base.specs.PackedDates.{kept_date}
 
 -- each month has ISO year 1972 as its reference year
 abbrev pub offset_names : ℤ → (List ℕ → ℤ → Option ℤ) → YearNames
@@ -30,10 +31,10 @@ offset_system offset reads era_year = record {
   year_shift = offset;
 }
 
--- a packed date, in extended years
-abbrev pub offset_date : ℤ → List ℕ → Date
-offset_date offset p = date (year_from 0 p -ℤ offset) (month_from 0 p) (day_from 0 p)
+-- a date as it is kept, in extended years
+abbrev pub offset_date : ℤ → Ymd IsoYear → Date
+offset_date offset d = date (d.year.number -ℤ offset) d.month d.day
 
 -- it is a date of the ISO years, and its day number is in the valid range
-abbrev pub packed_belongs : List ℕ → Bool
-packed_belongs p = is_valid_date gregorian_list (packed_date p)
+abbrev pub kept_belongs : Ymd IsoYear → Bool
+kept_belongs d = is_valid_date gregorian_list (kept_date d)

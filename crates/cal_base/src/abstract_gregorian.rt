@@ -15,8 +15,6 @@ use cal_types::{
     EcmaReferenceYearError, EraYear, LeapStatus, Month, MonthError, MonthInfo, Overflow,
     UnknownEraError, YearInput,
 };
-use date_bytes::solar;
-use std::cmp::Ordering;
 use std::convert::Infallible;
 use std::sync::ledger::Ledger;
 
@@ -89,10 +87,6 @@ impl<Y: GregorianYears> YearShapes for AbstractGregorian<Y> {
         _overflow: Overflow,
     ) -> Option<u8> {
         Some(ordinal_month)
-    }
-
-    fn order(first: [u8; 4], second: [u8; 4]) -> Ordering {
-        solar::order(first, second)
     }
 
     ghost numbered = { λ s y h. extended_year-iso (Y.offset s.0) y };
@@ -182,10 +176,10 @@ impl<Y: GregorianYears> UnstableSealed for AbstractGregorian<Y> {}
 impl<Y: GregorianYears> Calendar for AbstractGregorian<Y> {
     ghost use Rattle.std.specs.Prelude.{true, refl, Some};
     ghost use Rattle.std.proofs.Common.{ap};
-    ghost use Rattle.cal_base.specs.OffsetSystem.{offset_system, offset_date, packed_belongs};
+    ghost use Rattle.cal_base.specs.OffsetSystem.{offset_system, offset_date, kept_belongs};
     ghost use Rattle.cal_base.specs.laws.Compatibility.{never_refused};
     ghost use Rattle.cal_base.specs.laws.OffsetListLaws.{offset_list-lawful, offset_list-ranged, offset_list-shifted, offset_list-covered};
-    ghost use Rattle.cal_base.specs.laws.OffsetSystemLaws.{packed-dated, packed-equal, packed-ordered, packed-shared};
+    ghost use Rattle.cal_base.specs.laws.OffsetSystemLaws.{kept-dated, kept-equal, kept-ordered, kept-shared};
 
     type DateInner = ArithmeticDate<AbstractGregorian<Y>>;
 
@@ -195,9 +189,9 @@ impl<Y: GregorianYears> Calendar for AbstractGregorian<Y> {
 
     ghost system = { λ s. offset_system (Y.offset s.0) (Y.reads s.0) (Y.era_year s.0) };
 
-    ghost date_of = { λ s d. offset_date (Y.offset s.0) d.packed };
+    ghost date_of = { λ s d. offset_date (Y.offset s.0) d.parts };
 
-    ghost belongs = { λ _ d. packed_belongs d.packed };
+    ghost belongs = { λ _ d. kept_belongs d.parts };
 
     ghost compatible = { λ _ _. true };
 
@@ -333,7 +327,7 @@ impl<Y: GregorianYears> Calendar for AbstractGregorian<Y> {
 
     ghost lawful = { λ s. offset_list-lawful (Y.offset s.0) };
 
-    ghost dated = { λ s d h. packed-dated (Y.offset s.0) d.packed h };
+    ghost dated = { λ s d h. kept-dated (Y.offset s.0) d.parts h };
 
     ghost ranged = { λ s. offset_list-ranged (Y.offset s.0) (Y.offset_bound s.0) };
 
@@ -343,9 +337,9 @@ impl<Y: GregorianYears> Calendar for AbstractGregorian<Y> {
 
     ghost named = { λ s t. Y.named s.0 t };
 
-    ghost equal_days = { λ s a b h k. packed-equal (Y.offset s.0) a.packed b.packed h k };
+    ghost equal_days = { λ s a b h k. kept-equal (Y.offset s.0) a.parts b.parts h k };
 
-    ghost ordered_days = { λ s a b h k. ap Some (packed-ordered (Y.offset s.0) a.packed b.packed h k) };
+    ghost ordered_days = { λ s a b h k. ap Some (kept-ordered (Y.offset s.0) a.parts b.parts h k) };
 
     ghost refusal = { λ _ _ h. never_refused h };
 
@@ -357,7 +351,7 @@ impl<Y: GregorianYears> Calendar for AbstractGregorian<Y> {
 
     ghost shared = { λ _ _ _ h k. k };
 
-    ghost shared_day = { λ s t d h k. packed-shared (Y.offset s.0) (Y.offset t.0) d.packed };
+    ghost shared_day = { λ s t d h k. kept-shared (Y.offset s.0) (Y.offset t.0) d.parts };
 }
 
 impl<Y: GregorianYears> AsCalendar for AbstractGregorian<Y> {

@@ -29,10 +29,10 @@ pub struct Incompatible;
 
 /// A date, which is one of the calendar's own.
 fn own_date<C: NamedYears>(date: &ArithmeticDate<C>, cal: &C) -> ArithmeticDate<C>
-    requires { IsTrue (is_own_date (C.years cal.now) (C.has_year cal.now) (C.YearInfo.parts date.now.packed)) }
+    requires { IsTrue (is_own_date (C.years cal.now) (C.has_year cal.now) date.now.parts) }
     ensures same { result ≡ date.now }
-    ensures belongs { Belongs (C.years cal.now) (C.YearInfo.parts result.packed) }
-    ensures year { IsOwnYear (C.years cal.now) (C.YearInfo.parts result.packed).year }
+    ensures belongs { Belongs (C.years cal.now) result.parts }
+    ensures year { IsOwnYear (C.years cal.now) result.parts.year }
 {
     copy_of(date)
 }
@@ -62,9 +62,9 @@ impl<C: NamedYears> Calendar for Arithmetic<C> {
     ghost system = { λ s. own_system (C.years s.0) (C.names s.0) (C.is_leap_year s.0) (C.year_named s.0)
         (C.leap_status s.0) (C.formatted_month s.0) };
 
-    ghost date_of = { λ s d. date_in (C.years s.0) (C.YearInfo.parts d.packed) };
+    ghost date_of = { λ s d. date_in (C.years s.0) d.parts };
 
-    ghost belongs = { λ s d. is_own_date (C.years s.0) (C.has_year s.0) (C.YearInfo.parts d.packed) };
+    ghost belongs = { λ s d. is_own_date (C.years s.0) (C.has_year s.0) d.parts };
 
     ghost compatible = { λ s t. C.compatible s.0 t.0 };
 
@@ -194,7 +194,7 @@ impl<C: NamedYears> Calendar for Arithmetic<C> {
     ghost lawful = { λ s. C.lawful s.0 };
 
     ghost dated = { λ s d. own_dated (C.years s.0) (C.ranged s.0) (C.has_year s.0) (C.tested s.0)
-        (C.YearInfo.parts d.packed) };
+        d.parts };
 
     ghost ranged = { λ s t h. (C.ranged s.0 t h).0 };
 
@@ -205,11 +205,11 @@ impl<C: NamedYears> Calendar for Arithmetic<C> {
     ghost named = { λ s t. C.named s.0 t.year };
 
     ghost equal_days = { λ s a b h k. days_equal (C.years s.0) (C.ranged s.0) (C.has_year s.0) (C.tested s.0)
-        C.YearInfo.parts C.YearInfo.stored (C.stored_from s.0) a.packed b.packed h k C.YearInfo.eq C.equal };
+        C.YearInfo.stored (C.stored_from s.0) a.parts b.parts h k C.YearInfo.eq C.equal };
 
     ghost ordered_days = { λ s a b h k. ap Some
         (days_ordered (C.years s.0) (C.ranged s.0) (C.has_year s.0) (C.tested s.0)
-        C.YearInfo.parts C.YearInfo.stored (C.stored_from s.0) a.packed b.packed h k C.YearInfo.cmp C.ordered) };
+        C.YearInfo.stored (C.stored_from s.0) a.parts b.parts h k C.YearInfo.cmp C.ordered) };
 
     ghost refusal = { λ _ _ _. record {} };
 
@@ -220,13 +220,13 @@ impl<C: NamedYears> Calendar for Arithmetic<C> {
     ghost compatible_on = { λ s t u h k. C.alike.congr s.0 t.0 u.0 h ∙ k };
 
     ghost shared = { λ s t d h k.
-        let parts = C.YearInfo.parts d.packed in
+        let parts = d.parts in
         let own = own_year (C.years s.0) (C.ranged s.0) (C.has_year s.0) (C.tested s.0) parts k in
         own_shared (C.years s.0) (C.years t.0) parts (C.shared s.0 t.0 parts.year h own.given)
         (C.has_year s.0) (C.has_year t.0) (C.tested t.0 parts.year) k };
 
     ghost shared_day = { λ s t d h k.
-        let parts = C.YearInfo.parts d.packed in
+        let parts = d.parts in
         let own = own_year (C.years s.0) (C.ranged s.0) (C.has_year s.0) (C.tested s.0) parts k in
         shared_day (C.years s.0) (C.years t.0) parts (C.shared s.0 t.0 parts.year h own.given) };
 }

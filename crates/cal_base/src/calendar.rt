@@ -12,7 +12,8 @@ ghost use Rattle.cal_model.specs.CalendarList.{Date, IsDate, IsLawful, IsOn, IsV
 ghost use Rattle.cal_model.specs.CalendarSystem.{CalendarSystem, month_info_of, resolve_fields};
 ghost use Rattle.cal_model.specs.Constructing.{made_date};
 ghost use Rattle.cal_model.specs.Adding.{IsSum, add_overflow_of};
-ghost use Rattle.cal_model.specs.Difference.{IsDifference, largest_unit_of};
+ghost use Rattle.cal_model.specs.Difference.{largest_unit_of};
+ghost use Rattle.cal_model.specs.Until.{IsUntil};
 ghost use Rattle.cal_arith.specs.Dates.{answer_by};
 ghost use Rattle.cal_arith.specs.Ticks.{most_ticks};
 ghost use Rattle.cal_base.specs.IsoSystem.{iso_list, iso_date, iso_belongs};
@@ -241,11 +242,8 @@ pub trait Calendar: UnstableSealed + Drop {
     ) -> DateDuration
         requires first { IsTrue (belongs self.now date1.now) }
         requires second { IsTrue (belongs self.now date2.now) }
-        ensures difference { let t = date_of self.now date1.now in let u = date_of self.now date2.now in
-            IsDifference (system self.now).list t u (largest_unit_of options.largest_unit) result }
-        ensures leads_back { let s = system self.now in
-            let t = date_of self.now date1.now in let u = date_of self.now date2.now in
-            IsSum s.list s.year_shift t result Overflow.Constrain (Ok u) };
+        ensures { let s = system self.now in let t = date_of self.now date1.now in let u = date_of self.now date2.now in
+            IsUntil s.list s.year_shift t u (largest_unit_of options.largest_unit) result };
 
     /// The difference of [`Calendar::until`]. It adds at most 8 ticks to the counter; where months are the largest
     /// unit, at most 8 and one more for each year between the dates.
@@ -258,8 +256,9 @@ pub trait Calendar: UnstableSealed + Drop {
     ) -> DateDuration
         requires first { IsTrue (belongs self.now date1.now) }
         requires second { IsTrue (belongs self.now date2.now) }
-        ensures difference { let t = date_of self.now date1.now in let u = date_of self.now date2.now in
-            IsDifference (system self.now).list t u (largest_unit_of options.largest_unit) result }
+        ensures until { let s = system self.now in let t = date_of self.now date1.now in
+            let u = date_of self.now date2.now in
+            IsUntil s.list s.year_shift t u (largest_unit_of options.largest_unit) result }
         ensures ticks { let t = date_of self.now date1.now in let u = date_of self.now date2.now in
             let years = unsigned_abs (u.year -ℤ t.year) in
             steps.new ≤ steps.old + most_ticks (largest_unit_of options.largest_unit) years };

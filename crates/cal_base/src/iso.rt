@@ -98,7 +98,7 @@ impl Calendar for Iso {
     ghost use Rattle.cal_base.specs.IsoSystem.{iso_system, iso_date, iso_belongs};
     ghost use Rattle.cal_base.specs.laws.Compatibility.{never_refused};
     ghost use Rattle.cal_base.specs.laws.OffsetListLaws.{offset_list-lawful, offset_list-ranged, offset_list-shifted, offset_list-covered, true-offset};
-    ghost use Rattle.cal_base.specs.laws.OffsetSystemLaws.{packed-dated, packed-equal, packed-ordered};
+    ghost use Rattle.cal_base.specs.laws.OffsetSystemLaws.{kept-dated, kept-equal, kept-ordered};
 
     type DateInner = IsoDateInner;
 
@@ -239,7 +239,7 @@ impl Calendar for Iso {
 
     ghost lawful = { λ _. offset_list-lawful (pos 0) };
 
-    ghost dated = { λ _ d h. packed-dated (pos 0) d.0.packed h };
+    ghost dated = { λ _ d h. kept-dated (pos 0) d.0.parts h };
 
     ghost ranged = { λ _. offset_list-ranged (pos 0) (true-offset (pos 0) refl) };
 
@@ -249,9 +249,9 @@ impl Calendar for Iso {
 
     ghost named = { λ _ t. refl };
 
-    ghost equal_days = { λ _ a b h k. packed-equal (pos 0) a.0.packed b.0.packed h k };
+    ghost equal_days = { λ _ a b h k. kept-equal (pos 0) a.0.parts b.0.parts h k };
 
-    ghost ordered_days = { λ _ a b h k. ap Some (packed-ordered (pos 0) a.0.packed b.0.packed h k) };
+    ghost ordered_days = { λ _ a b h k. ap Some (kept-ordered (pos 0) a.0.parts b.0.parts h k) };
 
     ghost refusal = { λ _ _ h. never_refused h };
 

@@ -9,7 +9,7 @@ ghost use Rattle.cal_base.specs.GregorianList.{gregorian_list, gregorian_month_l
 use crate::gregorian_months::{
     days_from_march, days_in_month, in_march_year, month_and_day_from_march,
 };
-use cal_arith::{PackWithMD, Ymd, can_be_named};
+use cal_arith::{PackWithMD, can_be_named};
 use cal_days::{RataDie, gregorian};
 use date_bytes::solar;
 
@@ -52,13 +52,9 @@ impl PackWithMD for IsoYear {
 
     type Packed = [u8; 4];
 
-    type Kept = [u8; 4];
-
     ghost stored = { λ y. y.number };
 
     ghost unpacked = { λ p. ymd (packed_year p) (month_from 0 p) (day_from 0 p) };
-
-    ghost parts = { λ p. ymd (packed_year p) (month_from 0 p) (day_from 0 p) };
 
     fn pack(self, month: u8, day: u8) -> [u8; 4]
         requires storable { IsFieldYear self.number }
@@ -82,18 +78,6 @@ impl PackWithMD for IsoYear {
 
     fn unpack_day(packed: [u8; 4]) -> u8 {
         solar::unpack_day(packed)
-    }
-
-    fn keep(self, month: u8, day: u8) -> [u8; 4] {
-        self.pack(month, day)
-    }
-
-    fn read(kept: [u8; 4]) -> Ymd<IsoYear> {
-        Ymd {
-            year: IsoYear::unpack_year(kept),
-            month: solar::unpack_month(kept),
-            day: solar::unpack_day(kept),
-        }
     }
 }
 

@@ -1,4 +1,4 @@
--- The year of a date that is kept in four bytes.
+-- The year of a packed date.
 use Rattle.std.specs.Prelude.{ℕ, List}
 use Rattle.date_bytes.specs.Bytes.{year_from}
 use Rattle.cal_coptic.specs.declared.coptic_year.CopticYear.{CopticYear}

@@ -13,8 +13,6 @@ use cal_types::{
     EcmaReferenceYearError, EraYear, LeapStatus, Month, MonthError, MonthInfo, Overflow,
     TinyAsciiStr, UnknownEraError, YearAmbiguity, YearInput,
 };
-use date_bytes::solar;
-use std::cmp::Ordering;
 use std::convert::Infallible;
 use std::sync::ledger::Ledger;
 
@@ -82,10 +80,6 @@ impl YearShapes for Coptic {
 
     fn month_from_ordinal(&self, _year: CopticYear, ordinal_month: u8) -> Month {
         Month::new(ordinal_month)
-    }
-
-    fn order(first: [u8; 4], second: [u8; 4]) -> Ordering {
-        solar::order(first, second)
     }
 
     ghost numbered = { λ s y h. refl };

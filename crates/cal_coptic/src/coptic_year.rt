@@ -83,8 +83,6 @@ impl PackWithMD for CopticYear {
 
     ghost unpacked = { λ p. ymd (coptic_year p) (month_from 0 p) (day_from 0 p) };
 
-    ghost parts = { λ p. ymd (coptic_year p) (month_from 0 p) (day_from 0 p) };
-
     fn pack(self, month: u8, day: u8) -> [u8; 4]
         requires storable { IsFieldYear self.number }
         requires month { (1 ≤ month) × (month ≤ 13) }
@@ -107,18 +105,6 @@ impl PackWithMD for CopticYear {
 
     fn unpack_day(packed: [u8; 4]) -> u8 {
         solar::unpack_day(packed)
-    }
-
-    fn keep(self, month: u8, day: u8) -> [u8; 4] {
-        self.pack(month, day)
-    }
-
-    fn read(kept: [u8; 4]) -> Ymd<CopticYear> {
-        Ymd {
-            year: CopticYear::unpack_year(kept),
-            month: solar::unpack_month(kept),
-            day: solar::unpack_day(kept),
-        }
     }
 }
 

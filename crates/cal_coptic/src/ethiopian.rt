@@ -21,8 +21,6 @@ use cal_types::{
     EcmaReferenceYearError, EraYear, LeapStatus, Month, MonthError, MonthInfo, Overflow,
     TinyAsciiStr, UnknownEraError, YearAmbiguity, YearInput,
 };
-use date_bytes::solar;
-use std::cmp::Ordering;
 use std::convert::Infallible;
 use std::sync::ledger::Ledger;
 
@@ -174,10 +172,6 @@ impl YearShapes for Ethiopian {
 
     fn month_from_ordinal(&self, _year: CopticYear, ordinal_month: u8) -> Month {
         Month::new(ordinal_month)
-    }
-
-    fn order(first: [u8; 4], second: [u8; 4]) -> Ordering {
-        solar::order(first, second)
     }
 
     ghost numbered = { λ s y h. counted_year (coptic_offset s.era_style) y };

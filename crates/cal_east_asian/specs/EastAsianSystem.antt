@@ -16,10 +16,9 @@ use Rattle.cal_base.specs.OwnYears.{own_system}
 use Rattle.cal_east_asian.specs.RuleYears.{rule_year}
 use Rattle.cal_east_asian.specs.EastAsianPlaces.{is_east_asian_month, leap_status_of_place}
 use Rattle.cal_east_asian.specs.EastAsianList.{east_asian_list, east_asian_years}
-use Rattle.cal_east_asian.specs.PackedYears.{kept_year}
+use Rattle.cal_arith.specs.declared.dates.Ymd.{Ymd}
 use Rattle.cal_east_asian.specs.SameYears.{same_year}
 use Rattle.cal_east_asian.specs.declared.east_asian_traditional_year.EastAsianTraditionalYear.{EastAsianTraditionalYear}
-use Rattle.cal_east_asian.specs.declared.east_asian_traditional_year.KeptEastAsianDate.{KeptEastAsianDate}
 
 -- the year of the cycle: year 4 began one
 abbrev pub cyclic_year : ℤ → CyclicYear
@@ -46,11 +45,11 @@ east_asian_system year_of reference =
     own_system (east_asian_years year_of) (east_asian_names reference) (east_asian_leap year_of)
     (λ y. Cyclic (cyclic_year y)) (east_asian_leap_status year_of) (λ y i month. month)
 
--- the date that a packed date stands for
-abbrev pub packed_date : KeptEastAsianDate → Date
-packed_date p = date p.related_iso p.month p.day
+-- the date that a kept date stands for
+abbrev pub kept_date : Ymd EastAsianTraditionalYear → Date
+kept_date d = date d.year.related_iso d.month d.day
 
 -- its year is the rules' year of its number, it is a date of the list, and its day number is in the valid range
-abbrev pub east_asian_belongs : (ℤ → EastAsianTraditionalYear) → KeptEastAsianDate → Bool
-east_asian_belongs year_of p =
-    same_year (year_of p.related_iso) (kept_year p) && is_valid_date (east_asian_list year_of) (packed_date p)
+abbrev pub east_asian_belongs : (ℤ → EastAsianTraditionalYear) → Ymd EastAsianTraditionalYear → Bool
+east_asian_belongs year_of d =
+    same_year (year_of d.year.related_iso) d.year && is_valid_date (east_asian_list year_of) (kept_date d)

@@ -1,4 +1,4 @@
--- The year of a date that is kept or packed.
+-- The year of a packed date.
 use Rattle.std.specs.Prelude.{ℕ, List, pos, ℤ, ◌+ℤ◌}
 use Rattle.date_bytes.specs.Bytes.{year_from}
 use Rattle.date_bytes.specs.EastAsianBytes.{leap_in, long_in, start_in}
@@ -6,17 +6,6 @@ use Rattle.cal_east_asian.specs.EastAsianYear.{january_19}
 use Rattle.cal_east_asian.specs.RuleYears.{rule_year}
 use Rattle.cal_east_asian.specs.laws.PackedLaws.{valid-by, few-by}
 use Rattle.cal_east_asian.specs.declared.east_asian_traditional_year.EastAsianTraditionalYear.{EastAsianTraditionalYear}
-use Rattle.cal_east_asian.specs.declared.east_asian_traditional_year.KeptEastAsianDate.{KeptEastAsianDate}
-
-abbrev pub kept_year : KeptEastAsianDate → EastAsianTraditionalYear
-kept_year k = record {
-  related_iso = k.related_iso;
-  new_year = k.new_year;
-  long_months = k.long_months;
-  leap_month = k.leap_month;
-  valid = k.valid;
-  few = k.few;
-}
 
 -- the number that bytes hold, or the nearest one of a rule year; four bytes hold no other
 abbrev pub year_in : List ℕ → ℤ

@@ -254,7 +254,7 @@ impl<R: Rules> Calendar for EastAsianTraditional<R> {
     ghost use Rattle.cal_base.specs.laws.NumberedYears.{numbered_equal, numbered_ordered};
     ghost use Rattle.cal_east_asian.specs.EastAsianList.{east_asian_list};
     ghost use Rattle.cal_east_asian.specs.laws.EastAsianListLaws.{east_asian_list-lawful};
-    ghost use Rattle.cal_east_asian.specs.EastAsianSystem.{east_asian_system, packed_date, east_asian_belongs};
+    ghost use Rattle.cal_east_asian.specs.EastAsianSystem.{east_asian_system, kept_date, east_asian_belongs};
     ghost use Rattle.cal_east_asian.specs.laws.EastAsianGivenLaws.{belongs-valid, belongs-dated, belongs-shared, day-shared};
     ghost use Rattle.cal_east_asian.specs.laws.EastAsianStartLaws.{years-ranged, days-covered};
 
@@ -266,9 +266,9 @@ impl<R: Rules> Calendar for EastAsianTraditional<R> {
 
     ghost system = { λ s. east_asian_system (R.year_of s.0) (R.reference s.0) };
 
-    ghost date_of = { λ _ d. packed_date d.0.packed };
+    ghost date_of = { λ _ d. kept_date d.0.parts };
 
-    ghost belongs = { λ s d. east_asian_belongs (R.year_of s.0) d.0.packed };
+    ghost belongs = { λ s d. east_asian_belongs (R.year_of s.0) d.0.parts };
 
     ghost compatible = { λ s t. R.compatible s.0 t.0 };
 
@@ -389,7 +389,7 @@ impl<R: Rules> Calendar for EastAsianTraditional<R> {
 
     ghost lawful = { λ s. east_asian_list-lawful (R.year_of s.0) };
 
-    ghost dated = { λ s d h. belongs-dated (R.year_of s.0) d.0.packed h };
+    ghost dated = { λ s d h. belongs-dated (R.year_of s.0) d.0.parts h };
 
     ghost ranged = { λ s t h. (years-ranged (R.year_of s.0) (R.lawful s.0) t h).0 };
 
@@ -400,10 +400,10 @@ impl<R: Rules> Calendar for EastAsianTraditional<R> {
     ghost named = { λ _ t. refl };
 
     ghost equal_days = { λ s a b h k. numbered_equal (east_asian_list (R.year_of s.0)) _ _
-        (belongs-valid (R.year_of s.0) a.0.packed h) (belongs-valid (R.year_of s.0) b.0.packed k) };
+        (belongs-valid (R.year_of s.0) a.0.parts h) (belongs-valid (R.year_of s.0) b.0.parts k) };
 
     ghost ordered_days = { λ s a b h k. numbered_ordered (east_asian_list (R.year_of s.0)) _ _
-        (belongs-valid (R.year_of s.0) a.0.packed h) (belongs-valid (R.year_of s.0) b.0.packed k) };
+        (belongs-valid (R.year_of s.0) a.0.parts h) (belongs-valid (R.year_of s.0) b.0.parts k) };
 
     ghost refusal = { λ s t h. R.refusal s.0 t.0 h };
 
@@ -414,10 +414,10 @@ impl<R: Rules> Calendar for EastAsianTraditional<R> {
     ghost compatible_on = { λ s t u h k. R.alike.congr s.0 t.0 u.0 h ∙ k };
 
     ghost shared = { λ s t d c h. belongs-shared (R.year_of s.0) (R.year_of t.0) (R.lawful s.0) (R.lawful t.0)
-        (λ y r. R.shared s.0 t.0 y c r) d.0.packed h };
+        (λ y r. R.shared s.0 t.0 y c r) d.0.parts h };
 
     ghost shared_day = { λ s t d c h. day-shared (R.year_of s.0) (R.year_of t.0) (R.lawful s.0) (R.lawful t.0)
-        (λ y r. R.shared s.0 t.0 y c r) d.0.packed h };
+        (λ y r. R.shared s.0 t.0 y c r) d.0.parts h };
 }
 
 impl<R: Rules> AsCalendar for EastAsianTraditional<R> {

@@ -12,7 +12,7 @@ ghost use Rattle.cal_east_asian.specs.MonthStarts.{AreYearStarts, HaveLengthsOf,
 
 use crate::east_asian_months::{days_in_month, months_in_year};
 use crate::month_starts::{first_day, is_new_year, leap_place, long_months};
-use cal_arith::{PackWithMD, Ymd};
+use cal_arith::PackWithMD;
 use cal_days::{RataDie, gregorian};
 use date_bytes::east_asian;
 use std::cmp::Ordering;
@@ -221,55 +221,18 @@ fn days_after_january_19(related_iso: i32, new_year: i64) -> u8
     (new_year - january_19(related_iso)) as u8
 }
 
-/// A year of a Chinese or Korean calendar that the fields of a date may name, the place of a month in it, and a day of
-/// that month, both from 1.
-///
-/// The first day of such a year fits 32 bits, where that of any year may need more. It is kept as it is, since to find it
-/// from the days after January 19 that the packed form has takes longer than a day number itself.
-#[derive(Clone, Copy, Debug)]
-pub struct KeptEastAsianDate {
-    related_iso: i32,
-    new_year: i32,
-    long_months: u16,
-    leap_month: u8,
-    month: u8,
-    day: u8,
-    ghost valid: { IsEastAsianYear related_iso new_year leap_month },
-    ghost few: { long_months < 2 ^ months_of_year leap_month },
-}
-
-impl KeptEastAsianDate {
-    ghost use Rattle.cal_east_asian.specs.PackedYears.{kept_year};
-
-    /// The year.
-    fn year(self) -> EastAsianTraditionalYear
-        ensures { result ≡ kept_year self }
-    {
-        EastAsianTraditionalYear {
-            related_iso: self.related_iso,
-            new_year: i64::from(self.new_year),
-            long_months: self.long_months,
-            leap_month: self.leap_month,
-        }
-    }
-}
-
 impl PackWithMD for EastAsianTraditionalYear {
     ghost use Rattle.cal_days.specs.Day.{IsFieldYear};
     ghost use Rattle.cal_arith.specs.Dates.{ymd};
     ghost use Rattle.date_bytes.specs.Bytes.{day_from, month_from};
     ghost use Rattle.date_bytes.specs.EastAsianBytes.{east_asian_bytes};
-    ghost use Rattle.cal_east_asian.specs.PackedYears.{kept_year, packed_year};
+    ghost use Rattle.cal_east_asian.specs.PackedYears.{packed_year};
 
     type Packed = [u8; 7];
-
-    type Kept = KeptEastAsianDate;
 
     ghost stored = { λ y. y.related_iso };
 
     ghost unpacked = { λ p. ymd (packed_year p) (month_from 3 p) (day_from 3 p) };
-
-    ghost parts = { λ k. ymd (kept_year k) k.month k.day };
 
     fn pack(self, month: u8, day: u8) -> [u8; 7]
         requires storable { IsFieldYear self.related_iso }
@@ -304,24 +267,5 @@ impl PackWithMD for EastAsianTraditionalYear {
 
     fn unpack_day(packed: [u8; 7]) -> u8 {
         east_asian::unpack_day(packed)
-    }
-
-    fn keep(self, month: u8, day: u8) -> KeptEastAsianDate {
-        KeptEastAsianDate {
-            related_iso: self.related_iso,
-            new_year: self.new_year as i32,
-            long_months: self.long_months,
-            leap_month: self.leap_month,
-            month,
-            day,
-        }
-    }
-
-    fn read(kept: KeptEastAsianDate) -> Ymd<EastAsianTraditionalYear> {
-        Ymd {
-            year: kept.year(),
-            month: kept.month,
-            day: kept.day,
-        }
     }
 }

@@ -26,7 +26,7 @@ pub use china::{China, ChineseTraditional};
 pub use east_asian_row::EastAsianRow;
 pub use east_asian_table::EastAsianTable;
 pub use east_asian_traditional::{ChineseDateInner, EastAsianTraditional};
-pub use east_asian_traditional_year::{EastAsianTraditionalYear, KeptEastAsianDate};
+pub use east_asian_traditional_year::EastAsianTraditionalYear;
 pub use korea::{Korea, KoreanTraditional};
 pub use mean_years::mean_year;
 pub use qing_years::qing_year;

@@ -90,7 +90,7 @@ impl Calendar for Buddhist {
     ghost use Rattle.cal_algorithms.specs.declared.algorithm.CalendarAlgorithm.TheVariants as algorithms;
     ghost use Rattle.cal_base.specs.laws.Compatibility.{never_refused};
     ghost use Rattle.cal_base.specs.laws.OffsetListLaws.{offset_list-lawful, offset_list-ranged, offset_list-shifted, offset_list-covered, true-offset};
-    ghost use Rattle.cal_base.specs.laws.OffsetSystemLaws.{packed-dated, packed-equal, packed-ordered};
+    ghost use Rattle.cal_base.specs.laws.OffsetSystemLaws.{kept-dated, kept-equal, kept-ordered};
     ghost use Rattle.cal_gregory.specs.BuddhistSystem.{buddhist_system, buddhist_date, buddhist_belongs};
     ghost use Rattle.cal_gregory.specs.BuddhistEra.{buddhist_offset};
 
@@ -233,7 +233,7 @@ impl Calendar for Buddhist {
 
     ghost lawful = { λ _. offset_list-lawful buddhist_offset };
 
-    ghost dated = { λ _ d h. packed-dated buddhist_offset d.0.packed h };
+    ghost dated = { λ _ d h. kept-dated buddhist_offset d.0.parts h };
 
     ghost ranged = { λ _. offset_list-ranged buddhist_offset (true-offset buddhist_offset refl) };
 
@@ -243,9 +243,9 @@ impl Calendar for Buddhist {
 
     ghost named = { λ _ t. refl };
 
-    ghost equal_days = { λ _ a b h k. packed-equal buddhist_offset a.0.packed b.0.packed h k };
+    ghost equal_days = { λ _ a b h k. kept-equal buddhist_offset a.0.parts b.0.parts h k };
 
-    ghost ordered_days = { λ _ a b h k. ap Some (packed-ordered buddhist_offset a.0.packed b.0.packed h k) };
+    ghost ordered_days = { λ _ a b h k. ap Some (kept-ordered buddhist_offset a.0.parts b.0.parts h k) };
 
     ghost refusal = { λ _ _ h. never_refused h };
 

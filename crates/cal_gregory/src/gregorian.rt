@@ -122,7 +122,7 @@ impl Calendar for Gregorian {
     ghost use Rattle.cal_algorithms.specs.declared.algorithm.CalendarAlgorithm.TheVariants.{Gregory};
     ghost use Rattle.cal_base.specs.laws.Compatibility.{never_refused};
     ghost use Rattle.cal_base.specs.laws.OffsetListLaws.{offset_list-lawful, offset_list-ranged, offset_list-shifted, offset_list-covered, true-offset};
-    ghost use Rattle.cal_base.specs.laws.OffsetSystemLaws.{packed-dated, packed-equal, packed-ordered};
+    ghost use Rattle.cal_base.specs.laws.OffsetSystemLaws.{kept-dated, kept-equal, kept-ordered};
     ghost use Rattle.cal_gregory.specs.GregorianSystem.{gregorian_system, gregorian_date, gregorian_belongs};
     ghost use Rattle.cal_gregory.specs.laws.CommonEraLaws.{common_era-named};
 
@@ -265,7 +265,7 @@ impl Calendar for Gregorian {
 
     ghost lawful = { λ _. offset_list-lawful (pos 0) };
 
-    ghost dated = { λ _ d h. packed-dated (pos 0) d.0.packed h };
+    ghost dated = { λ _ d h. kept-dated (pos 0) d.0.parts h };
 
     ghost ranged = { λ _. offset_list-ranged (pos 0) (true-offset (pos 0) refl) };
 
@@ -275,9 +275,9 @@ impl Calendar for Gregorian {
 
     ghost named = { λ _ t. common_era-named t };
 
-    ghost equal_days = { λ _ a b h k. packed-equal (pos 0) a.0.packed b.0.packed h k };
+    ghost equal_days = { λ _ a b h k. kept-equal (pos 0) a.0.parts b.0.parts h k };
 
-    ghost ordered_days = { λ _ a b h k. ap Some (packed-ordered (pos 0) a.0.packed b.0.packed h k) };
+    ghost ordered_days = { λ _ a b h k. ap Some (kept-ordered (pos 0) a.0.parts b.0.parts h k) };
 
     ghost refusal = { λ _ _ h. never_refused h };
 

@@ -128,7 +128,7 @@ impl Calendar for Roc {
     ghost use Rattle.cal_algorithms.specs.declared.algorithm.CalendarAlgorithm.TheVariants as algorithms;
     ghost use Rattle.cal_base.specs.laws.Compatibility.{never_refused};
     ghost use Rattle.cal_base.specs.laws.OffsetListLaws.{offset_list-lawful, offset_list-ranged, offset_list-shifted, offset_list-covered, true-offset};
-    ghost use Rattle.cal_base.specs.laws.OffsetSystemLaws.{packed-dated, packed-equal, packed-ordered};
+    ghost use Rattle.cal_base.specs.laws.OffsetSystemLaws.{kept-dated, kept-equal, kept-ordered};
     ghost use Rattle.cal_gregory.specs.RocSystem.{roc_system, roc_date, roc_belongs};
     ghost use Rattle.cal_gregory.specs.RocEra.{roc_offset};
     ghost use Rattle.cal_gregory.specs.laws.RocEraLaws.{roc_era-named};
@@ -272,7 +272,7 @@ impl Calendar for Roc {
 
     ghost lawful = { λ _. offset_list-lawful roc_offset };
 
-    ghost dated = { λ _ d h. packed-dated roc_offset d.0.packed h };
+    ghost dated = { λ _ d h. kept-dated roc_offset d.0.parts h };
 
     ghost ranged = { λ _. offset_list-ranged roc_offset (true-offset roc_offset refl) };
 
@@ -282,9 +282,9 @@ impl Calendar for Roc {
 
     ghost named = { λ _ t. roc_era-named t };
 
-    ghost equal_days = { λ _ a b h k. packed-equal roc_offset a.0.packed b.0.packed h k };
+    ghost equal_days = { λ _ a b h k. kept-equal roc_offset a.0.parts b.0.parts h k };
 
-    ghost ordered_days = { λ _ a b h k. ap Some (packed-ordered roc_offset a.0.packed b.0.packed h k) };
+    ghost ordered_days = { λ _ a b h k. ap Some (kept-ordered roc_offset a.0.parts b.0.parts h k) };
 
     ghost refusal = { λ _ _ h. never_refused h };
 

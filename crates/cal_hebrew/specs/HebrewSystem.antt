@@ -11,8 +11,6 @@ use Rattle.cal_hebrew.specs.HebrewEra.{hebrew_era_year}
 use Rattle.cal_hebrew.specs.HebrewNames.{hebrew_names}
 use Rattle.cal_hebrew.specs.HebrewList.{hebrew_list, hebrew_years}
 use Rattle.cal_hebrew.specs.HebrewPlaces.{leap_status_of_place, formatted_month_of_place}
-use Rattle.date_bytes.specs.Bytes.{day_from, month_from, year_from}
-use Rattle.cal_hebrew.specs.PackedYears.{packed_year}
 use Rattle.cal_hebrew.specs.declared.hebrew_year.HebrewYear.{HebrewYear}
 use Rattle.cal_hebrew.specs.declared.hebrew.HebrewDateInner.{HebrewDateInner}
 
@@ -35,8 +33,8 @@ has_hebrew_length y = nat_eq (hebrew_year_length y.extended_year) y.length
 
 -- the date that an inner date stands for
 abbrev pub hebrew_date : HebrewDateInner → Date
-hebrew_date d = date (year_from 1 d.0.packed) (month_from 1 d.0.packed) (day_from 1 d.0.packed)
+hebrew_date d = date d.0.parts.year.extended_year d.0.parts.month d.0.parts.day
 
 -- its year is the calendar's, it is a date of the list, and its day number is in the valid range
 abbrev pub hebrew_belongs : HebrewDateInner → Bool
-hebrew_belongs d = has_hebrew_length (packed_year d.0.packed) && is_valid_date hebrew_list (hebrew_date d)
+hebrew_belongs d = has_hebrew_length d.0.parts.year && is_valid_date hebrew_list (hebrew_date d)

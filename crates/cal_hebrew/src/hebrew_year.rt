@@ -7,7 +7,7 @@ ghost use Rattle.std.specs.Ordering.{int_cmp, int_eq, on, as_partial_cmp};
 ghost use Rattle.std.specs.Hash as fed;
 ghost use Rattle.date_bytes.specs.HebrewBytes.{class_of, length_of};
 
-use cal_arith::{PackWithMD, Ymd};
+use cal_arith::PackWithMD;
 use date_bytes::hebrew;
 use std::cmp::Ordering;
 use std::hash::{Hash, Hasher};
@@ -87,8 +87,6 @@ impl PackWithMD for HebrewYear {
 
     ghost unpacked = { λ p. ymd (packed_year p) (month_from 1 p) (day_from 1 p) };
 
-    ghost parts = { λ p. ymd (packed_year p) (month_from 1 p) (day_from 1 p) };
-
     fn pack(self, month: u8, day: u8) -> [u8; 5]
         requires storable { IsFieldYear self.extended_year }
         requires month { (1 ≤ month) × (month ≤ 13) }
@@ -112,17 +110,5 @@ impl PackWithMD for HebrewYear {
 
     fn unpack_day(packed: [u8; 5]) -> u8 {
         hebrew::unpack_day(packed)
-    }
-
-    fn keep(self, month: u8, day: u8) -> [u8; 5] {
-        self.pack(month, day)
-    }
-
-    fn read(kept: [u8; 5]) -> Ymd<HebrewYear> {
-        Ymd {
-            year: HebrewYear::unpack_year(kept),
-            month: hebrew::unpack_month(kept),
-            day: hebrew::unpack_day(kept),
-        }
     }
 }

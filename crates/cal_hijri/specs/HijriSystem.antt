@@ -9,9 +9,8 @@ use Rattle.cal_model.specs.CalendarSystem.{CalendarSystem}
 use Rattle.cal_base.specs.OwnYears.{own_system}
 use Rattle.cal_hijri.specs.HijriList.{hijri_list, hijri_years, has_parts_of}
 use Rattle.cal_hijri.specs.HijriNames.{hijri_era_year, hijri_names}
-use Rattle.cal_hijri.specs.PackedYears.{kept_year}
+use Rattle.cal_arith.specs.declared.dates.Ymd.{Ymd}
 use Rattle.cal_hijri.specs.declared.hijri_year.HijriYear.{HijriYear}
-use Rattle.cal_hijri.specs.declared.hijri_year.KeptHijriDate.{KeptHijriDate}
 
 -- a leap year has 355 days: seven of its months have 30
 abbrev pub hijri_leap : (ℤ → HijriYear) → ℤ → Bool
@@ -23,11 +22,11 @@ hijri_system year_of reference =
     own_system (hijri_years year_of) (hijri_names reference) (hijri_leap year_of) (λ y. Era (hijri_era_year y))
     (λ _ _. Normal) (λ _ _ month. month)
 
--- the date that a packed date stands for
-abbrev pub packed_date : KeptHijriDate → Date
-packed_date p = date p.extended_year p.month p.day
+-- the date that a kept date stands for
+abbrev pub kept_date : Ymd HijriYear → Date
+kept_date d = date d.year.extended_year d.month d.day
 
 -- its year is the calendar's year of its number, it is a date of the list, and its day number is in the valid range
-abbrev pub hijri_belongs : (ℤ → HijriYear) → KeptHijriDate → Bool
-hijri_belongs year_of p =
-    has_parts_of (year_of p.extended_year) (kept_year p) && is_valid_date (hijri_list year_of) (packed_date p)
+abbrev pub hijri_belongs : (ℤ → HijriYear) → Ymd HijriYear → Bool
+hijri_belongs year_of d =
+    has_parts_of (year_of d.year.extended_year) d.year && is_valid_date (hijri_list year_of) (kept_date d)

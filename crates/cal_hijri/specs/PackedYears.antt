@@ -1,20 +1,10 @@
--- The year of a date that is kept or packed.
+-- The year of a packed date.
 use Rattle.std.specs.Prelude.{ℕ, List, ◌+ℤ◌}
 use Rattle.cal_days.specs.Islamic.{islamic_mean_start}
 use Rattle.date_bytes.specs.Bytes.{year_from}
 use Rattle.date_bytes.specs.HijriBytes.{long_in, offset_in}
 use Rattle.cal_hijri.specs.laws.PackedLaws.{near-by, twelve-by}
 use Rattle.cal_hijri.specs.declared.hijri_year.HijriYear.{HijriYear}
-use Rattle.cal_hijri.specs.declared.hijri_year.KeptHijriDate.{KeptHijriDate}
-
-abbrev pub kept_year : KeptHijriDate → HijriYear
-kept_year k = record {
-  first_day = k.first_day;
-  extended_year = k.extended_year;
-  long_months = k.long_months;
-  near = k.near;
-  twelve = k.twelve;
-}
 
 -- the first day is so many days after the mean start
 abbrev pub packed_year : List ℕ → HijriYear

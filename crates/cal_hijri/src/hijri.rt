@@ -325,7 +325,7 @@ impl<R: Rules> Calendar for Hijri<R> {
     ghost use Rattle.cal_hijri.specs.HijriList.{hijri_list};
     ghost use Rattle.cal_hijri.specs.laws.HijriShapes.{hijri_list-lawful};
     ghost use Rattle.cal_hijri.specs.laws.HijriNameLaws.{years-named};
-    ghost use Rattle.cal_hijri.specs.HijriSystem.{hijri_system, packed_date, hijri_belongs};
+    ghost use Rattle.cal_hijri.specs.HijriSystem.{hijri_system, kept_date, hijri_belongs};
     ghost use Rattle.cal_hijri.specs.laws.HijriSystemLaws.{alike-back, alike-on, belongs-valid, belongs-dated, belongs-shared, day-shared};
     ghost use Rattle.cal_hijri.specs.laws.HijriBounds.{years-ranged, days-covered};
 
@@ -337,9 +337,9 @@ impl<R: Rules> Calendar for Hijri<R> {
 
     ghost system = { λ s. hijri_system (R.year_of s.0) (R.reference s.0) };
 
-    ghost date_of = { λ _ d. packed_date d.0.packed };
+    ghost date_of = { λ _ d. kept_date d.0.parts };
 
-    ghost belongs = { λ s d. hijri_belongs (R.year_of s.0) d.0.packed };
+    ghost belongs = { λ s d. hijri_belongs (R.year_of s.0) d.0.parts };
 
     ghost compatible = { λ s t. R.compatible s.0 t.0 };
 
@@ -460,7 +460,7 @@ impl<R: Rules> Calendar for Hijri<R> {
 
     ghost lawful = { λ s. hijri_list-lawful (R.year_of s.0) };
 
-    ghost dated = { λ s d h. belongs-dated (R.year_of s.0) d.0.packed h };
+    ghost dated = { λ s d h. belongs-dated (R.year_of s.0) d.0.parts h };
 
     ghost ranged = { λ s t h. (years-ranged (R.year_of s.0) (R.numbered s.0) (R.joins s.0) t h).0 };
 
@@ -471,10 +471,10 @@ impl<R: Rules> Calendar for Hijri<R> {
     ghost named = { λ _ t. years-named t.year };
 
     ghost equal_days = { λ s a b h k. numbered_equal (hijri_list (R.year_of s.0)) _ _
-        (belongs-valid (R.year_of s.0) a.0.packed h) (belongs-valid (R.year_of s.0) b.0.packed k) };
+        (belongs-valid (R.year_of s.0) a.0.parts h) (belongs-valid (R.year_of s.0) b.0.parts k) };
 
     ghost ordered_days = { λ s a b h k. numbered_ordered (hijri_list (R.year_of s.0)) _ _
-        (belongs-valid (R.year_of s.0) a.0.packed h) (belongs-valid (R.year_of s.0) b.0.packed k) };
+        (belongs-valid (R.year_of s.0) a.0.parts h) (belongs-valid (R.year_of s.0) b.0.parts k) };
 
     ghost refusal = { λ s t h. R.refusal s.0 t.0 h };
 
@@ -485,10 +485,10 @@ impl<R: Rules> Calendar for Hijri<R> {
     ghost compatible_on = { λ s t u h k. alike-on R.alike s.0 t.0 u.0 h k };
 
     ghost shared = { λ s t d c h. belongs-shared (R.year_of s.0) (R.year_of t.0) (R.numbered s.0) (R.joins s.0)
-        (R.joins t.0) (λ y r. R.shared s.0 t.0 y c r) d.0.packed h };
+        (R.joins t.0) (λ y r. R.shared s.0 t.0 y c r) d.0.parts h };
 
     ghost shared_day = { λ s t d c h. day-shared (R.year_of s.0) (R.year_of t.0) (R.numbered s.0) (R.joins s.0)
-        (R.joins t.0) (λ y r. R.shared s.0 t.0 y c r) d.0.packed h };
+        (R.joins t.0) (λ y r. R.shared s.0 t.0 y c r) d.0.parts h };
 }
 
 impl<R: Rules> AsCalendar for Hijri<R> {

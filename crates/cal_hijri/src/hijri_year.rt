@@ -9,7 +9,7 @@ ghost use Rattle.cal_days.specs.Day.{IsBetween, IsRuleYear};
 ghost use Rattle.cal_hijri.specs.MonthStarts.{AreMonthStarts, HasLengthsOf, HaveMonthLengths, start_at};
 ghost use Rattle.cal_hijri.specs.HijriMonths.{IsNearMean, month_days, prior_days};
 
-use cal_arith::{PackWithMD, Ymd};
+use cal_arith::PackWithMD;
 use cal_days::{RataDie, islamic};
 use date_bytes::hijri;
 use std::cmp::Ordering;
@@ -196,37 +196,6 @@ impl Hash for HijriYear {
     }
 }
 
-/// A date of a Hijri calendar as it is kept: its year's number, first day and months, the place of its month, and the
-/// day of that month, both from 1.
-///
-/// The dates of years from -1040000 to 1040000 are kept, so 32 bits hold the first day. It is kept as it is, since to
-/// find it from the offset that the packed form has takes as long as a day number itself.
-#[derive(Clone, Copy, Debug)]
-pub struct KeptHijriDate {
-    extended_year: i32,
-    first_day: i32,
-    long_months: u16,
-    month: u8,
-    day: u8,
-    ghost near: { IsNearMean extended_year first_day },
-    ghost twelve: { long_months < 4096 },
-}
-
-impl KeptHijriDate {
-    ghost use Rattle.cal_hijri.specs.PackedYears.{kept_year};
-
-    /// The year.
-    fn year(self) -> HijriYear
-        ensures { result ≡ kept_year self }
-    {
-        HijriYear {
-            first_day: i64::from(self.first_day),
-            extended_year: self.extended_year,
-            long_months: self.long_months,
-        }
-    }
-}
-
 impl PackWithMD for HijriYear {
     ghost use Rattle.std.specs.Prelude.{◌-ℤ◌, ◌≤◌};
     ghost use Rattle.cal_days.specs.Day.{IsFieldYear};
@@ -234,17 +203,13 @@ impl PackWithMD for HijriYear {
     ghost use Rattle.cal_arith.specs.Dates.{ymd};
     ghost use Rattle.date_bytes.specs.Bytes.{day_from, month_from};
     ghost use Rattle.date_bytes.specs.HijriBytes.{hijri_bytes};
-    ghost use Rattle.cal_hijri.specs.PackedYears.{kept_year, packed_year};
+    ghost use Rattle.cal_hijri.specs.PackedYears.{packed_year};
 
     type Packed = [u8; 6];
-
-    type Kept = KeptHijriDate;
 
     ghost stored = { λ y. y.extended_year };
 
     ghost unpacked = { λ p. ymd (packed_year p) (month_from 2 p) (day_from 2 p) };
-
-    ghost parts = { λ k. ymd (kept_year k) k.month k.day };
 
     fn pack(self, month: u8, day: u8) -> [u8; 6]
         requires storable { IsFieldYear self.extended_year }
@@ -280,23 +245,5 @@ impl PackWithMD for HijriYear {
 
     fn unpack_day(packed: [u8; 6]) -> u8 {
         hijri::unpack_day(packed)
-    }
-
-    fn keep(self, month: u8, day: u8) -> KeptHijriDate {
-        KeptHijriDate {
-            extended_year: self.extended_year,
-            first_day: self.first_day as i32,
-            long_months: self.long_months,
-            month,
-            day,
-        }
-    }
-
-    fn read(kept: KeptHijriDate) -> Ymd<HijriYear> {
-        Ymd {
-            year: kept.year(),
-            month: kept.month,
-            day: kept.day,
-        }
     }
 }

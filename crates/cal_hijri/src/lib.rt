@@ -17,7 +17,7 @@ pub use astronomical_simulation::AstronomicalSimulation;
 pub use hijri::{Hijri, HijriDateInner};
 pub use hijri_row::HijriRow;
 pub use hijri_table::HijriTable;
-pub use hijri_year::{HijriYear, KeptHijriDate};
+pub use hijri_year::HijriYear;
 pub use rules::Rules;
 pub use tabular_algorithm::{
     TabularAlgorithm, TabularAlgorithmEpoch, TabularAlgorithmLeapYears, epoch_of, leap_years_of,

@@ -1,4 +1,4 @@
--- The years of dates that are kept in four bytes.
+-- The years of packed dates.
 use Rattle.std.specs.Prelude.{ℕ, List}
 use Rattle.date_bytes.specs.Bytes.{year_from}
 use Rattle.cal_julian.specs.declared.julian.JulianYear.{JulianYear}

@@ -25,7 +25,6 @@ use cal_types::{
     TinyAsciiStr, UnknownEraError, YearAmbiguity, YearInput,
 };
 use date_bytes::solar;
-use std::cmp::Ordering;
 use std::convert::Infallible;
 use std::sync::ledger::Ledger;
 
@@ -106,8 +105,6 @@ impl PackWithMD for IndianYear {
 
     ghost unpacked = { λ p. ymd (indian_year p) (month_from 0 p) (day_from 0 p) };
 
-    ghost parts = { λ p. ymd (indian_year p) (month_from 0 p) (day_from 0 p) };
-
     fn pack(self, month: u8, day: u8) -> [u8; 4]
         requires storable { IsFieldYear self.extended_year }
         requires month { (1 ≤ month) × (month ≤ 13) }
@@ -130,18 +127,6 @@ impl PackWithMD for IndianYear {
 
     fn unpack_day(packed: [u8; 4]) -> u8 {
         solar::unpack_day(packed)
-    }
-
-    fn keep(self, month: u8, day: u8) -> [u8; 4] {
-        self.pack(month, day)
-    }
-
-    fn read(kept: [u8; 4]) -> Ymd<IndianYear> {
-        Ymd {
-            year: IndianYear::unpack_year(kept),
-            month: solar::unpack_month(kept),
-            day: solar::unpack_day(kept),
-        }
     }
 }
 
@@ -314,10 +299,6 @@ impl YearShapes for Indian {
         _overflow: Overflow,
     ) -> Option<u8> {
         Some(ordinal_month)
-    }
-
-    fn order(first: [u8; 4], second: [u8; 4]) -> Ordering {
-        solar::order(first, second)
     }
 
     ghost numbered = { λ s y h. refl };

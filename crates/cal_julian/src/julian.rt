@@ -27,7 +27,6 @@ use cal_types::{
     TinyAsciiStr, UnknownEraError, YearAmbiguity, YearInput,
 };
 use date_bytes::solar;
-use std::cmp::Ordering;
 use std::convert::Infallible;
 use std::sync::ledger::Ledger;
 
@@ -98,8 +97,6 @@ impl PackWithMD for JulianYear {
 
     ghost unpacked = { λ p. ymd (julian_year p) (month_from 0 p) (day_from 0 p) };
 
-    ghost parts = { λ p. ymd (julian_year p) (month_from 0 p) (day_from 0 p) };
-
     fn pack(self, month: u8, day: u8) -> [u8; 4]
         requires storable { IsFieldYear self.extended_year }
         requires month { (1 ≤ month) × (month ≤ 13) }
@@ -122,18 +119,6 @@ impl PackWithMD for JulianYear {
 
     fn unpack_day(packed: [u8; 4]) -> u8 {
         solar::unpack_day(packed)
-    }
-
-    fn keep(self, month: u8, day: u8) -> [u8; 4] {
-        self.pack(month, day)
-    }
-
-    fn read(kept: [u8; 4]) -> Ymd<JulianYear> {
-        Ymd {
-            year: JulianYear::unpack_year(kept),
-            month: solar::unpack_month(kept),
-            day: solar::unpack_day(kept),
-        }
     }
 }
 
@@ -223,10 +208,6 @@ impl YearShapes for Julian {
         _overflow: Overflow,
     ) -> Option<u8> {
         Some(ordinal_month)
-    }
-
-    fn order(first: [u8; 4], second: [u8; 4]) -> Ordering {
-        solar::order(first, second)
     }
 
     ghost numbered = { λ s y h. refl };

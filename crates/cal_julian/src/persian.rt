@@ -84,8 +84,6 @@ impl PackWithMD for PersianYear {
 
     ghost unpacked = { λ p. ymd (persian_year p) (month_from 0 p) (day_from 0 p) };
 
-    ghost parts = { λ p. ymd (persian_year p) (month_from 0 p) (day_from 0 p) };
-
     fn pack(self, month: u8, day: u8) -> [u8; 4]
         requires storable { IsFieldYear self.extended_year }
         requires month { (1 ≤ month) × (month ≤ 13) }
@@ -108,18 +106,6 @@ impl PackWithMD for PersianYear {
 
     fn unpack_day(packed: [u8; 4]) -> u8 {
         solar::unpack_day(packed)
-    }
-
-    fn keep(self, month: u8, day: u8) -> [u8; 4] {
-        self.pack(month, day)
-    }
-
-    fn read(kept: [u8; 4]) -> Ymd<PersianYear> {
-        Ymd {
-            year: PersianYear::unpack_year(kept),
-            month: solar::unpack_month(kept),
-            day: solar::unpack_day(kept),
-        }
     }
 }
 
@@ -192,13 +178,6 @@ impl<'t> YearShapes for Persian<'t> {
         _overflow: Overflow,
     ) -> Option<u8> {
         Some(ordinal_month)
-    }
-
-    fn order(first: [u8; 4], second: [u8; 4]) -> Ordering
-        ensures { result ≡ then_cmp (on (year_from 0) int_cmp) (then_cmp (on (month_from 0) nat_cmp)
-            (on (day_from 0) nat_cmp)) first second }
-    {
-        solar::order(first, second)
     }
 
     ghost numbered = { λ s y h. refl };

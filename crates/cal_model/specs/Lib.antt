@@ -7,6 +7,7 @@ pub mod CalendarSystem
 pub mod Difference
 pub mod WithinYear
 pub mod Adding
+pub mod Until
 pub mod Constructing
 pub mod Placing
 pub mod DateOrder

@@ -8,7 +8,7 @@ use Rattle.icu_calendar.specs.declared.GregorianDateInner.{GregorianDateInner}
 use Rattle.icu_calendar.specs.CommonEraLaws.{common_era-named}
 use Rattle.icu_calendar.specs.GregorianSystem.{gregorian_belongs, gregorian_date, gregorian_system}
 use Rattle.icu_calendar.specs.OffsetListLaws.{offset_list-ranged, true-offset}
-use Rattle.icu_calendar.specs.OffsetSystemLaws.{packed-dated}
+use Rattle.icu_calendar.specs.OffsetSystemLaws.{kept-dated}
 use Rattle.icu_calendar.specs.declared.CalendarAlgorithm.{CalendarAlgorithm}
 use Rattle.icu_calendar.specs.CalendarList.{CalendarList, Date, day_number}
 use Rattle.icu_calendar.specs.IsoSystem.{iso_list}
@@ -39,4 +39,4 @@ pub named-year : (info : YearInfo) (t : Date) (y : ℤ) → y ≡ extended_year_
 named-year info t y e h = e ∙ (ap extended_year_of h ∙ common_era-named t)
 
 pub small-year : (d : GregorianDateInner) → IsTrue (gregorian_belongs d) → IsFieldYear (gregorian_date d).year
-small-year d h = offset_list-ranged (pos 0) (true-offset (pos 0) refl) (gregorian_date d) (packed-dated (pos 0) d.0.packed h)
+small-year d h = offset_list-ranged (pos 0) (true-offset (pos 0) refl) (gregorian_date d) (kept-dated (pos 0) d.0.parts h)

@@ -2,7 +2,7 @@
 
 ghost use Rattle.std.specs.Prelude.{◌≡◌, ◌↔◌, false, IsOk, IfOk};
 ghost use Rattle.icu_calendar.specs.HijriLengthening.{IsNotAdded, Lengthens, list_with};
-ghost use Rattle.icu_calendar.specs.HijriSystem.{packed_date};
+ghost use Rattle.icu_calendar.specs.HijriSystem.{kept_date};
 ghost use Rattle.icu_calendar.specs.Rebasing.{IsRebased};
 
 use icu_calendar::laws::umm_al_qura_date_kept;
@@ -19,10 +19,10 @@ pub fn updated_date<'u>(
 ) -> Result<Rebased<Hijri<UmmAlQura<'u>>>, LengthenFault>
     ensures exact { IsOk result ↔ Lengthens table.now.rows.now rows.now.hijri.items }
     ensures rebased { let old = stored.now.calendar.0.table.rows.now in let longer = rows.now.hijri.items in
-        let t = packed_date stored.now.inner.0.packed in
-        IfOk result (λ r. IsRebased (list_with old) (list_with longer) t (packed_date r.date.inner.0.packed) r.moved) }
+        let t = kept_date stored.now.inner.0.parts in
+        IfOk result (λ r. IsRebased (list_with old) (list_with longer) t (kept_date r.date.inner.0.parts) r.moved) }
     ensures stays { let old = table.now.rows.now in let longer = rows.now.hijri.items in
-        let year = (packed_date stored.now.inner.0.packed).year in
+        let year = (kept_date stored.now.inner.0.parts).year in
         stored.now.calendar.0.table.rows.now ≡ old → IsNotAdded old longer year
         → IfOk result (λ r. r.moved ≡ false) }
 {

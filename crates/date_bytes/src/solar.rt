@@ -1,11 +1,8 @@
 //! A year, the place of a month in it, and a day of that month, in four bytes.
 
 ghost use Rattle.std.specs.Prelude.{◌≡◌, ◌≤◌, pos, neg_ℤ};
-ghost use Rattle.std.specs.Ordering.{int_cmp, nat_cmp, on, then_cmp};
 ghost use Rattle.cal_days.specs.Day.{IsBetween, IsFieldYear};
 ghost use Rattle.date_bytes.specs.Bytes.{date_bytes, date_number, day_from, month_from, year_from};
-
-use std::cmp::Ordering;
 
 /// Packs a year from -1040000 to 1040000 with a month's place from 1 to 13 and a day from 1 to 31: the bytes of
 /// `512 * year + 32 * month + day`, the lowest first. 2024-03-01 gives `[97, 208, 15, 0]`.
@@ -51,19 +48,4 @@ pub fn unpack_day(packed: [u8; 4]) -> u8
     ensures { result ≡ day_from 0 packed }
 {
     packed[0] & 31
-}
-
-/// The order of two packed dates: by year, then the place of the month, then the day. It is that of their numbers.
-pub fn order(first: [u8; 4], second: [u8; 4]) -> Ordering
-    ensures { result ≡ then_cmp (on (year_from 0) int_cmp) (then_cmp (on (month_from 0) nat_cmp)
-        (on (day_from 0) nat_cmp)) first second }
-{
-    number(first).cmp(&number(second))
-}
-
-/// The number of a packed date.
-fn number(packed: [u8; 4]) -> i32
-    ensures { result ≡ date_number (year_from 0 packed) (month_from 0 packed) (day_from 0 packed) }
-{
-    u32::from_le_bytes(packed).cast_signed()
 }

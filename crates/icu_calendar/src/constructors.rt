@@ -235,7 +235,7 @@ impl<A: AsCalendar<Calendar = Hijri<R>>, R: Rules> Date<A> {
         calendar: A,
     ) -> Result<Date<A>, RangeError>
         ensures placed { let list = hijri_list (R.year_of (A.cal_of calendar).0) in
-            answer_with (λ d. hijri.packed_date d.inner.0.packed) range_parts result
+            answer_with (λ d. hijri.kept_date d.inner.0.parts) range_parts result
             ≡ placed_date list year month day }
         ensures calendar { IfOk result (λ d. d.calendar ≡ calendar) }
     {
@@ -292,7 +292,7 @@ impl<'t> Date<ChineseTraditional<'t>> {
     ) -> Result<Date<ChineseTraditional<'t>>, LunisolarDateError>
         ensures made { let year = table_year calendar.entry.0.table in
             let s = east_asian.east_asian_system year (side_reference China) in
-            answer_by (λ d. east_asian.packed_date d.inner.0.packed) result ≡ lunisolar_answer
+            answer_by (λ d. east_asian.kept_date d.inner.0.parts) result ≡ lunisolar_answer
             (made_date s.list s.year_names (Extended related_iso_year) (month_parts month) day) }
         ensures calendar { IfOk result (λ d. d.calendar ≡ calendar.entry) }
     {
@@ -323,7 +323,7 @@ impl<'t> Date<KoreanTraditional<'t>> {
     ) -> Result<Date<KoreanTraditional<'t>>, LunisolarDateError>
         ensures made { let year = table_year calendar.entry.0.table in
             let s = east_asian.east_asian_system year (side_reference Korea) in
-            answer_by (λ d. east_asian.packed_date d.inner.0.packed) result ≡ lunisolar_answer
+            answer_by (λ d. east_asian.kept_date d.inner.0.parts) result ≡ lunisolar_answer
             (made_date s.list s.year_names (Extended related_iso_year) (month_parts month) day) }
         ensures calendar { IfOk result (λ d. d.calendar ≡ calendar.entry) }
     {

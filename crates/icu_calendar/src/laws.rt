@@ -4,9 +4,9 @@ ghost use Rattle.std.specs.Prelude.{◌≡◌, ◌↔◌, IsTrue, IsOk, IfOk, fa
 ghost use Rattle.cal_types.specs.Bag.{bag_of, year_month_day};
 ghost use Rattle.cal_model.specs.CalendarList.{month_at};
 ghost use Rattle.cal_model.specs.SameYear.{HaveSameYear};
-ghost use Rattle.cal_hijri.specs.HijriSystem.{packed_date as packed_hijri};
+ghost use Rattle.cal_hijri.specs.HijriSystem.{kept_date as kept_hijri};
 ghost use Rattle.cal_hijri.specs.LengthenedTables as hijri;
-ghost use Rattle.cal_east_asian.specs.EastAsianSystem.{packed_date as packed_east_asian};
+ghost use Rattle.cal_east_asian.specs.EastAsianSystem.{kept_date as kept_east_asian};
 ghost use Rattle.cal_east_asian.specs.LengthenedTables as east_asian;
 ghost use Rattle.cal_east_asian.specs.declared.sides.Side.TheVariants.{China, Korea};
 ghost use Rattle.icu_calendar.specs.Rebasing.{IsRebased};
@@ -138,10 +138,10 @@ pub fn umm_al_qura_date_kept<'u>(
 ) -> Rebased<Hijri<UmmAlQura<'u>>>
     ensures rebased { let old = date.now.calendar.0.table.rows.now in let longer = calendar.entry.0.table.rows.now in
         let c = hijri.list_with old in let d = hijri.list_with longer in
-        let t = packed_hijri date.now.inner.0.packed in let u = packed_hijri result.date.inner.0.packed in
+        let t = kept_hijri date.now.inner.0.parts in let u = kept_hijri result.date.inner.0.parts in
         IsRebased c d t u result.moved }
     ensures stays { let old = date.now.calendar.0.table.rows.now in let longer = calendar.entry.0.table.rows.now in
-        hijri.Lengthens old longer → hijri.IsNotAdded old longer (packed_hijri date.now.inner.0.packed).year
+        hijri.Lengthens old longer → hijri.IsNotAdded old longer (kept_hijri date.now.inner.0.parts).year
         → result.moved ≡ false }
 {
     rebased_in_a_shared_year(date, calendar)
@@ -154,10 +154,10 @@ pub fn simulated_mecca_date_kept<'u>(
 ) -> Rebased<Hijri<AstronomicalSimulation<'u>>>
     ensures rebased { let old = date.now.calendar.0.table.rows.now in let longer = calendar.entry.0.table.rows.now in
         let c = hijri.list_with old in let d = hijri.list_with longer in
-        let t = packed_hijri date.now.inner.0.packed in let u = packed_hijri result.date.inner.0.packed in
+        let t = kept_hijri date.now.inner.0.parts in let u = kept_hijri result.date.inner.0.parts in
         IsRebased c d t u result.moved }
     ensures stays { let old = date.now.calendar.0.table.rows.now in let longer = calendar.entry.0.table.rows.now in
-        hijri.Lengthens old longer → hijri.IsNotAdded old longer (packed_hijri date.now.inner.0.packed).year
+        hijri.Lengthens old longer → hijri.IsNotAdded old longer (kept_hijri date.now.inner.0.parts).year
         → result.moved ≡ false }
 {
     rebased_in_a_shared_year(date, calendar)
@@ -170,11 +170,11 @@ pub fn chinese_date_kept<'u>(
 ) -> Rebased<ChineseTraditional<'u>>
     ensures rebased { let old = date.now.calendar.0.table.rows.now in let longer = calendar.entry.0.table.rows.now in
         let c = east_asian.list_with China old in let d = east_asian.list_with China longer in
-        let t = packed_east_asian date.now.inner.0.packed in let u = packed_east_asian result.date.inner.0.packed in
+        let t = kept_east_asian date.now.inner.0.parts in let u = kept_east_asian result.date.inner.0.parts in
         IsRebased c d t u result.moved }
     ensures stays { let old = date.now.calendar.0.table.rows.now in let longer = calendar.entry.0.table.rows.now in
         east_asian.Lengthens China old longer
-        → east_asian.IsNotAdded old longer (packed_east_asian date.now.inner.0.packed).year → result.moved ≡ false }
+        → east_asian.IsNotAdded old longer (kept_east_asian date.now.inner.0.parts).year → result.moved ≡ false }
 {
     rebased_in_a_shared_year(date, calendar)
 }
@@ -186,11 +186,11 @@ pub fn korean_date_kept<'u>(
 ) -> Rebased<KoreanTraditional<'u>>
     ensures rebased { let old = date.now.calendar.0.table.rows.now in let longer = calendar.entry.0.table.rows.now in
         let c = east_asian.list_with Korea old in let d = east_asian.list_with Korea longer in
-        let t = packed_east_asian date.now.inner.0.packed in let u = packed_east_asian result.date.inner.0.packed in
+        let t = kept_east_asian date.now.inner.0.parts in let u = kept_east_asian result.date.inner.0.parts in
         IsRebased c d t u result.moved }
     ensures stays { let old = date.now.calendar.0.table.rows.now in let longer = calendar.entry.0.table.rows.now in
         east_asian.Lengthens Korea old longer
-        → east_asian.IsNotAdded old longer (packed_east_asian date.now.inner.0.packed).year → result.moved ≡ false }
+        → east_asian.IsNotAdded old longer (kept_east_asian date.now.inner.0.parts).year → result.moved ≡ false }
 {
     rebased_in_a_shared_year(date, calendar)
 }

@@ -13,70 +13,69 @@ use Rattle.cal_model.proofs.OrderLemmas.{dates-equal, dates-ordered}
 use Rattle.cal_model.proofs.RenumberedBoundLemmas.{ranged-renumbered}
 use Rattle.cal_model.proofs.RenumberedLemmas.{day_number-renumbered, valid-renumbered, renumbered-valid}
 use Rattle.cal_arith.specs.Given.{IsGiven}
-use Rattle.cal_arith.specs.Dates.{Belongs, ymd}
-use Rattle.date_bytes.specs.Bytes.{day_from, month_from, year_from}
-use Rattle.cal_base.specs.PackedDates.{packed_year}
+use Rattle.cal_arith.specs.Dates.{Belongs}
+use Rattle.cal_arith.specs.declared.dates.Ymd.{Ymd}
 use Rattle.cal_base.specs.GregorianList.{gregorian_list}
 use Rattle.cal_base.specs.laws.GregorianLaws.{gregorian_list-bounded, iso_year-valid}
 use Rattle.cal_base.specs.OffsetList.{offset_list, offset_years, IsOffset}
 use Rattle.cal_base.specs.laws.OffsetListLaws.{iso_year-extended}
-use Rattle.cal_base.specs.OffsetSystem.{offset_date, packed_belongs}
-use Rattle.cal_base.specs.PackedDates.{packed_date}
+use Rattle.cal_base.specs.OffsetSystem.{offset_date, kept_belongs}
+use Rattle.cal_base.specs.PackedDates.{kept_date}
 use Rattle.cal_base.specs.declared.iso_year.IsoYear.{IsoYear}
 
 -- the ISO date again
-pub shifted-offset : (offset : ℤ) (p : List ℕ) → shifted_date offset (offset_date offset p) ≡ packed_date p
+pub shifted-offset : (offset : ℤ) (p : Ymd IsoYear) → shifted_date offset (offset_date offset p) ≡ kept_date p
 shifted-offset offset p =
-    let same : year_from 0 p -ℤ offset +ℤ offset ≡ year_from 0 p = omega (arith, signed) in
-    ap (λ (y : ℤ). date y (month_from 0 p) (day_from 0 p)) same
+    let same : p.year.number -ℤ offset +ℤ offset ≡ p.year.number = omega (arith, signed) in
+    ap (λ (y : ℤ). date y p.month p.day) same
 
-pub packed-valid : (p : List ℕ) → IsTrue (packed_belongs p) → IsValidDate gregorian_list (packed_date p)
-packed-valid p h = is_valid_date-true gregorian_list (packed_date p) h
+pub kept-valid : (p : Ymd IsoYear) → IsTrue (kept_belongs p) → IsValidDate gregorian_list (kept_date p)
+kept-valid p h = is_valid_date-true gregorian_list (kept_date p) h
 
 -- the day number is that of the ISO date
-pub day_number-packed : (offset : ℤ) (p : List ℕ) → day_number (offset_list offset) (offset_date offset p) ≡ day_number gregorian_list (packed_date p)
-day_number-packed offset p = day_number-renumbered offset gregorian_list (offset_date offset p) ∙ ap (day_number gregorian_list) (shifted-offset offset p)
+pub day_number-kept : (offset : ℤ) (p : Ymd IsoYear) → day_number (offset_list offset) (offset_date offset p) ≡ day_number gregorian_list (kept_date p)
+day_number-kept offset p = day_number-renumbered offset gregorian_list (offset_date offset p) ∙ ap (day_number gregorian_list) (shifted-offset offset p)
 
 -- what belongs is a date of the list
-pub packed-dated : (offset : ℤ) (p : List ℕ) → IsTrue (packed_belongs p) → IsValidDate (offset_list offset) (offset_date offset p)
-packed-dated offset p h = valid-renumbered offset gregorian_list (offset_date offset p) (subst (IsValidDate gregorian_list) (sym (shifted-offset offset p)) (packed-valid p h))
+pub kept-dated : (offset : ℤ) (p : Ymd IsoYear) → IsTrue (kept_belongs p) → IsValidDate (offset_list offset) (offset_date offset p)
+kept-dated offset p h = valid-renumbered offset gregorian_list (offset_date offset p) (subst (IsValidDate gregorian_list) (sym (shifted-offset offset p)) (kept-valid p h))
 
 -- and what is, belongs
-pub dated-packed : (offset : ℤ) (p : List ℕ) → IsValidDate (offset_list offset) (offset_date offset p) → IsTrue (packed_belongs p)
-dated-packed offset p h = true-is_valid_date gregorian_list (packed_date p) (subst (IsValidDate gregorian_list) (shifted-offset offset p) (renumbered-valid offset gregorian_list (offset_date offset p) h))
+pub dated-kept : (offset : ℤ) (p : Ymd IsoYear) → IsValidDate (offset_list offset) (offset_date offset p) → IsTrue (kept_belongs p)
+dated-kept offset p h = true-is_valid_date gregorian_list (kept_date p) (subst (IsValidDate gregorian_list) (shifted-offset offset p) (renumbered-valid offset gregorian_list (offset_date offset p) h))
 
 -- the same for the arithmetic of dates
-pub packed-belongs : (offset : ℤ) → IsOffset offset → (p : List ℕ) → IsTrue (packed_belongs p) → Belongs (offset_years offset) (ymd (packed_year p) (month_from 0 p) (day_from 0 p))
-packed-belongs offset small p h =
-    let valid = packed-dated offset p h in
+pub kept-belongs : (offset : ℤ) → IsOffset offset → (p : Ymd IsoYear) → IsTrue (kept_belongs p) → Belongs (offset_years offset) p
+kept-belongs offset small p h =
+    let valid = kept-dated offset p h in
     let year = (ranged-renumbered offset small gregorian_list gregorian_list-bounded (offset_date offset p) valid).0 in
     record {
-      year = record { same = iso_year-extended offset (packed_year p); range = (omega (arith, signed, year), omega (arith, signed, year)) };
+      year = record { same = iso_year-extended offset p.year; range = (omega (arith, signed, year), omega (arith, signed, year)) };
       date = valid.date;
       valid = valid.valid;
     }
 
-pub belongs-packed : (offset : ℤ) (p : List ℕ) → Belongs (offset_years offset) (ymd (packed_year p) (month_from 0 p) (day_from 0 p)) → IsTrue (packed_belongs p)
-belongs-packed offset p h = dated-packed offset p (record { date = h.date; valid = h.valid })
+pub belongs-kept : (offset : ℤ) (p : Ymd IsoYear) → Belongs (offset_years offset) p → IsTrue (kept_belongs p)
+belongs-kept offset p h = dated-kept offset p (record { date = h.date; valid = h.valid })
 
 -- dates that belong are equal and ordered as their day numbers
-pub packed-equal : (offset : ℤ) (p q : List ℕ) → IsTrue (packed_belongs p) → IsTrue (packed_belongs q) → date_eq (packed_date p) (packed_date q) ≡ int_eq (day_number (offset_list offset) (offset_date offset p)) (day_number (offset_list offset) (offset_date offset q))
-packed-equal offset p q h k =
-    rw (day_number-packed offset p, day_number-packed offset q)
-    (dates-equal gregorian_list (packed_date p) (packed_date q) (packed-valid p h).date (packed-valid q k).date)
+pub kept-equal : (offset : ℤ) (p q : Ymd IsoYear) → IsTrue (kept_belongs p) → IsTrue (kept_belongs q) → date_eq (kept_date p) (kept_date q) ≡ int_eq (day_number (offset_list offset) (offset_date offset p)) (day_number (offset_list offset) (offset_date offset q))
+kept-equal offset p q h k =
+    rw (day_number-kept offset p, day_number-kept offset q)
+    (dates-equal gregorian_list (kept_date p) (kept_date q) (kept-valid p h).date (kept-valid q k).date)
 
-pub packed-ordered : (offset : ℤ) (p q : List ℕ) → IsTrue (packed_belongs p) → IsTrue (packed_belongs q) → date_cmp (packed_date p) (packed_date q) ≡ int_cmp (day_number (offset_list offset) (offset_date offset p)) (day_number (offset_list offset) (offset_date offset q))
-packed-ordered offset p q h k =
-    rw (day_number-packed offset p, day_number-packed offset q)
-    (dates-ordered gregorian_list (packed_date p) (packed_date q) (packed-valid p h).date (packed-valid q k).date)
+pub kept-ordered : (offset : ℤ) (p q : Ymd IsoYear) → IsTrue (kept_belongs p) → IsTrue (kept_belongs q) → date_cmp (kept_date p) (kept_date q) ≡ int_cmp (day_number (offset_list offset) (offset_date offset p)) (day_number (offset_list offset) (offset_date offset q))
+kept-ordered offset p q h k =
+    rw (day_number-kept offset p, day_number-kept offset q)
+    (dates-ordered gregorian_list (kept_date p) (kept_date q) (kept-valid p h).date (kept-valid q k).date)
 
 -- whatever year the two calendars count from, a date has the same day number
-pub packed-shared : (offset other : ℤ) (p : List ℕ) → day_number (offset_list other) (offset_date other p) ≡ day_number (offset_list offset) (offset_date offset p)
-packed-shared offset other p = day_number-packed other p ∙ sym (day_number-packed offset p)
+pub kept-shared : (offset other : ℤ) (p : Ymd IsoYear) → day_number (offset_list other) (offset_date other p) ≡ day_number (offset_list offset) (offset_date offset p)
+kept-shared offset other p = day_number-kept other p ∙ sym (day_number-kept offset p)
 
 -- and is on that day
-pub packed-on : (offset other : ℤ) (p : List ℕ) → IsTrue (packed_belongs p) → IsOn (offset_list other) (day_number (offset_list offset) (offset_date offset p)) (offset_date other p)
-packed-on offset other p h = record { date = (packed-dated other p h).date; day = packed-shared offset other p }
+pub kept-on : (offset other : ℤ) (p : Ymd IsoYear) → IsTrue (kept_belongs p) → IsOn (offset_list other) (day_number (offset_list offset) (offset_date offset p)) (offset_date other p)
+kept-on offset other p h = record { date = (kept-dated other p h).date; day = kept-shared offset other p }
 
 -- a year that fields may not name has no valid day
 pub field_year-needed : (y : ℤ) (i d : ℕ) → is_field_year y ≡ false → is_valid_date gregorian_list (date y i d) ≡ false
@@ -87,12 +86,12 @@ field_year-needed y i d out = not_true (is_valid_date gregorian_list (date y i d
       let named : is_field_year y ≡ true = true-is_between (neg_ℤ (pos 1040000)) (pos 1040000) y (omega (arith, signed, year), omega (arith, signed, year)) in
       cc
 
--- a packed date belongs where its date in extended years is one of the list
-pub belongs-offset : (offset : ℤ) (p : List ℕ) → is_valid_date (offset_list offset) (offset_date offset p) ≡ packed_belongs p
+-- a kept date belongs where its date in extended years is one of the list
+pub belongs-offset : (offset : ℤ) (p : Ymd IsoYear) → is_valid_date (offset_list offset) (offset_date offset p) ≡ kept_belongs p
 belongs-offset offset p =
-    same_truth (packed_belongs p) (is_valid_date (offset_list offset) (offset_date offset p)) (
-      λ h. true-is_valid_date (offset_list offset) (offset_date offset p) (packed-dated offset p h),
-      λ h. dated-packed offset p (is_valid_date-true (offset_list offset) (offset_date offset p) h),
+    same_truth (kept_belongs p) (is_valid_date (offset_list offset) (offset_date offset p)) (
+      λ h. true-is_valid_date (offset_list offset) (offset_date offset p) (kept-dated offset p h),
+      λ h. dated-kept offset p (is_valid_date-true (offset_list offset) (offset_date offset p) h),
     )
 
 -- a year that fields may name is given

@@ -1,7 +1,7 @@
 -- What the test of an own date says, and what compatible calendars share.
 use Rattle.std.proofs.Common.{◌≡◌, ◌↔◌, Bool, true, false, sym, ap, ◌∙◌, arith, ℕ, ◌+◌, ◌-◌, ℤ, pos, neg_ℤ, ◌+ℤ◌}
 use Rattle.std.specs.Prelude.{◌&&◌, ◌==◌, IsTrue, List, length, take, sum_by, slice_index_or, nat_le}
-use Rattle.std.specs.Ordering.{nat_cmp, int_cmp, int_eq, on, then_cmp, eq_of_both}
+use Rattle.std.specs.Ordering.{nat_cmp, int_cmp, int_eq, ordering_then}
 use Rattle.std.specs.declared.cmp.Ordering.{Ordering}
 use Rattle.cal_days.specs.Day.{IsFieldYear, IsValidDay, is_field_year, is_valid_day, IsCoveredYear}
 use Rattle.cal_days.proofs.RangeLemmas.{true-is_between}
@@ -12,7 +12,7 @@ use Rattle.cal_model.proofs.ListLemmas.{first-date}
 use Rattle.cal_arith.specs.Given.{CalendarYears, IsGiven}
 use Rattle.cal_arith.specs.Dates.{Belongs, date_of}
 use Rattle.cal_arith.specs.declared.dates.Ymd.{Ymd}
-use Rattle.cal_arith.proofs.OrderLemmas.{packed-equal, packed-ordered}
+use Rattle.cal_arith.proofs.OrderLemmas.{kept-equal, kept-ordered}
 use Rattle.cal_base.specs.OwnYears.{IsOwnYear, IsSharedYear, is_own_date}
 
 module _ {Y : Type 0} (years : CalendarYears Y) (ranged : (t : Date) → IsValidDate years.list t → IsFieldYear t.year × IsFieldYear (t.year +ℤ years.offset)) (has_year : Y → Bool) (tested : (y : Y) → IsTrue (has_year y) ↔ (years.year_of (years.extended y) ≡ y)) where
@@ -48,14 +48,14 @@ module _ {Y : Type 0} (years : CalendarYears Y) (ranged : (t : Date) → IsValid
         let in_it = true-and (has_year d.year) (is_field_year (years.extended d.year)) its_year named in
         cc
 
-  module _ {A : Type 0} (parts : A → Ymd Y) (stored : Y → ℤ) (stored_from : (y : Y) → IsGiven years y → stored y ≡ years.extended y +ℤ years.offset) (a b : A) (h : IsTrue (is_own_date years has_year (parts a))) (k : IsTrue (is_own_date years has_year (parts b))) where
+  module _ (stored : Y → ℤ) (stored_from : (y : Y) → IsGiven years y → stored y ≡ years.extended y +ℤ years.offset) (p q : Ymd Y) (h : IsTrue (is_own_date years has_year p)) (k : IsTrue (is_own_date years has_year q)) where
     -- own dates are equal where their day numbers are
-    pub days_equal : (eq : Y → Y → Bool) → ((x y : Y) → eq x y ≡ int_eq (stored x) (stored y)) → eq_of_both (on (λ p. (parts p).year) eq) (eq_of_both (on (λ p. (parts p).month) ◌==◌) (on (λ p. (parts p).day) ◌==◌)) a b ≡ int_eq (day_number years.list (date_of years (parts a))) (day_number years.list (date_of years (parts b)))
-    days_equal = packed-equal years stored parts a b (stored_from (parts a).year (own_year (parts a) h).given) (stored_from (parts b).year (own_year (parts b) k).given) (own_dated (parts a) h).date (own_dated (parts b) k).date
+    pub days_equal : (eq : Y → Y → Bool) → ((x y : Y) → eq x y ≡ int_eq (stored x) (stored y)) → (eq p.year q.year && (p.month == q.month && p.day == q.day)) ≡ int_eq (day_number years.list (date_of years p)) (day_number years.list (date_of years q))
+    days_equal = kept-equal years stored p q (stored_from p.year (own_year p h).given) (stored_from q.year (own_year q k).given) (own_dated p h).date (own_dated q k).date
 
     -- and are ordered as these
-    pub days_ordered : (cmp : Y → Y → Ordering) → ((x y : Y) → cmp x y ≡ int_cmp (stored x) (stored y)) → then_cmp (on (λ p. (parts p).year) cmp) (then_cmp (on (λ p. (parts p).month) nat_cmp) (on (λ p. (parts p).day) nat_cmp)) a b ≡ int_cmp (day_number years.list (date_of years (parts a))) (day_number years.list (date_of years (parts b)))
-    days_ordered = packed-ordered years stored parts a b (stored_from (parts a).year (own_year (parts a) h).given) (stored_from (parts b).year (own_year (parts b) k).given) (own_dated (parts a) h).date (own_dated (parts b) k).date
+    pub days_ordered : (cmp : Y → Y → Ordering) → ((x y : Y) → cmp x y ≡ int_cmp (stored x) (stored y)) → ordering_then (cmp p.year q.year) (ordering_then (nat_cmp p.month q.month) (nat_cmp p.day q.day)) ≡ int_cmp (day_number years.list (date_of years p)) (day_number years.list (date_of years q))
+    days_ordered = kept-ordered years stored p q (stored_from p.year (own_year p h).given) (stored_from q.year (own_year q k).given) (own_dated p h).date (own_dated q k).date
 
 -- the days of a year before a month's place and a day, by its months
 abbrev days_in : List Entry → ℕ → ℕ → ℕ

@@ -7,7 +7,6 @@ use Rattle.cal_model.specs.CalendarList.{IsValidDate, is_valid_date}
 use Rattle.cal_model.proofs.DateTests.{and-right, is_valid_date-true}
 use Rattle.cal_hebrew.specs.HebrewList.{hebrew_list, hebrew_years}
 use Rattle.cal_hebrew.specs.HebrewSystem.{has_hebrew_length, hebrew_date, hebrew_belongs}
-use Rattle.cal_hebrew.specs.PackedYears.{packed_year}
 use Rattle.cal_hebrew.specs.laws.SameYears.{same_parts}
 use Rattle.cal_hebrew.specs.declared.hebrew_year.HebrewYear.{HebrewYear}
 use Rattle.cal_hebrew.specs.declared.hebrew.HebrewDateInner.{HebrewDateInner}
@@ -24,7 +23,7 @@ has_hebrew_length-tested y = (λ h. same_parts (hebrew_years.year_of y.extended_
 
 -- what belongs is a valid date of the list
 pub hebrew_belongs-valid : (d : HebrewDateInner) → IsTrue (hebrew_belongs d) → IsTrue (is_valid_date hebrew_list (hebrew_date d))
-hebrew_belongs-valid d h = and-right (has_hebrew_length (packed_year d.0.packed)) (is_valid_date hebrew_list (hebrew_date d)) h
+hebrew_belongs-valid d h = and-right (has_hebrew_length d.0.parts.year) (is_valid_date hebrew_list (hebrew_date d)) h
 
 pub hebrew_belongs-dated : (d : HebrewDateInner) → IsTrue (hebrew_belongs d) → IsValidDate hebrew_list (hebrew_date d)
 hebrew_belongs-dated d h = is_valid_date-true hebrew_list (hebrew_date d) (hebrew_belongs-valid d h)

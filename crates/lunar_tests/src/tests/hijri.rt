@@ -4,7 +4,7 @@ ghost use Rattle.std.specs.Prelude.{◌≡◌, IsTrue, pos};
 ghost use Rattle.cal_days.specs.Day.{IsBetween};
 ghost use Rattle.cal_model.specs.CalendarList.{day_number};
 ghost use Rattle.cal_hijri.specs.HijriRows.{years_of};
-ghost use Rattle.cal_hijri.specs.HijriSystem.{hijri_belongs, packed_date};
+ghost use Rattle.cal_hijri.specs.HijriSystem.{hijri_belongs, kept_date};
 ghost use Rattle.cal_hijri.specs.TableRules.{table_year, umm_al_qura_system};
 ghost use Rattle.cal_hijri.specs.TabularRules.{tabular_system, tabular_year};
 
@@ -276,8 +276,8 @@ fn day_of_tabular(
     hijri: Hijri<TabularAlgorithm>,
     date: &HijriDateInner<TabularAlgorithm>,
 ) -> RataDie
-    requires { IsTrue (hijri_belongs (tabular_year hijri.0) date.now.0.packed) }
-    ensures { result ≡ day_number (tabular_system hijri.0).list (packed_date date.now.0.packed) }
+    requires { IsTrue (hijri_belongs (tabular_year hijri.0) date.now.0.parts) }
+    ensures { result ≡ day_number (tabular_system hijri.0).list (kept_date date.now.0.parts) }
 {
     hijri.to_rata_die(date)
 }
@@ -287,9 +287,9 @@ fn day_of_umm_al_qura<'t>(
     hijri: Hijri<UmmAlQura<'t>>,
     date: &HijriDateInner<UmmAlQura<'t>>,
 ) -> RataDie
-    requires { IsTrue (hijri_belongs (table_year (years_of hijri.0.table.rows.now)) date.now.0.packed) }
+    requires { IsTrue (hijri_belongs (table_year (years_of hijri.0.table.rows.now)) date.now.0.parts) }
     ensures { result ≡ day_number (umm_al_qura_system (years_of hijri.entry.0.table.rows.now)).list
-        (packed_date date.now.0.packed) }
+        (kept_date date.now.0.parts) }
 {
     hijri.to_rata_die(date)
 }

@@ -67,7 +67,7 @@ days_apart-left-requires g c =
 -- the days that are left are those from there to the second date
 left : (g : Over) (c : After-is_backward g) → After-to_rata_die_inner-base g → IsLeft (g.C.YearShapes.years c.args.cal.now).list (date_of (g.C.YearShapes.years c.args.cal.now) c.args.from) (date_of (g.C.YearShapes.years c.args.cal.now) c.args.to) (is_backward c.direction_between-direction.result) c.admitted_years-years.result c.admitted_months-reached.result.months c.days_apart-left.result
 left g c _ =
-    let s = (goal.at.returns-clause-difference g c).After-to_rata_die_inner-base in
+    let s = (goal.at.returns-clause-until g c).After-to_rata_die_inner-base in
     let b = c.to_rata_die_inner-base.result in let m = c.to_rata_die-second.result in
     let back = is_backward c.direction_between-direction.result in
     record {
@@ -77,9 +77,9 @@ left g c _ =
       apart = sym c.to_rata_die-second.ensures ∙ days-left back b m (short g s) ∙ ap (λ (k : ℕ). b +ℤ toward back k) (sym c.days_apart-left.ensures) ∙ ap (λ (n : ℤ). n +ℤ toward back c.days_apart-left.result) (base_is g s);
     }
 
-pub returns-clause-difference : goal.returns-clause-difference
-returns-clause-difference g c =
-    let s = goal.at.returns-clause-difference g c in
+pub returns-clause-until : goal.returns-clause-until
+returns-clause-until g c =
+    let s = goal.at.returns-clause-until g c in
     let w = c.admitted_weeks-weeks.result in let total = c.days_apart-left.result in
     let fit = weeks-fit (admits_weeks c.args.unit) w total c.admitted_weeks-weeks.ensures.weeks c.admitted_weeks-weeks.ensures.none in
     let list = (g.C.YearShapes.years c.args.cal.now).list in
@@ -87,16 +87,15 @@ returns-clause-difference g c =
     let parts = difference-parts list t u c.args.unit (record { is_negative = is_backward c.direction_between-direction.result; years = c.admitted_years-years.result; months = c.admitted_months-reached.result.months; weeks = w; days = total - 7 * w }) total (sign g s.After-direction_between-direction)
     c.admitted_years-years.ensures.greatest c.admitted_months-reached.ensures.greatest (left g c s.After-to_rata_die_inner-base)
     c.admitted_weeks-weeks.ensures.weeks c.admitted_weeks-weeks.ensures.none (omega (arith, fit)) in
-    subst (λ (b : Bool). IsDifference list t u c.args.unit (record { is_negative = b; years = c.admitted_years-years.result; months = c.admitted_months-reached.result.months; weeks = w; days = total - 7 * w })) (sym c.is_backward.ensures) parts
-
-pub returns-clause-leads_back : goal.returns-clause-leads_back
-returns-clause-leads_back g c =
-    let s = c.args.cal.now in let laws = g.met.C.YearShapes in
-    let t = date_of (g.C.YearShapes.years s) c.args.from in let u = date_of (g.C.YearShapes.years s) c.args.to in
-    let h : IsValidDate (g.C.YearShapes.years s).list t = record { date = c.requires.from.date; valid = c.requires.from.valid } in
-    let k : IsValidDate (g.C.YearShapes.years s).list u = record { date = c.requires.to.date; valid = c.requires.to.valid } in
-    let p = laws.ranged s t h in let q = laws.ranged s u k in
-    difference-added_back (g.C.YearShapes.years s).list (laws.lawful s) t u h k c.args.unit _ (returns-clause-difference g c) (g.C.YearShapes.years s).offset p.0 q.0 p.1 q.1 (laws.apart s t u h k)
+    let found : IsDifference list t u c.args.unit (record { is_negative = c.is_backward.result; years = c.admitted_years-years.result; months = c.admitted_months-reached.result.months; weeks = w; days = total - 7 * w }) = subst (λ (b : Bool). IsDifference list t u c.args.unit (record { is_negative = b; years = c.admitted_years-years.result; months = c.admitted_months-reached.result.months; weeks = w; days = total - 7 * w })) (sym c.is_backward.ensures) parts in
+    let laws = g.met.C.YearShapes in
+    let h : IsValidDate list t = record { date = c.requires.from.date; valid = c.requires.from.valid } in
+    let k : IsValidDate list u = record { date = c.requires.to.date; valid = c.requires.to.valid } in
+    let p = laws.ranged c.args.cal.now t h in let q = laws.ranged c.args.cal.now u k in
+    record {
+      difference = found;
+      leads_back = difference-added_back list (laws.lawful c.args.cal.now) t u h k c.args.unit _ found (g.C.YearShapes.years c.args.cal.now).offset p.0 q.0 p.1 q.1 (laws.apart c.args.cal.now t u h k);
+    }
 
 pub returns-clause-ticks : goal.returns-clause-ticks
 returns-clause-ticks g c =

@@ -36,12 +36,11 @@ answered years parts (Err f) q h k e = cc
 pub returns : goal.returns
 returns g c =
     let s = c.args.cal.now in let years = g.C.YearShapes.years s in let laws = g.met.C.YearShapes in
-    let parts = g.C.YearInfo.PackWithMD.parts in
     let first = c.requires.first in let second = c.requires.second in
-    let t = date_of years (parts c.args.first.now.packed) in let u = date_of years (parts c.args.second.now.packed) in
+    let t = date_of years c.args.first.now.parts in let u = date_of years c.args.second.now.parts in
     let h : IsValidDate years.list t = record { date = first.date; valid = first.valid } in
     let k : IsValidDate years.list u = record { date = second.date; valid = second.valid } in
     let p = (laws.ranged s t h).0 in let q = (laws.ranged s u k).0 in
     let back = difference-added_back years.list (laws.lawful s) t u h k (largest_unit_of c.args.options.largest_unit) c.until-duration.result c.until-duration.ensures.difference (pos 0) p q (unshifted t.year p) (unshifted u.year q) (laws.apart s t u h k) in
-    let same = sum-unique years.list (pos 0) t c.until-duration.result Constrain (answer_by (λ a. date_of years (parts a.packed)) c.added.result) (Ok u) c.added.ensures.sum back in
-    answered years (λ a. parts a.packed) c.added.result (parts c.args.second.now.packed) c.added.ensures.belongs second.year same
+    let same = sum-unique years.list (pos 0) t c.until-duration.result Constrain (answer_by (λ a. date_of years a.parts) c.added.result) (Ok u) c.added.ensures.sum back in
+    answered years (λ a. a.parts) c.added.result c.args.second.now.parts c.added.ensures.belongs second.year same

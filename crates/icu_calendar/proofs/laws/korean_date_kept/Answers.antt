@@ -2,7 +2,7 @@ use Rattle.std.proofs.Common.{subst, sym}
 use Rattle.cal_model.specs.SameYear.{HaveSameYear}
 use Rattle.cal_east_asian.proofs.LengtheningLemmas.{keeps-years}
 use Rattle.cal_east_asian.specs.EastAsianRows.{years_of}
-use Rattle.cal_east_asian.specs.EastAsianSystem.{packed_date}
+use Rattle.cal_east_asian.specs.EastAsianSystem.{kept_date}
 use Rattle.cal_east_asian.specs.LengthenedTables.{list_with}
 use Rattle.cal_east_asian.specs.TableAccepted.{IsAccepted}
 use Rattle.cal_east_asian.specs.laws.ComputedLaws.{computed_year}
@@ -17,8 +17,8 @@ returns-clause-rebased c =
     let old = rules.table.rows.now in
     let longer = c.args.calendar.0.table.rows.now in
     let result = c.rebased_in_a_shared_year.result in
-    let t = packed_date c.args.date.now.inner.0.packed in
-    let u = packed_date result.date.inner.0.packed in
+    let t = kept_date c.args.date.now.inner.0.parts in
+    let u = kept_date result.date.inner.0.parts in
     let here = subst (λ (side : Side). IsRebased (list_with side old) (list_with c.args.calendar.0.table.side longer) t u result.moved) rules.side c.rebased_in_a_shared_year.ensures.rebased in
     subst (λ (side : Side). IsRebased (list_with Korea old) (list_with side longer) t u result.moved) c.args.calendar.0.side here
 
@@ -27,7 +27,7 @@ returns-clause-stays c lengthens free =
     let rules = c.args.date.now.calendar.0 in
     let old = rules.table.rows.now in
     let longer = c.args.calendar.0.table.rows.now in
-    let year = (packed_date c.args.date.now.inner.0.packed).year in
+    let year = (kept_date c.args.date.now.inner.0.parts).year in
     let accepted = subst (λ (side : Side). IsAccepted (computed_year side) (years_of old)) rules.side rules.table.accepted in
     let same = keeps-years Korea old longer accepted lengthens year free in
     let here = subst (λ (side : Side). HaveSameYear (list_with side old) (list_with Korea longer) year) (sym rules.side) same in

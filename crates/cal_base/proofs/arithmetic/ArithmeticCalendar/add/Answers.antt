@@ -10,5 +10,5 @@ added_shifted-requires-clause-shift g c =
 pub returns-clause-belongs : goal.returns-clause-belongs
 returns-clause-belongs g c =
     let s = c.args.self.now.0 in
-    ok_leads (λ a. belongs_own (g.C.YearShapes.years s) (g.met.C.YearShapes.ranged s) (g.C.NamedYears.has_year s) (g.met.C.NamedYears.tested s) (g.C.YearInfo.PackWithMD.parts a.packed))
+    ok_leads (λ a. belongs_own (g.C.YearShapes.years s) (g.met.C.YearShapes.ranged s) (g.C.NamedYears.has_year s) (g.met.C.NamedYears.tested s) a.parts)
     c.added_shifted.result c.added_shifted.ensures.belongs

@@ -5,5 +5,5 @@ use Rattle.cal_base.proofs.arithmetic.ArithmeticCalendar.new_date.Goals as goal
 pub returns-clause-belongs : goal.returns-clause-belongs
 returns-clause-belongs g c =
     let s = c.args.self.now.0 in
-    ok_leads (λ a. belongs_own (g.C.YearShapes.years s) (g.met.C.YearShapes.ranged s) (g.C.NamedYears.has_year s) (g.met.C.NamedYears.tested s) (g.C.YearInfo.PackWithMD.parts a.packed))
+    ok_leads (λ a. belongs_own (g.C.YearShapes.years s) (g.met.C.YearShapes.ranged s) (g.C.NamedYears.has_year s) (g.met.C.NamedYears.tested s) a.parts)
     c.from_input_year_month_code_day.result c.from_input_year_month_code_day.ensures.belongs
