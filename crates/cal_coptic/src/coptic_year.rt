@@ -77,8 +77,6 @@ impl PackWithMD for CopticYear {
 
     type Packed = [u8; 4];
 
-    type Kept = [u8; 4];
-
     ghost stored = { λ y. y.number };
 
     ghost unpacked = { λ p. ymd (coptic_year p) (month_from 0 p) (day_from 0 p) };

@@ -81,8 +81,6 @@ impl PackWithMD for HebrewYear {
 
     type Packed = [u8; 5];
 
-    type Kept = [u8; 5];
-
     ghost stored = { λ y. y.extended_year };
 
     ghost unpacked = { λ p. ymd (packed_year p) (month_from 1 p) (day_from 1 p) };

@@ -91,8 +91,6 @@ impl PackWithMD for JulianYear {
 
     type Packed = [u8; 4];
 
-    type Kept = [u8; 4];
-
     ghost stored = { λ y. y.extended_year };
 
     ghost unpacked = { λ p. ymd (julian_year p) (month_from 0 p) (day_from 0 p) };
