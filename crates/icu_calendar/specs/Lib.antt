@@ -46,6 +46,7 @@ pub use Rattle.cal_model.specs.Constructing
 pub use Rattle.cal_model.specs.Placing
 pub use Rattle.cal_model.specs.Adding
 pub use Rattle.cal_model.specs.Difference
+pub use Rattle.cal_model.specs.Until
 pub use Rattle.cal_model.specs.Renumbered
 pub use Rattle.cal_model.specs.DayDates
 pub use Rattle.cal_model.specs.SameYear

@@ -10,7 +10,8 @@ ghost use Rattle.cal_types.specs.Weekday.{days_since_sunday};
 ghost use Rattle.cal_types.specs.declared.year.YearInfo.TheVariants.{Era, Cyclic};
 ghost use Rattle.cal_model.specs.CalendarList.{IsOn, day_number, month_count, month_length, start_of_year, year_length};
 ghost use Rattle.cal_model.specs.Adding.{IsSum, add_overflow_of};
-ghost use Rattle.cal_model.specs.Difference.{IsDifference, largest_unit_of};
+ghost use Rattle.cal_model.specs.Difference.{largest_unit_of};
+ghost use Rattle.cal_model.specs.Until.{IsUntil};
 ghost use Rattle.cal_model.specs.CalendarSystem.{month_info_of, resolve_fields};
 ghost use Rattle.cal_model.specs.Constructing.{made_date};
 ghost use Rattle.cal_arith.specs.Dates.{answer_by};
@@ -516,16 +517,12 @@ where
             let u = A.Calendar.date_of other_calendar other.now.inner in
             let day = day_number (A.Calendar.system other_calendar).list u in
             IsOk result → IsOn (A.Calendar.system c).list day (A.Calendar.date_of c other.now.inner) }
-        ensures difference { let c = A.cal_of self.now.calendar in
-            let t = A.Calendar.date_of c self.now.inner in
-            let u = A.Calendar.date_of c other.now.inner in
-            let unit = largest_unit_of options.largest_unit in
-            IfOk result (λ d. IsDifference (A.Calendar.system c).list t u unit d) }
-        ensures leads_back { let c = A.cal_of self.now.calendar in
+        ensures until { let c = A.cal_of self.now.calendar in
             let s = A.Calendar.system c in
             let t = A.Calendar.date_of c self.now.inner in
             let u = A.Calendar.date_of c other.now.inner in
-            IfOk result (λ d. IsSum s.list s.year_shift t d Overflow.Constrain (Ok u)) }
+            let unit = largest_unit_of options.largest_unit in
+            IfOk result (λ d. IsUntil s.list s.year_shift t u unit d) }
     {
         let calendar = self.calendar.as_calendar();
         match calendar.check_date_compatibility(other.calendar.as_calendar()) {
@@ -544,11 +541,12 @@ where
     ) -> Result<DateDuration, <A::Calendar as Calendar>::DateCompatibilityError>
         ensures compatible { let c = A.cal_of self.now.calendar in
             IsOk result ↔ IsTrue (A.Calendar.compatible c (B.cal_of other.now.calendar)) }
-        ensures difference { let c = A.cal_of self.now.calendar in
+        ensures until { let c = A.cal_of self.now.calendar in
+            let s = A.Calendar.system c in
             let t = A.Calendar.date_of c self.now.inner in
             let u = A.Calendar.date_of c other.now.inner in
             let unit = largest_unit_of options.largest_unit in
-            IfOk result (λ d. IsDifference (A.Calendar.system c).list t u unit d) }
+            IfOk result (λ d. IsUntil s.list s.year_shift t u unit d) }
         ensures ticks { let c = A.cal_of self.now.calendar in
             let t = A.Calendar.date_of c self.now.inner in
             let u = A.Calendar.date_of c other.now.inner in
@@ -565,15 +563,11 @@ where
     /// The difference from this date to another of the same calendar, as [`Date::try_until_with_options`].
     pub(crate) fn until(&self, other: &Self, options: DateDifferenceOptions) -> DateDuration
         requires { self.now.calendar ≡ other.now.calendar }
-        ensures difference { let c = A.cal_of self.now.calendar in
-            let t = A.Calendar.date_of c self.now.inner in
-            let u = A.Calendar.date_of c other.now.inner in
-            IsDifference (A.Calendar.system c).list t u (largest_unit_of options.largest_unit) result }
-        ensures leads_back { let c = A.cal_of self.now.calendar in
+        ensures { let c = A.cal_of self.now.calendar in
             let s = A.Calendar.system c in
             let t = A.Calendar.date_of c self.now.inner in
             let u = A.Calendar.date_of c other.now.inner in
-            IsSum s.list s.year_shift t result Overflow.Constrain (Ok u) }
+            IsUntil s.list s.year_shift t u (largest_unit_of options.largest_unit) result }
     {
         self.calendar
             .as_calendar()

@@ -5,7 +5,8 @@ ghost use Rattle.cal_types.specs.Bag.{bag_of};
 ghost use Rattle.cal_model.specs.Adding.{IsSum};
 ghost use Rattle.cal_model.specs.CalendarList.{IsOn, day_number};
 ghost use Rattle.cal_model.specs.CalendarSystem.{resolve_fields};
-ghost use Rattle.cal_model.specs.Difference.{IsDifference, largest_unit_of};
+ghost use Rattle.cal_model.specs.Difference.{largest_unit_of};
+ghost use Rattle.cal_model.specs.Until.{IsUntil};
 ghost use Rattle.cal_any.specs.AnySystem.{any_system, any_date};
 ghost use Rattle.cal_spans.specs.Spans.{IsSpan, RefusesBag};
 ghost use Rattle.icu_calendar.specs.SpanAnswers.{span_answer, HasCalendars};
@@ -49,15 +50,11 @@ where
     /// The difference from the first date to the second, which leads back, as
     /// [`Date::try_until_with_options`].
     pub fn duration(&self, options: DateDifferenceOptions) -> DateDuration
-        ensures difference { let c = A.cal_of self.now.from.calendar in
-            let t = A.Calendar.date_of c self.now.from.inner in
-            let u = A.Calendar.date_of c self.now.to.inner in
-            IsDifference (A.Calendar.system c).list t u (largest_unit_of options.largest_unit) result }
-        ensures leads_back { let c = A.cal_of self.now.from.calendar in
+        ensures { let c = A.cal_of self.now.from.calendar in
             let s = A.Calendar.system c in
             let t = A.Calendar.date_of c self.now.from.inner in
             let u = A.Calendar.date_of c self.now.to.inner in
-            IsSum s.list s.year_shift t result Overflow.Constrain (Ok u) }
+            IsUntil s.list s.year_shift t u (largest_unit_of options.largest_unit) result }
     {
         self.from.until(&self.to, options)
     }

@@ -13,7 +13,7 @@ unreachable-requires g c =
     let s = g.A.Calendar.Calendar.system calendar in
     let t = g.A.Calendar.Calendar.date_of calendar c.args.first.inner in
     let u = g.A.Calendar.Calendar.date_of calendar c.args.second.now.inner in
-    sum-not_refused s.list s.year_shift t c.in_ok-between.between Constrain c.in-Err.field-0 u c.in-Err.ensures.sum c.in_ok-between.ensures.leads_back
+    sum-not_refused s.list s.year_shift t c.in_ok-between.between Constrain c.in-Err.field-0 u c.in-Err.ensures.sum c.in_ok-between.ensures.until.leads_back
 
 pub returns-clause-same_date : goal.returns-clause-same_date
 returns-clause-same_date g c =
@@ -22,7 +22,7 @@ returns-clause-same_date g c =
     let t = g.A.Calendar.Calendar.date_of calendar c.args.first.inner in
     let u = g.A.Calendar.Calendar.date_of calendar c.args.second.now.inner in
     let sum = g.A.Calendar.Calendar.date_of calendar c.in-Ok.sum.inner in
-    sum-date s.list s.year_shift t c.in_ok-between.between Constrain sum u c.in-Ok.ensures.sum c.in_ok-between.ensures.leads_back
+    sum-date s.list s.year_shift t c.in_ok-between.between Constrain sum u c.in-Ok.ensures.sum c.in_ok-between.ensures.until.leads_back
 
 pub returns-clause-equal : goal.returns-clause-equal
 returns-clause-equal g c =
