@@ -41,7 +41,7 @@ module _ (c : CalendarSystem) (shown : CalendarList) (law : IsLawful c.list) (la
       let apart = difference-exists c.list law t u h.date k.date unit in
       let back = difference-added_back c.list law t u h k unit apart.0 apart.1 c.year_shift first.0 last.0 first.1 last.1 (limits.apart t u h k) in
       let dates : SpanDates = record { from = t; from_shown = on_from.0; to = u; to_shown = on_to.0; duration = apart.0 } in
-      (Ok dates, record { from = p; to = q; from_shown = on_from.1; to_shown = on_to.1; duration = apart.1; leads_back = back })
+      (Ok dates, record { from = p; to = q; from_shown = on_from.1; to_shown = on_to.1; until = record { difference = apart.1; leads_back = back } })
 
   second : (t : Date) → resolve_fields c from o ≡ Ok t → (r : Resolved Date) → resolve_fields c to o ≡ r → Answer
   second t p (Ok u) q = dated t u p q
@@ -76,10 +76,10 @@ module _ (c : CalendarSystem) (shown : CalendarList) (from to : Bag) (o : DateFr
       let tos = same_ok (sym p.to ∙ q.to) in
       let from_shown = subst (λ (t : Date). IsOn shown (day_number c.list t) b.from_shown) (sym froms) q.from_shown in
       let to_shown = subst (λ (t : Date). IsOn shown (day_number c.list t) b.to_shown) (sym tos) q.to_shown in
-      let apart = subst (λ (t : Date). IsDifference c.list t a.to unit b.duration) (sym froms) (subst (λ (t : Date). IsDifference c.list b.from t unit b.duration) (sym tos) q.duration) in
+      let apart = subst (λ (t : Date). IsDifference c.list t a.to unit b.duration) (sym froms) (subst (λ (t : Date). IsDifference c.list b.from t unit b.duration) (sym tos) q.until.difference) in
       same_dates a b froms (on-unique shown (day_number c.list a.from) a.from_shown b.from_shown p.from_shown from_shown) tos
       (on-unique shown (day_number c.list a.to) a.to_shown b.to_shown p.to_shown to_shown)
-      (difference-unique c.list a.from a.to unit a.duration b.duration p.duration apart)
+      (difference-unique c.list a.from a.to unit a.duration b.duration p.until.difference apart)
 
   same_error : (d e : SpanError) → d.side ≡ e.side → d.cause ≡ e.cause → d ≡ e
   same_error d e p q = let parts : error d.side d.cause ≡ error e.side e.cause = cc in parts where

@@ -2,14 +2,12 @@
 use Rattle.std.specs.Prelude.{◌≡◌, Result, Ok, Err}
 use Rattle.cal_types.specs.Bag.{Bag}
 use Rattle.cal_types.specs.declared.options.DateFromFieldsOptions.{DateFromFieldsOptions}
-use Rattle.cal_types.specs.declared.options.Overflow.TheVariants.{Constrain}
 use Rattle.cal_types.specs.declared.duration.DateDuration.{DateDuration}
 use Rattle.cal_types.specs.declared.duration.DateDurationUnit.{DateDurationUnit}
 use Rattle.cal_errors.specs.declared.errors.DateFromFieldsError.{DateFromFieldsError}
 use Rattle.cal_model.specs.CalendarList.{CalendarList, Date, IsOn, day_number}
 use Rattle.cal_model.specs.CalendarSystem.{CalendarSystem, resolve_fields}
-use Rattle.cal_model.specs.Adding.{IsSum}
-use Rattle.cal_model.specs.Difference.{IsDifference}
+use Rattle.cal_model.specs.Until.{IsUntil}
 use Rattle.cal_spans.specs.declared.span_error.BagSide.{BagSide}
 use Rattle.cal_spans.specs.declared.span_error.BagSide.TheVariants.{From, To}
 use Rattle.cal_spans.specs.declared.span_error.SpanError.{SpanError}
@@ -30,8 +28,7 @@ pub record AnswersBags (c : CalendarSystem) (shown : CalendarList) (first second
   pub to : resolve_fields c second options ≡ Ok s.to
   pub from_shown : IsOn shown (day_number c.list s.from) s.from_shown
   pub to_shown : IsOn shown (day_number c.list s.to) s.to_shown
-  pub duration : IsDifference c.list s.from s.to unit s.duration
-  pub leads_back : IsSum c.list c.year_shift s.from s.duration Constrain (Ok s.to)
+  pub until : IsUntil c.list c.year_shift s.from s.to unit s.duration
 
 -- the second bag is at fault only where the first names a date
 abbrev pub RefusesBag : CalendarSystem → Bag → Bag → DateFromFieldsOptions → BagSide → DateFromFieldsError → Type 0

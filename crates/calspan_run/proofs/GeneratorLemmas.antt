@@ -43,7 +43,7 @@ module _ (r : Request) (before after : Totals) (t : TableContents) (none : t ≡
       let dates : SpanDates = record { from = named.from_date; from_shown = from.0; to = named.to_date; to_shown = to.0; duration = p.duration } in
       record {
         answer = Ok dates;
-        span = record { from = named.from; to = named.to; from_shown = from.1; to_shown = to.1; duration = named.difference; leads_back = named.leads_back };
+        span = record { from = named.from; to = named.to; from_shown = from.1; to_shown = to.1; until = named.until };
         counts = sum ∙ (ap (λ (n : ℤ). with_span before n p.to.rata_die p.duration) named.from_parts.rata_die ∙ ap (λ (n : ℤ). with_span before (day_number c.list named.from_date) n p.duration) named.to_parts.rata_die);
       }
 

@@ -3,12 +3,11 @@ use Rattle.std.specs.Prelude.{◌≡◌, ℕ, ℤ, Bool, true, false, not, nat_e
 use Rattle.cal_types.specs.declared.duration.DateDuration.{DateDuration}
 use Rattle.cal_types.specs.declared.duration.DateDurationUnit.{DateDurationUnit}
 use Rattle.cal_types.specs.declared.options.Overflow.{Overflow}
-use Rattle.cal_types.specs.declared.options.Overflow.TheVariants.{Constrain}
 use Rattle.cal_errors.specs.declared.errors.DateAddError.{DateAddError}
 use Rattle.cal_model.specs.Adding.{IsSum}
 use Rattle.cal_model.specs.CalendarList.{Date, IsOn}
 use Rattle.cal_model.specs.CalendarSystem.{CalendarSystem}
-use Rattle.cal_model.specs.Difference.{IsDifference}
+use Rattle.cal_model.specs.Until.{IsUntil}
 use Rattle.date_calls.specs.Dates.{AreParts, flag}
 use Rattle.date_calls.specs.declared.dates.CalendarDate.{CalendarDate}
 use Rattle.date_calls.specs.declared.durations.CalendarDuration.{CalendarDuration}
@@ -44,5 +43,4 @@ pub record IsApart (s : CalendarSystem) (first second : ℤ) (unit : DateDuratio
   pub to : Date
   pub on_first : IsOn s.list first from
   pub on_second : IsOn s.list second to
-  pub difference : IsDifference s.list from to unit duration
-  pub leads_back : IsSum s.list s.year_shift from duration Constrain (Ok to)
+  pub until : IsUntil s.list s.year_shift from to unit duration

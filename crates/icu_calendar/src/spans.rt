@@ -2,7 +2,6 @@
 
 ghost use Rattle.std.specs.Prelude.{◌≡◌, IfOk, IfErr, Ok};
 ghost use Rattle.cal_types.specs.Bag.{bag_of};
-ghost use Rattle.cal_model.specs.Adding.{IsSum};
 ghost use Rattle.cal_model.specs.CalendarList.{IsOn, day_number};
 ghost use Rattle.cal_model.specs.CalendarSystem.{resolve_fields};
 ghost use Rattle.cal_model.specs.Difference.{largest_unit_of};
@@ -153,10 +152,10 @@ pub fn span<'t>(
     shown: AnyCalendar<'t>,
 ) -> Result<Span<'t>, SpanError>
     ensures calendars { IfOk result (HasCalendars calendar.entry shown.entry) }
-    ensures leads_back { let system = any_system calendar.entry in
+    ensures until { let system = any_system calendar.entry in
         IfOk result (λ s. let from = any_date calendar.entry s.from.inner in
         let to = any_date calendar.entry s.to.inner in
-        IsSum system.list system.year_shift from s.duration Overflow.Constrain (Ok to)) }
+        IsUntil system.list system.year_shift from to (largest_unit_of difference.largest_unit) s.duration) }
     ensures spans { let c = any_system calendar.entry in
         let list = (any_system shown.entry).list in
         let unit = largest_unit_of difference.largest_unit in

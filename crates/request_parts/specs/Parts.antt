@@ -5,12 +5,10 @@ use Rattle.cal_types.specs.Bag.{Bag}
 use Rattle.cal_types.specs.MonthParts.{month_parts}
 use Rattle.cal_types.specs.Year.{extended_year_of}
 use Rattle.cal_types.specs.declared.options.DateFromFieldsOptions.{DateFromFieldsOptions}
-use Rattle.cal_types.specs.declared.options.Overflow.TheVariants.{Constrain}
 use Rattle.cal_types.specs.declared.duration.DateDurationUnit.{DateDurationUnit}
 use Rattle.cal_model.specs.CalendarList.{Date, IsOn, day_number, month_at}
 use Rattle.cal_model.specs.CalendarSystem.{CalendarSystem, resolve_fields}
-use Rattle.cal_model.specs.Adding.{IsSum}
-use Rattle.cal_model.specs.Difference.{IsDifference}
+use Rattle.cal_model.specs.Until.{IsUntil}
 use Rattle.cal_spans.specs.Spans.{RefusesBag}
 use Rattle.cal_spans.specs.declared.span_error.SpanError.{SpanError}
 use Rattle.request_parts.specs.declared.day_parts.DayParts.{DayParts}
@@ -45,8 +43,7 @@ pub record AreNamed (s : CalendarSystem) (first second : Bag) (options : DateFro
   pub to : resolve_fields s second options ≡ Ok to_date
   pub from_parts : IsDayParts s from_date p.from
   pub to_parts : IsDayParts s to_date p.to
-  pub difference : IsDifference s.list from_date to_date unit p.duration
-  pub leads_back : IsSum s.list s.year_shift from_date p.duration Constrain (Ok to_date)
+  pub until : IsUntil s.list s.year_shift from_date to_date unit p.duration
 
 -- a bag names no date, for this reason
 pub record AreRefused (s : CalendarSystem) (first second : Bag) (options : DateFromFieldsOptions)

@@ -19,8 +19,7 @@ returns c s first second options unit named =
       duration = c.args.parts.now.duration;
       from_on = subst (λ n. IsOn other.list n from.date) (c.unnamed-from_shown.ensures ∙ named.from_parts.rata_die) from.on;
       to_on = subst (λ n. IsOn other.list n to.date) (c.unnamed-to_shown.ensures ∙ named.to_parts.rata_die) to.on;
-      difference = named.difference;
-      leads_back = named.leads_back;
+      until = named.until;
       says = pushed c.args.text.now.items _ _ _ _ _ _ _ _ _ _ c.push-3.new.self.items c.push_all.ensures
           (c.push_day.ensures.items s other named.from_date from.date named.from_parts from.parts) c.push.ensures.items
           (c.push_day-2.ensures.items s other named.to_date to.date named.to_parts to.parts) c.push-2.ensures.items

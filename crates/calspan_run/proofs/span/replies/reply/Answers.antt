@@ -18,7 +18,7 @@ returns-in-Ok c =
       said.says,
       record {
         answer = Ok dates;
-        span = record { from = named.from; to = named.to; from_shown = said.from_on; to_shown = said.to_on; duration = said.difference; leads_back = said.leads_back };
+        span = record { from = named.from; to = named.to; from_shown = said.from_on; to_shown = said.to_on; until = said.until };
         says = refl;
         refuses = refl;
       },
