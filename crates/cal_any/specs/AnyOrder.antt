@@ -3,7 +3,7 @@ use Rattle.std.specs.Prelude.{ℕ, pos, Bool, true, ◌&&◌, ◌==◌, Option, 
 use Rattle.std.specs.declared.cmp.Ordering.{Ordering}
 use Rattle.cal_model.specs.CalendarList.{Date}
 use Rattle.cal_model.specs.DateOrder.{date_eq, date_cmp}
-use Rattle.cal_base.specs.PackedDates.{kept_date as in_iso_years}
+use Rattle.cal_base.specs.KeptDates.{kept_date as in_iso_years}
 use Rattle.cal_coptic.specs.CopticSystem.{coptic_date}
 use Rattle.cal_coptic.specs.EthiopianSystem.{kept_date as in_coptic_years}
 use Rattle.cal_hebrew.specs.HebrewSystem.{hebrew_date, has_hebrew_length}

@@ -8,9 +8,9 @@ use Rattle.cal_base.specs.laws.GregorianMonths.{leap_is, month_length-gregorian,
 use Rattle.cal_base.specs.laws.GregorianLaws.{start_of_year-gregorian}
 use Rattle.cal_base.specs.OffsetList.{offset_list, extended_year_from}
 use Rattle.cal_base.specs.laws.OffsetListLaws.{number-extended, offset_list-months}
-use Rattle.cal_base.specs.declared.iso_year.IsoYear.{IsoYear}
+use Rattle.cal_base.specs.declared.numbered_year.NumberedYear.{NumberedYear}
 
-module _ (offset : ℤ) (year : IsoYear) where
+module _ (offset : ℤ) (year : NumberedYear) where
   extended-number : extended_year_from offset year +ℤ offset ≡ year.number
   extended-number = sym (number-extended offset year)
 

@@ -4,6 +4,7 @@ pub mod IsoSystem
 pub mod OwnYears
 pub mod OffsetList
 pub mod IsoEra
-pub mod PackedDates
+pub mod KeptDates
+pub mod PackedYears
 pub mod OffsetSystem
 pub mod laws

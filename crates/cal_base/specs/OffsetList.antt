@@ -5,7 +5,7 @@ use Rattle.cal_model.specs.Renumbered.{renumbered}
 use Rattle.cal_model.specs.RenumberedBounds.{IsShift}
 use Rattle.cal_arith.specs.Given.{CalendarYears}
 use Rattle.cal_base.specs.GregorianList.{gregorian_list}
-use Rattle.cal_base.specs.declared.iso_year.IsoYear.{IsoYear}
+use Rattle.cal_base.specs.declared.numbered_year.NumberedYear.{NumberedYear}
 
 -- the list whose extended year y is the ISO year y + offset
 abbrev pub offset_list : ℤ → CalendarList
@@ -16,15 +16,15 @@ abbrev pub IsOffset : ℤ → Type 0
 IsOffset offset = IsShift offset
 
 -- the ISO year of an extended year
-abbrev pub iso_year_of : ℤ → ℤ → IsoYear
+abbrev pub iso_year_of : ℤ → ℤ → NumberedYear
 iso_year_of offset extended_year = record { number = extended_year +ℤ offset }
 
 -- the extended year of an ISO year
-abbrev pub extended_year_from : ℤ → IsoYear → ℤ
+abbrev pub extended_year_from : ℤ → NumberedYear → ℤ
 extended_year_from offset year = year.number -ℤ offset
 
 -- the calendar's years, which keep the ISO year
-abbrev pub offset_years : ℤ → CalendarYears IsoYear
+abbrev pub offset_years : ℤ → CalendarYears NumberedYear
 offset_years offset = record {
   list = offset_list offset;
   year_of = iso_year_of offset;

@@ -9,10 +9,10 @@ use Rattle.cal_model.specs.CalendarSystem.{CalendarSystem}
 use Rattle.cal_model.specs.PlainMonths.{is_plain_month}
 use Rattle.cal_model.specs.YearNames.{YearNames, reference_of_known}
 use Rattle.cal_arith.specs.declared.dates.Ymd.{Ymd}
-use Rattle.cal_base.specs.declared.iso_year.IsoYear.{IsoYear}
+use Rattle.cal_base.specs.declared.numbered_year.NumberedYear.{NumberedYear}
 use Rattle.cal_base.specs.GregorianList.{gregorian_list}
 use Rattle.cal_base.specs.OffsetList.{offset_list}
-use Rattle.cal_base.specs.PackedDates.{kept_date}
+use Rattle.cal_base.specs.KeptDates.{kept_date}
 
 -- each month has ISO year 1972 as its reference year
 abbrev pub offset_names : ℤ → (List ℕ → ℤ → Option ℤ) → YearNames
@@ -32,9 +32,9 @@ offset_system offset reads era_year = record {
 }
 
 -- a date as it is kept, in extended years
-abbrev pub offset_date : ℤ → Ymd IsoYear → Date
+abbrev pub offset_date : ℤ → Ymd NumberedYear → Date
 offset_date offset d = date (d.year.number -ℤ offset) d.month d.day
 
 -- it is a date of the ISO years, and its day number is in the valid range
-abbrev pub kept_belongs : Ymd IsoYear → Bool
+abbrev pub kept_belongs : Ymd NumberedYear → Bool
 kept_belongs d = is_valid_date gregorian_list (kept_date d)

@@ -4,7 +4,8 @@
 use crate::calendar::{AsCalendar, Calendar};
 use crate::gregorian_years::GregorianYears;
 use crate::iso::IsoDateInner;
-use crate::iso_year::{IsoYear, iso_date, iso_day_number};
+use crate::iso_days::{days_in_iso_month, is_leap, iso_date, iso_day_number};
+use crate::numbered_year::NumberedYear;
 use crate::plain_months::{is_plain, plain_ordinal};
 use crate::scaffold::UnstableSealed;
 use cal_arith::{ArithmeticDate, DateFieldsResolver, Steps, YearShapes, Years};
@@ -33,32 +34,32 @@ impl<Y: GregorianYears> YearShapes for AbstractGregorian<Y> {
     ghost use Rattle.cal_base.specs.OffsetList.{offset_years};
     ghost use Rattle.cal_base.specs.laws.OffsetListLaws.{extended_year-iso, number-extended, offset_list-lawful};
 
-    type YearInfo = IsoYear;
+    type YearInfo = NumberedYear;
 
     ghost years = { λ s. offset_years (Y.offset s.0) };
 
-    fn year_counted<L: Ledger>(&self, extended_year: i32, steps: &mut Steps<L>) -> IsoYear {
+    fn year_counted<L: Ledger>(&self, extended_year: i32, steps: &mut Steps<L>) -> NumberedYear {
         steps.tick();
         self.year_info_from_extended(extended_year)
     }
 
-    fn extended_from_year_info(&self, year: IsoYear) -> i32 {
+    fn extended_from_year_info(&self, year: NumberedYear) -> i32 {
         year.number - self.0.year_offset()
     }
 
-    fn months_in_provided_year(&self, _year: IsoYear) -> u8 {
+    fn months_in_provided_year(&self, _year: NumberedYear) -> u8 {
         12
     }
 
-    fn days_in_provided_month(&self, year: IsoYear, month: u8) -> u8 {
-        year.days_in_month(month)
+    fn days_in_provided_month(&self, year: NumberedYear, month: u8) -> u8 {
+        days_in_iso_month(year, month)
     }
 
-    fn to_rata_die_inner(&self, year: IsoYear, month: u8, day: u8) -> RataDie {
+    fn to_rata_die_inner(&self, year: NumberedYear, month: u8, day: u8) -> RataDie {
         RataDie::new(iso_day_number(year.number, month, day))
     }
 
-    fn min_months_from(&self, _start: IsoYear, count: i32) -> i32 {
+    fn min_months_from(&self, _start: NumberedYear, count: i32) -> i32 {
         12 * count
     }
 
@@ -68,22 +69,22 @@ impl<Y: GregorianYears> YearShapes for AbstractGregorian<Y> {
 
     fn ordinal_from_month(
         &self,
-        _year: IsoYear,
+        _year: NumberedYear,
         month: Month,
         _overflow: Overflow,
     ) -> Result<u8, MonthError> {
         plain_ordinal(month, 12)
     }
 
-    fn month_from_ordinal(&self, _year: IsoYear, ordinal_month: u8) -> Month {
+    fn month_from_ordinal(&self, _year: NumberedYear, ordinal_month: u8) -> Month {
         Month::new(ordinal_month)
     }
 
     fn ordinal_in_other_year(
         &self,
-        _year: IsoYear,
+        _year: NumberedYear,
         ordinal_month: u8,
-        _other: IsoYear,
+        _other: NumberedYear,
         _overflow: Overflow,
     ) -> Option<u8> {
         Some(ordinal_month)
@@ -113,21 +114,21 @@ impl<Y: GregorianYears> YearShapes for AbstractGregorian<Y> {
 }
 
 impl<Y: GregorianYears> Years for AbstractGregorian<Y> {
-    fn year_info_from_extended(&self, extended_year: i32) -> IsoYear {
-        IsoYear {
+    fn year_info_from_extended(&self, extended_year: i32) -> NumberedYear {
+        NumberedYear {
             number: extended_year + self.0.year_offset(),
         }
     }
 
-    fn year_containing_rd(&self, rd: RataDie) -> IsoYear {
-        IsoYear {
+    fn year_containing_rd(&self, rd: RataDie) -> NumberedYear {
+        NumberedYear {
             number: gregorian::year_from_fixed(rd),
         }
     }
 
-    fn year_month_day(&self, rd: RataDie) -> (IsoYear, u8, u8) {
+    fn year_month_day(&self, rd: RataDie) -> (NumberedYear, u8, u8) {
         let (number, month, day) = iso_date(rd);
-        (IsoYear { number }, month, day)
+        (NumberedYear { number }, month, day)
     }
 }
 
@@ -152,9 +153,9 @@ impl<Y: GregorianYears> DateFieldsResolver for AbstractGregorian<Y> {
         &self,
         month: Month,
         _day: u8,
-    ) -> Result<IsoYear, EcmaReferenceYearError> {
+    ) -> Result<NumberedYear, EcmaReferenceYearError> {
         if is_plain(month, 12) {
-            Ok(IsoYear { number: 1972 })
+            Ok(NumberedYear { number: 1972 })
         } else {
             Err(EcmaReferenceYearError::MonthNotInCalendar)
         }
@@ -260,7 +261,7 @@ impl<Y: GregorianYears> Calendar for AbstractGregorian<Y> {
     }
 
     fn is_in_leap_year(&self, date: &ArithmeticDate<AbstractGregorian<Y>>) -> bool {
-        date.year().is_leap()
+        is_leap(date.year())
     }
 
     fn year_info(&self, date: &ArithmeticDate<AbstractGregorian<Y>>) -> EraYear {

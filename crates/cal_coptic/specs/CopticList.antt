@@ -5,7 +5,7 @@ use Rattle.cal_days.specs.Coptic.{coptic_leap}
 use Rattle.cal_model.specs.CalendarList.{CalendarList, Entry, no_entry}
 use Rattle.cal_model.specs.PlainMonths.{plain_entry, is_plain_month}
 use Rattle.cal_arith.specs.Given.{CalendarYears}
-use Rattle.cal_coptic.specs.declared.coptic_year.CopticYear.{CopticYear}
+use Rattle.cal_base.specs.declared.numbered_year.NumberedYear.{NumberedYear}
 
 -- twelve months of 30 days, and the epagomenal days, which are 5 or 6
 abbrev pub coptic_months : Bool → List Entry
@@ -30,11 +30,11 @@ coptic_list = record {
 }
 
 -- the year of a number
-abbrev pub coptic_year : ℤ → CopticYear
+abbrev pub coptic_year : ℤ → NumberedYear
 coptic_year number = record { number = number }
 
 -- the years of the Coptic calendar, which keep their extended year
-abbrev pub coptic_years : CalendarYears CopticYear
+abbrev pub coptic_years : CalendarYears NumberedYear
 coptic_years = record {
   list = coptic_list;
   year_of = coptic_year;

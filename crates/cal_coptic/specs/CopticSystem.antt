@@ -3,9 +3,10 @@ use Rattle.std.specs.Prelude.{Bool}
 use Rattle.cal_types.specs.declared.month_info.LeapStatus.TheVariants.{Normal}
 use Rattle.cal_types.specs.declared.year.YearInfo.TheVariants.{Era}
 use Rattle.cal_days.specs.Coptic.{coptic_leap}
-use Rattle.cal_model.specs.CalendarList.{Date, date, is_valid_date}
+use Rattle.cal_model.specs.CalendarList.{Date, is_valid_date}
 use Rattle.cal_model.specs.CalendarSystem.{CalendarSystem}
 use Rattle.cal_base.specs.OwnYears.{own_system}
+use Rattle.cal_base.specs.KeptDates.{kept_date}
 use Rattle.cal_coptic.specs.CopticEra.{coptic_era_year}
 use Rattle.cal_coptic.specs.CopticNames.{coptic_names}
 use Rattle.cal_coptic.specs.CopticList.{coptic_list, coptic_years}
@@ -18,7 +19,7 @@ coptic_system =
 
 -- the date that an inner date stands for
 abbrev pub coptic_date : CopticDateInner → Date
-coptic_date d = date d.0.parts.year.number d.0.parts.month d.0.parts.day
+coptic_date d = kept_date d.0.parts
 
 -- it is a date of the list, and its day number is in the valid range
 abbrev pub coptic_belongs : CopticDateInner → Bool

@@ -5,7 +5,7 @@ use Rattle.cal_model.specs.CalendarList.{CalendarList}
 use Rattle.cal_model.specs.Renumbered.{renumbered}
 use Rattle.cal_arith.specs.Given.{CalendarYears}
 use Rattle.cal_coptic.specs.CopticList.{coptic_list, coptic_year}
-use Rattle.cal_coptic.specs.declared.coptic_year.CopticYear.{CopticYear}
+use Rattle.cal_base.specs.declared.numbered_year.NumberedYear.{NumberedYear}
 use Rattle.cal_coptic.specs.declared.ethiopian.EthiopianEraStyle.{EthiopianEraStyle}
 use Rattle.cal_coptic.specs.declared.ethiopian.EthiopianEraStyle.TheVariants.{AmeteMihret, AmeteAlem}
 
@@ -27,7 +27,7 @@ abbrev pub ethiopian_list : ℤ → CalendarList
 ethiopian_list offset = renumbered offset coptic_list
 
 -- its years, which keep the Coptic year
-abbrev pub ethiopian_years : ℤ → CalendarYears CopticYear
+abbrev pub ethiopian_years : ℤ → CalendarYears NumberedYear
 ethiopian_years offset = record {
   list = ethiopian_list offset;
   year_of = λ y. coptic_year (y +ℤ offset);

@@ -5,9 +5,10 @@ use Rattle.cal_algorithms.specs.declared.algorithm.CalendarAlgorithm.TheVariants
 use Rattle.cal_types.specs.declared.month_info.LeapStatus.TheVariants.{Normal}
 use Rattle.cal_types.specs.declared.year.YearInfo.TheVariants.{Era}
 use Rattle.cal_days.specs.Coptic.{coptic_leap}
-use Rattle.cal_model.specs.CalendarList.{Date, date, is_valid_date}
+use Rattle.cal_model.specs.CalendarList.{Date, is_valid_date}
 use Rattle.cal_model.specs.CalendarSystem.{CalendarSystem}
 use Rattle.cal_base.specs.OwnYears.{own_system}
+use Rattle.cal_base.specs.KeptDates.{kept_date as in_numbered_years}
 use Rattle.cal_model.specs.Renumbered.{counted_date}
 use Rattle.cal_coptic.specs.EthiopianEra.{ethiopian_era_year}
 use Rattle.cal_coptic.specs.EthiopianList.{coptic_offset, ethiopian_list, ethiopian_years}
@@ -25,7 +26,7 @@ ethiopian_system style =
 
 -- the date that an inner date stands for, in Coptic years
 abbrev pub kept_date : EthiopianDateInner → Date
-kept_date d = date d.0.parts.year.number d.0.parts.month d.0.parts.day
+kept_date d = in_numbered_years d.0.parts
 
 -- the same, in extended years
 abbrev pub ethiopian_date : EthiopianEraStyle → EthiopianDateInner → Date

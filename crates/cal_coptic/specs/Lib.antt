@@ -1,7 +1,6 @@
 pub mod CopticList
 pub mod CopticEra
 pub mod CopticNames
-pub mod PackedYears
 pub mod CopticSystem
 pub mod EthiopianList
 pub mod EthiopianEra

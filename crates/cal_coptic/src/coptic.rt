@@ -1,11 +1,11 @@
 //! The Coptic calendar (Reingold and Dershowitz, Calendrical Calculations, chapter 4).
 
-use crate::coptic_year::{CopticYear, coptic_date, month_and_day, reference_year};
+use crate::coptic_year::{coptic_date, month_and_day, reference_year};
 use cal_arith::eras::year_in_only_era;
 use cal_arith::{ArithmeticDate, DateFieldsResolver, Steps, YearShapes, Years};
 use cal_base::plain_months::{is_plain, plain_ordinal};
 use cal_base::scaffold::UnstableSealed;
-use cal_base::{Arithmetic, AsCalendar, Calendar, NamedYears};
+use cal_base::{Arithmetic, AsCalendar, Calendar, NamedYears, NumberedYear};
 use cal_days::{RataDie, coptic};
 use cal_types::{
     CalendarAlgorithm, DateAddError, DateAddOptions, DateDifferenceOptions, DateDuration,
@@ -34,34 +34,34 @@ impl YearShapes for Coptic {
     ghost use Rattle.cal_coptic.specs.CopticList.{coptic_years};
     ghost use Rattle.cal_coptic.specs.laws.CopticLaws.{coptic_list-bounded, coptic_list-lawful, stored-extended, day_number-near, years-ranged, days-covered};
 
-    type YearInfo = CopticYear;
+    type YearInfo = NumberedYear;
 
     ghost years = { λ _. coptic_years };
 
-    fn year_counted<L: Ledger>(&self, extended_year: i32, steps: &mut Steps<L>) -> CopticYear {
+    fn year_counted<L: Ledger>(&self, extended_year: i32, steps: &mut Steps<L>) -> NumberedYear {
         steps.tick();
-        CopticYear {
+        NumberedYear {
             number: extended_year,
         }
     }
 
-    fn extended_from_year_info(&self, year: CopticYear) -> i32 {
+    fn extended_from_year_info(&self, year: NumberedYear) -> i32 {
         year.number
     }
 
-    fn months_in_provided_year(&self, _year: CopticYear) -> u8 {
+    fn months_in_provided_year(&self, _year: NumberedYear) -> u8 {
         13
     }
 
-    fn days_in_provided_month(&self, year: CopticYear, month: u8) -> u8 {
-        year.days_in_month(month)
+    fn days_in_provided_month(&self, year: NumberedYear, month: u8) -> u8 {
+        days_in_month(year, month)
     }
 
-    fn to_rata_die_inner(&self, year: CopticYear, month: u8, day: u8) -> RataDie {
-        year.day_number(month, day)
+    fn to_rata_die_inner(&self, year: NumberedYear, month: u8, day: u8) -> RataDie {
+        day_number(year, month, day)
     }
 
-    fn min_months_from(&self, _start: CopticYear, count: i32) -> i32 {
+    fn min_months_from(&self, _start: NumberedYear, count: i32) -> i32 {
         13 * count
     }
 
@@ -71,14 +71,14 @@ impl YearShapes for Coptic {
 
     fn ordinal_from_month(
         &self,
-        _year: CopticYear,
+        _year: NumberedYear,
         month: Month,
         _overflow: Overflow,
     ) -> Result<u8, MonthError> {
         plain_ordinal(month, 13)
     }
 
-    fn month_from_ordinal(&self, _year: CopticYear, ordinal_month: u8) -> Month {
+    fn month_from_ordinal(&self, _year: NumberedYear, ordinal_month: u8) -> Month {
         Month::new(ordinal_month)
     }
 
@@ -102,27 +102,27 @@ impl YearShapes for Coptic {
 }
 
 impl Years for Coptic {
-    fn year_info_from_extended(&self, extended_year: i32) -> CopticYear {
-        CopticYear {
+    fn year_info_from_extended(&self, extended_year: i32) -> NumberedYear {
+        NumberedYear {
             number: extended_year,
         }
     }
 
-    fn year_containing_rd(&self, rd: RataDie) -> CopticYear {
-        CopticYear {
+    fn year_containing_rd(&self, rd: RataDie) -> NumberedYear {
+        NumberedYear {
             number: coptic::year_from_fixed(rd),
         }
     }
 
-    fn year_month_day(&self, rd: RataDie) -> (CopticYear, u8, u8) {
+    fn year_month_day(&self, rd: RataDie) -> (NumberedYear, u8, u8) {
         coptic_date(rd)
     }
 
-    fn month_and_day(&self, _year: CopticYear, day_of_year: u16) -> (u8, u8) {
+    fn month_and_day(&self, _year: NumberedYear, day_of_year: u16) -> (u8, u8) {
         month_and_day(day_of_year)
     }
 
-    fn estimated_years(&self, _from: CopticYear, months: u32) -> u32 {
+    fn estimated_years(&self, _from: NumberedYear, months: u32) -> u32 {
         months / 13
     }
 }
@@ -149,7 +149,7 @@ impl DateFieldsResolver for Coptic {
         &self,
         month: Month,
         day: u8,
-    ) -> Result<CopticYear, EcmaReferenceYearError> {
+    ) -> Result<NumberedYear, EcmaReferenceYearError> {
         if is_plain(month, 13) {
             Ok(reference_year(month.number(), day))
         } else {
@@ -181,15 +181,15 @@ impl NamedYears for Coptic {
 
     ghost year_named = { λ _ y. Era (coptic_era_year y) };
 
-    fn owns_year(&self, year: CopticYear) -> bool {
+    fn owns_year(&self, year: NumberedYear) -> bool {
         year.can_be_named()
     }
 
-    fn is_leap(&self, year: CopticYear) -> bool {
-        year.is_leap()
+    fn is_leap(&self, year: NumberedYear) -> bool {
+        is_leap(year)
     }
 
-    fn named_year(&self, year: CopticYear) -> EraYear {
+    fn named_year(&self, year: NumberedYear) -> EraYear {
         EraYear {
             year: year.number,
             extended_year: year.number,
@@ -201,7 +201,7 @@ impl NamedYears for Coptic {
 
     fn shown_month(
         &self,
-        _year: CopticYear,
+        _year: NumberedYear,
         _ordinal_month: u8,
         month: Month,
     ) -> (LeapStatus, Month) {

@@ -7,103 +7,49 @@ ghost use Rattle.cal_model.specs.CalendarList.{IsDate, IsOn, date, day_number, m
 ghost use Rattle.cal_coptic.specs.CopticList.{coptic_list};
 ghost use Rattle.cal_coptic.specs.CopticNames.{coptic_reference_year};
 
-use cal_arith::{PackWithMD, Ymd, can_be_named};
+use cal_base::NumberedYear;
 use cal_days::ranges::MAX_FIELD_YEAR;
 use cal_days::{RataDie, coptic};
-use date_bytes::solar;
 
 /// The greatest year, with either sign, that fields may name.
 const MOST: i64 = MAX_FIELD_YEAR as i64;
 
-/// A year of the Coptic calendar, by its number. A date of the Ethiopian calendar keeps it too.
-#[derive(Clone, Copy, Debug, PartialEq, Eq, PartialOrd, Ord, Hash)]
-pub struct CopticYear {
-    pub(crate) number: i32,
+/// Whether the year has 366 days.
+pub(crate) fn is_leap(year: NumberedYear) -> bool
+    ensures { IsTrue result ↔ IsTrue (coptic_leap year.number) }
+{
+    coptic::is_leap_year(year.number)
 }
 
-impl CopticYear {
-    /// Whether fields may name the year.
-    pub(crate) fn can_be_named(self) -> bool
-        ensures { result ≡ is_field_year self.number }
-    {
-        can_be_named(self.number)
-    }
-
-    /// Whether fields may name the year, where its extended year is the number less an offset.
-    pub(crate) fn can_be_named_from(self, offset: i32) -> bool
-        ensures { result ≡ is_field_year (self.number -ℤ offset) }
-    {
-        may_be_named(i64::from(self.number) - i64::from(offset))
-    }
-
-    /// Whether the year has 366 days.
-    pub(crate) fn is_leap(self) -> bool
-        ensures { IsTrue result ↔ IsTrue (coptic_leap self.number) }
-    {
-        coptic::is_leap_year(self.number)
-    }
-
-    /// How many days a month of the year has: 30, and 5 or 6 in the last one.
-    pub(crate) fn days_in_month(self, month: u8) -> u8
-        requires { (1 ≤ month) × (month ≤ 13) }
-        ensures { result ≡ month_length coptic_list self.number month }
-    {
-        if month <= 12 {
-            30
-        } else if self.is_leap() {
-            6
-        } else {
-            5
-        }
-    }
-
-    /// The day number of a month and a day of the year, which is one from -8009999 to 8009999.
-    pub(crate) fn day_number(self, month: u8, day: u8) -> RataDie
-        requires year { IsShiftedYear self.number }
-        requires date { IsDate coptic_list (date self.number month day) }
-        ensures { result ≡ day_number coptic_list (date self.number month day) }
-    {
-        let before = 30 * u16::from(month - 1) + u16::from(day - 1);
-        RataDie::new(coptic::year_start(self.number).to_i64_date() + i64::from(before))
+/// How many days a month of the year has: 30, and 5 or 6 in the last one.
+pub(crate) fn days_in_month(year: NumberedYear, month: u8) -> u8
+    requires { (1 ≤ month) × (month ≤ 13) }
+    ensures { result ≡ month_length coptic_list year.number month }
+{
+    if month <= 12 {
+        30
+    } else if is_leap(year) {
+        6
+    } else {
+        5
     }
 }
 
-impl PackWithMD for CopticYear {
-    ghost use Rattle.std.specs.Prelude.{◌≡◌, ◌≤◌};
-    ghost use Rattle.cal_days.specs.Day.{IsFieldYear};
-    ghost use Rattle.cal_arith.specs.Dates.{ymd};
-    ghost use Rattle.date_bytes.specs.Bytes.{date_bytes, day_from, month_from};
-    ghost use Rattle.cal_coptic.specs.PackedYears.{coptic_year};
+/// The day number of a month and a day of the year, which is one from -8009999 to 8009999.
+pub(crate) fn day_number(year: NumberedYear, month: u8, day: u8) -> RataDie
+    requires year { IsShiftedYear year.number }
+    requires date { IsDate coptic_list (date year.number month day) }
+    ensures { result ≡ day_number coptic_list (date year.number month day) }
+{
+    let before = 30 * u16::from(month - 1) + u16::from(day - 1);
+    RataDie::new(coptic::year_start(year.number).to_i64_date() + i64::from(before))
+}
 
-    type Packed = [u8; 4];
-
-    ghost stored = { λ y. y.number };
-
-    ghost unpacked = { λ p. ymd (coptic_year p) (month_from 0 p) (day_from 0 p) };
-
-    fn pack(self, month: u8, day: u8) -> [u8; 4]
-        requires storable { IsFieldYear self.number }
-        requires month { (1 ≤ month) × (month ≤ 13) }
-        requires day { (1 ≤ day) × (day ≤ 31) }
-        ensures bytes { result ≡ date_bytes self.number month day }
-        ensures parts { ymd (coptic_year result) (month_from 0 result) (day_from 0 result) ≡ ymd self month day }
-    {
-        solar::pack(self.number, month, day)
-    }
-
-    fn unpack_year(packed: [u8; 4]) -> CopticYear {
-        CopticYear {
-            number: solar::unpack_year(packed),
-        }
-    }
-
-    fn unpack_month(packed: [u8; 4]) -> u8 {
-        solar::unpack_month(packed)
-    }
-
-    fn unpack_day(packed: [u8; 4]) -> u8 {
-        solar::unpack_day(packed)
-    }
+/// Whether fields may name the year, where its extended year is the number less an offset.
+pub(crate) fn can_be_named_from(year: NumberedYear, offset: i32) -> bool
+    ensures { result ≡ is_field_year (year.number -ℤ offset) }
+{
+    may_be_named(i64::from(year.number) - i64::from(offset))
 }
 
 /// Whether an extended year is one that fields may name.
@@ -123,19 +69,19 @@ pub(crate) fn month_and_day(day_of_year: u16) -> (u8, u8)
 }
 
 /// The date of a valid day: its Coptic year, the place of its month, and its day of the month.
-pub(crate) fn coptic_date(rd: RataDie) -> (CopticYear, u8, u8)
+pub(crate) fn coptic_date(rd: RataDie) -> (NumberedYear, u8, u8)
     requires { IsValidDay rd }
     ensures on { IsOn coptic_list rd (date result.0.number result.1 result.2) }
     ensures year { IsBetween (neg_ℤ (pos 1000263)) (pos 999695) result.0.number }
 {
     let (number, day_of_year) = coptic::year_and_day_from_fixed(rd);
     let (month, day) = month_and_day(day_of_year);
-    (CopticYear { number }, month, day)
+    (NumberedYear { number }, month, day)
 }
 
 /// The reference year of a day of a month, 1 to 13: the latest year in which it falls on or before 1972-12-31 of
 /// the ISO calendar.
-pub(crate) fn reference_year(month: u8, day: u8) -> CopticYear
+pub(crate) fn reference_year(month: u8, day: u8) -> NumberedYear
     ensures year { result.number ≡ coptic_reference_year month day }
     ensures range { IsBetween (pos 1687) (pos 1689) result.number }
 {
@@ -144,5 +90,5 @@ pub(crate) fn reference_year(month: u8, day: u8) -> CopticYear
         (13, 6..) => 1687,
         _ => 1688,
     };
-    CopticYear { number }
+    NumberedYear { number }
 }

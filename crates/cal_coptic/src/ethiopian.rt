@@ -8,12 +8,12 @@ ghost use Rattle.cal_coptic.specs.EthiopianEra.{ethiopian_era_year, world_era_ye
 ghost use Rattle.cal_coptic.specs.EthiopianList.{coptic_offset, is_same_style};
 ghost use Rattle.cal_coptic.specs.EthiopianNames.{incarnation_reads};
 
-use crate::coptic_year::{CopticYear, coptic_date, month_and_day, reference_year};
+use crate::coptic_year::{coptic_date, month_and_day, reference_year};
 use cal_arith::eras::year_in_only_era;
 use cal_arith::{ArithmeticDate, DateFieldsResolver, Steps, YearShapes, Years};
 use cal_base::plain_months::{is_plain, plain_ordinal};
 use cal_base::scaffold::UnstableSealed;
-use cal_base::{Arithmetic, AsCalendar, Calendar, NamedYears};
+use cal_base::{Arithmetic, AsCalendar, Calendar, NamedYears, NumberedYear};
 use cal_days::{RataDie, coptic};
 use cal_types::{
     CalendarAlgorithm, DateAddError, DateAddOptions, DateDifferenceOptions, DateDuration,
@@ -128,32 +128,32 @@ impl YearShapes for Ethiopian {
     ghost use Rattle.cal_coptic.specs.EthiopianList.{coptic_offset, ethiopian_years};
     ghost use Rattle.cal_coptic.specs.laws.EthiopianLaws.{coptic_offset-small, ethiopian_list-lawful};
 
-    type YearInfo = CopticYear;
+    type YearInfo = NumberedYear;
 
     ghost years = { λ s. ethiopian_years (coptic_offset s.era_style) };
 
-    fn year_counted<L: Ledger>(&self, extended_year: i32, steps: &mut Steps<L>) -> CopticYear {
+    fn year_counted<L: Ledger>(&self, extended_year: i32, steps: &mut Steps<L>) -> NumberedYear {
         steps.tick();
         self.year_info_from_extended(extended_year)
     }
 
-    fn extended_from_year_info(&self, year: CopticYear) -> i32 {
+    fn extended_from_year_info(&self, year: NumberedYear) -> i32 {
         year.number - self.era_style.coptic_offset()
     }
 
-    fn months_in_provided_year(&self, _year: CopticYear) -> u8 {
+    fn months_in_provided_year(&self, _year: NumberedYear) -> u8 {
         13
     }
 
-    fn days_in_provided_month(&self, year: CopticYear, month: u8) -> u8 {
-        year.days_in_month(month)
+    fn days_in_provided_month(&self, year: NumberedYear, month: u8) -> u8 {
+        days_in_month(year, month)
     }
 
-    fn to_rata_die_inner(&self, year: CopticYear, month: u8, day: u8) -> RataDie {
-        year.day_number(month, day)
+    fn to_rata_die_inner(&self, year: NumberedYear, month: u8, day: u8) -> RataDie {
+        day_number(year, month, day)
     }
 
-    fn min_months_from(&self, _start: CopticYear, count: i32) -> i32 {
+    fn min_months_from(&self, _start: NumberedYear, count: i32) -> i32 {
         13 * count
     }
 
@@ -163,14 +163,14 @@ impl YearShapes for Ethiopian {
 
     fn ordinal_from_month(
         &self,
-        _year: CopticYear,
+        _year: NumberedYear,
         month: Month,
         _overflow: Overflow,
     ) -> Result<u8, MonthError> {
         plain_ordinal(month, 13)
     }
 
-    fn month_from_ordinal(&self, _year: CopticYear, ordinal_month: u8) -> Month {
+    fn month_from_ordinal(&self, _year: NumberedYear, ordinal_month: u8) -> Month {
         Month::new(ordinal_month)
     }
 
@@ -198,27 +198,27 @@ impl YearShapes for Ethiopian {
 }
 
 impl Years for Ethiopian {
-    fn year_info_from_extended(&self, extended_year: i32) -> CopticYear {
-        CopticYear {
+    fn year_info_from_extended(&self, extended_year: i32) -> NumberedYear {
+        NumberedYear {
             number: extended_year + self.era_style.coptic_offset(),
         }
     }
 
-    fn year_containing_rd(&self, rd: RataDie) -> CopticYear {
-        CopticYear {
+    fn year_containing_rd(&self, rd: RataDie) -> NumberedYear {
+        NumberedYear {
             number: coptic::year_from_fixed(rd),
         }
     }
 
-    fn year_month_day(&self, rd: RataDie) -> (CopticYear, u8, u8) {
+    fn year_month_day(&self, rd: RataDie) -> (NumberedYear, u8, u8) {
         coptic_date(rd)
     }
 
-    fn month_and_day(&self, _year: CopticYear, day_of_year: u16) -> (u8, u8) {
+    fn month_and_day(&self, _year: NumberedYear, day_of_year: u16) -> (u8, u8) {
         month_and_day(day_of_year)
     }
 
-    fn estimated_years(&self, _from: CopticYear, months: u32) -> u32 {
+    fn estimated_years(&self, _from: NumberedYear, months: u32) -> u32 {
         months / 13
     }
 }
@@ -265,7 +265,7 @@ impl DateFieldsResolver for Ethiopian {
         &self,
         month: Month,
         day: u8,
-    ) -> Result<CopticYear, EcmaReferenceYearError> {
+    ) -> Result<NumberedYear, EcmaReferenceYearError> {
         if is_plain(month, 13) {
             Ok(reference_year(month.number(), day))
         } else {
@@ -333,21 +333,21 @@ impl NamedYears for Ethiopian {
     // The years of one style have the same extended years. That dates of both can be compared is said below.
     ghost compatible = { λ s t. is_same_style s.era_style t.era_style };
 
-    fn owns_year(&self, year: CopticYear) -> bool {
-        year.can_be_named_from(self.era_style.coptic_offset())
+    fn owns_year(&self, year: NumberedYear) -> bool {
+        can_be_named_from(year, self.era_style.coptic_offset())
     }
 
-    fn is_leap(&self, year: CopticYear) -> bool {
-        year.is_leap()
+    fn is_leap(&self, year: NumberedYear) -> bool {
+        is_leap(year)
     }
 
-    fn named_year(&self, year: CopticYear) -> EraYear {
+    fn named_year(&self, year: NumberedYear) -> EraYear {
         era_year(self.era_style, self.extended_from_year_info(year))
     }
 
     fn shown_month(
         &self,
-        _year: CopticYear,
+        _year: NumberedYear,
         _ordinal_month: u8,
         month: Month,
     ) -> (LeapStatus, Month) {

@@ -7,5 +7,4 @@ mod ethiopian;
 pub mod laws;
 
 pub use coptic::{Coptic, CopticDateInner};
-pub use coptic_year::CopticYear;
 pub use ethiopian::{Ethiopian, EthiopianDateInner, EthiopianEraStyle};

@@ -6,7 +6,7 @@ use Rattle.cal_days.specs.Gregorian.{gregorian_leap, gregorian_start}
 use Rattle.cal_model.specs.CalendarList.{CalendarList, Entry, days_of, no_entry}
 use Rattle.cal_model.specs.PlainMonths.{plain_entry, is_plain_month}
 use Rattle.cal_arith.specs.Given.{CalendarYears}
-use Rattle.cal_julian.specs.declared.indian.IndianYear.{IndianYear}
+use Rattle.cal_base.specs.declared.numbered_year.NumberedYear.{NumberedYear}
 
 -- whether the Gregorian year in which it begins is a leap year
 abbrev pub indian_leap : ℤ → Bool
@@ -51,10 +51,10 @@ indian_list = record {
 }
 
 -- a year keeps its extended year
-abbrev pub indian_years : CalendarYears IndianYear
+abbrev pub indian_years : CalendarYears NumberedYear
 indian_years = record {
   list = indian_list;
-  year_of = λ y. record { extended_year = y };
-  extended = λ y. y.extended_year;
+  year_of = λ y. record { number = y };
+  extended = λ y. y.number;
   offset = pos 0;
 }

@@ -2,9 +2,10 @@
 use Rattle.std.specs.Prelude.{Bool}
 use Rattle.cal_types.specs.declared.month_info.LeapStatus.TheVariants.{Normal}
 use Rattle.cal_types.specs.declared.year.YearInfo.TheVariants.{Era}
-use Rattle.cal_model.specs.CalendarList.{Date, date, is_valid_date}
+use Rattle.cal_model.specs.CalendarList.{Date, is_valid_date}
 use Rattle.cal_model.specs.CalendarSystem.{CalendarSystem}
 use Rattle.cal_base.specs.OwnYears.{own_system}
+use Rattle.cal_base.specs.KeptDates.{kept_date}
 use Rattle.cal_julian.specs.IndianEra.{indian_era_year}
 use Rattle.cal_julian.specs.IndianNames.{indian_names}
 use Rattle.cal_julian.specs.IndianList.{indian_leap, indian_list, indian_years}
@@ -17,7 +18,7 @@ indian_system =
 
 -- the date that an inner date stands for
 abbrev pub indian_date : IndianDateInner → Date
-indian_date d = date d.0.parts.year.extended_year d.0.parts.month d.0.parts.day
+indian_date d = kept_date d.0.parts
 
 -- it is a date of the list, and its day number is in the valid range
 abbrev pub indian_belongs : IndianDateInner → Bool

@@ -3,9 +3,10 @@ use Rattle.std.specs.Prelude.{Bool}
 use Rattle.cal_types.specs.declared.month_info.LeapStatus.TheVariants.{Normal}
 use Rattle.cal_types.specs.declared.year.YearInfo.TheVariants.{Era}
 use Rattle.cal_days.specs.Julian.{julian_leap}
-use Rattle.cal_model.specs.CalendarList.{Date, date, is_valid_date}
+use Rattle.cal_model.specs.CalendarList.{Date, is_valid_date}
 use Rattle.cal_model.specs.CalendarSystem.{CalendarSystem}
 use Rattle.cal_base.specs.OwnYears.{own_system}
+use Rattle.cal_base.specs.KeptDates.{kept_date}
 use Rattle.cal_julian.specs.JulianEra.{julian_era_year}
 use Rattle.cal_julian.specs.JulianNames.{julian_names}
 use Rattle.cal_julian.specs.JulianList.{julian_list, julian_years}
@@ -18,7 +19,7 @@ julian_system =
 
 -- the date that an inner date stands for
 abbrev pub julian_date : JulianDateInner → Date
-julian_date d = date d.0.parts.year.extended_year d.0.parts.month d.0.parts.day
+julian_date d = kept_date d.0.parts
 
 -- it is a date of the list, and its day number is in the valid range
 abbrev pub julian_belongs : JulianDateInner → Bool

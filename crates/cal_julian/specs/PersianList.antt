@@ -5,7 +5,7 @@ use Rattle.cal_model.specs.CalendarList.{CalendarList, Entry, days_of, no_entry}
 use Rattle.cal_model.specs.PlainMonths.{plain_entry, is_plain_month}
 use Rattle.cal_arith.specs.Given.{CalendarYears}
 use Rattle.cal_julian.specs.PersianRule.{is_persian_leap}
-use Rattle.cal_julian.specs.declared.persian.PersianYear.{PersianYear}
+use Rattle.cal_base.specs.declared.numbered_year.NumberedYear.{NumberedYear}
 
 -- six months of 31 days, five of 30, and one of 29 or, in leap years, 30
 abbrev pub persian_months : Bool → List Entry
@@ -33,10 +33,10 @@ persian_list corrections = record {
 }
 
 -- a year keeps its extended year
-abbrev pub persian_years : List ℤ → CalendarYears PersianYear
+abbrev pub persian_years : List ℤ → CalendarYears NumberedYear
 persian_years corrections = record {
   list = persian_list corrections;
-  year_of = λ y. record { extended_year = y };
-  extended = λ y. y.extended_year;
+  year_of = λ y. record { number = y };
+  extended = λ y. y.number;
   offset = pos 0;
 }

@@ -2,9 +2,10 @@
 use Rattle.std.specs.Prelude.{Bool, List, ℤ}
 use Rattle.cal_types.specs.declared.month_info.LeapStatus.TheVariants.{Normal}
 use Rattle.cal_types.specs.declared.year.YearInfo.TheVariants.{Era}
-use Rattle.cal_model.specs.CalendarList.{Date, date, is_valid_date}
+use Rattle.cal_model.specs.CalendarList.{Date, is_valid_date}
 use Rattle.cal_model.specs.CalendarSystem.{CalendarSystem}
 use Rattle.cal_base.specs.OwnYears.{own_system}
+use Rattle.cal_base.specs.KeptDates.{kept_date}
 use Rattle.cal_julian.specs.PersianNames.{persian_era_year, persian_names}
 use Rattle.cal_julian.specs.PersianList.{persian_list, persian_years}
 use Rattle.cal_julian.specs.PersianRule.{is_persian_leap}
@@ -23,7 +24,7 @@ persian_system s = corrected_system (corrected_years s)
 
 -- the date that an inner date stands for
 abbrev pub persian_date : PersianDateInner → Date
-persian_date d = date d.0.parts.year.extended_year d.0.parts.month d.0.parts.day
+persian_date d = kept_date d.0.parts
 
 -- it is a date of the list, and its day number is in the valid range
 abbrev pub persian_belongs : Persian → PersianDateInner → Bool

@@ -11,12 +11,10 @@ ghost use Rattle.cal_julian.specs.IndianNames.{indian_reference_year};
 
 use crate::long_months::months_and_day;
 use cal_arith::eras::year_in_only_era;
-use cal_arith::{
-    ArithmeticDate, DateFieldsResolver, PackWithMD, Steps, YearShapes, Years, Ymd, can_be_named,
-};
+use cal_arith::{ArithmeticDate, DateFieldsResolver, Steps, YearShapes, Years};
 use cal_base::plain_months::{is_plain, plain_ordinal};
 use cal_base::scaffold::UnstableSealed;
-use cal_base::{Arithmetic, AsCalendar, Calendar, NamedYears};
+use cal_base::{Arithmetic, AsCalendar, Calendar, NamedYears, NumberedYear};
 use cal_days::{RataDie, gregorian};
 use cal_types::{
     CalendarAlgorithm, DateAddError, DateAddOptions, DateDifferenceOptions, DateDuration,
@@ -24,7 +22,6 @@ use cal_types::{
     EcmaReferenceYearError, EraYear, LeapStatus, Month, MonthError, MonthInfo, Overflow,
     TinyAsciiStr, UnknownEraError, YearAmbiguity, YearInput,
 };
-use date_bytes::solar;
 use std::convert::Infallible;
 use std::sync::ledger::Ledger;
 
@@ -54,77 +51,24 @@ impl Indian {
 #[derive(Clone, Copy, Debug, PartialEq, Eq, PartialOrd, Ord, Hash)]
 pub struct IndianDateInner(ArithmeticDate<Indian>);
 
-/// A year of the Indian calendar, by its extended year.
-#[derive(Clone, Copy, Debug, PartialEq, Eq, PartialOrd, Ord, Hash)]
-pub struct IndianYear {
-    extended_year: i32,
+/// Whether the year has 366 days.
+fn is_leap(year: NumberedYear) -> bool
+    requires { IsRuleYear year.number }
+    ensures { IsTrue result ↔ IsTrue (indian_leap year.number) }
+{
+    gregorian::is_leap_year(year.number + YEARS_BEHIND)
 }
 
-impl IndianYear {
-    /// Whether fields may name the year.
-    pub(crate) fn can_be_named(self) -> bool
-        ensures { result ≡ is_field_year self.extended_year }
-    {
-        can_be_named(self.extended_year)
-    }
-
-    /// Whether the year has 366 days.
-    pub(crate) fn is_leap(self) -> bool
-        requires { IsRuleYear self.extended_year }
-        ensures { IsTrue result ↔ IsTrue (indian_leap self.extended_year) }
-    {
-        gregorian::is_leap_year(self.extended_year + YEARS_BEHIND)
-    }
-
-    /// The days of a month, 1 to 12. Only the first asks whether the year is a leap year.
-    fn days_in_month(self, month: u8) -> u8
-        requires year { IsRuleYear self.extended_year }
-        requires month { (1 ≤ month) × (month ≤ 12) }
-        ensures { result ≡ indian_month_length (indian_leap self.extended_year) month }
-    {
-        if month == 1 {
-            days_in_month(self.is_leap(), month)
-        } else {
-            days_in_month(true, month)
-        }
-    }
-}
-
-impl PackWithMD for IndianYear {
-    ghost use Rattle.std.specs.Prelude.{◌≡◌, ◌≤◌};
-    ghost use Rattle.cal_days.specs.Day.{IsFieldYear};
-    ghost use Rattle.cal_arith.specs.Dates.{ymd};
-    ghost use Rattle.date_bytes.specs.Bytes.{date_bytes, day_from, month_from};
-    ghost use Rattle.cal_julian.specs.PackedYears.{indian_year};
-
-    type Packed = [u8; 4];
-
-    ghost stored = { λ y. y.extended_year };
-
-    ghost unpacked = { λ p. ymd (indian_year p) (month_from 0 p) (day_from 0 p) };
-
-    fn pack(self, month: u8, day: u8) -> [u8; 4]
-        requires storable { IsFieldYear self.extended_year }
-        requires month { (1 ≤ month) × (month ≤ 13) }
-        requires day { (1 ≤ day) × (day ≤ 31) }
-        ensures bytes { result ≡ date_bytes self.extended_year month day }
-        ensures parts { ymd (indian_year result) (month_from 0 result) (day_from 0 result) ≡ ymd self month day }
-    {
-        solar::pack(self.extended_year, month, day)
-    }
-
-    fn unpack_year(packed: [u8; 4]) -> IndianYear {
-        IndianYear {
-            extended_year: solar::unpack_year(packed),
-        }
-    }
-
-    fn unpack_month(packed: [u8; 4]) -> u8 {
-        solar::unpack_month(packed)
-    }
-
-    fn unpack_day(packed: [u8; 4]) -> u8 {
-        solar::unpack_day(packed)
+/// The days of a month, 1 to 12. Only the first asks whether the year is a leap year.
+fn days_in_month_of(year: NumberedYear, month: u8) -> u8
+    requires year { IsRuleYear year.number }
+    requires month { (1 ≤ month) × (month ≤ 12) }
+    ensures { result ≡ indian_month_length (indian_leap year.number) month }
+{
+    if month == 1 {
+        days_in_month(is_leap(year), month)
+    } else {
+        days_in_month(true, month)
     }
 }
 
@@ -243,32 +187,34 @@ impl YearShapes for Indian {
     ghost use Rattle.cal_julian.specs.IndianList.{indian_years};
     ghost use Rattle.cal_julian.specs.laws.IndianLaws.{indian_list-lawful, stored-extended, day_number-near, years-ranged, months-apart, days-covered};
 
-    type YearInfo = IndianYear;
+    type YearInfo = NumberedYear;
 
     ghost years = { λ _. indian_years };
 
-    fn year_counted<L: Ledger>(&self, extended_year: i32, steps: &mut Steps<L>) -> IndianYear {
+    fn year_counted<L: Ledger>(&self, extended_year: i32, steps: &mut Steps<L>) -> NumberedYear {
         steps.tick();
-        IndianYear { extended_year }
+        NumberedYear {
+            number: extended_year,
+        }
     }
 
-    fn extended_from_year_info(&self, year: IndianYear) -> i32 {
-        year.extended_year
+    fn extended_from_year_info(&self, year: NumberedYear) -> i32 {
+        year.number
     }
 
-    fn months_in_provided_year(&self, _year: IndianYear) -> u8 {
+    fn months_in_provided_year(&self, _year: NumberedYear) -> u8 {
         12
     }
 
-    fn days_in_provided_month(&self, year: IndianYear, month: u8) -> u8 {
-        year.days_in_month(month)
+    fn days_in_provided_month(&self, year: NumberedYear, month: u8) -> u8 {
+        days_in_month_of(year, month)
     }
 
-    fn to_rata_die_inner(&self, year: IndianYear, month: u8, day: u8) -> RataDie {
-        RataDie::new(day_number(year.extended_year, month, day))
+    fn to_rata_die_inner(&self, year: NumberedYear, month: u8, day: u8) -> RataDie {
+        RataDie::new(day_number(year.number, month, day))
     }
 
-    fn min_months_from(&self, _start: IndianYear, count: i32) -> i32 {
+    fn min_months_from(&self, _start: NumberedYear, count: i32) -> i32 {
         12 * count
     }
 
@@ -278,22 +224,22 @@ impl YearShapes for Indian {
 
     fn ordinal_from_month(
         &self,
-        _year: IndianYear,
+        _year: NumberedYear,
         month: Month,
         _overflow: Overflow,
     ) -> Result<u8, MonthError> {
         plain_ordinal(month, 12)
     }
 
-    fn month_from_ordinal(&self, _year: IndianYear, ordinal_month: u8) -> Month {
+    fn month_from_ordinal(&self, _year: NumberedYear, ordinal_month: u8) -> Month {
         Month::new(ordinal_month)
     }
 
     fn ordinal_in_other_year(
         &self,
-        _year: IndianYear,
+        _year: NumberedYear,
         ordinal_month: u8,
-        _other: IndianYear,
+        _other: NumberedYear,
         _overflow: Overflow,
     ) -> Option<u8> {
         Some(ordinal_month)
@@ -307,7 +253,7 @@ impl YearShapes for Indian {
 
     ghost ordered = { λ a b. refl };
 
-    ghost stored_from = { λ s y h. stored-extended y.extended_year };
+    ghost stored_from = { λ s y h. stored-extended y.number };
 
     ghost near = { λ s t. day_number-near t };
 
@@ -319,19 +265,27 @@ impl YearShapes for Indian {
 }
 
 impl Years for Indian {
-    fn year_info_from_extended(&self, extended_year: i32) -> IndianYear {
-        IndianYear { extended_year }
-    }
-
-    fn year_containing_rd(&self, rd: RataDie) -> IndianYear {
-        IndianYear {
-            extended_year: date_on(rd).0,
+    fn year_info_from_extended(&self, extended_year: i32) -> NumberedYear {
+        NumberedYear {
+            number: extended_year,
         }
     }
 
-    fn year_month_day(&self, rd: RataDie) -> (IndianYear, u8, u8) {
+    fn year_containing_rd(&self, rd: RataDie) -> NumberedYear {
+        NumberedYear {
+            number: date_on(rd).0,
+        }
+    }
+
+    fn year_month_day(&self, rd: RataDie) -> (NumberedYear, u8, u8) {
         let (extended_year, month, day) = date_on(rd);
-        (IndianYear { extended_year }, month, day)
+        (
+            NumberedYear {
+                number: extended_year,
+            },
+            month,
+            day,
+        )
     }
 }
 
@@ -370,10 +324,10 @@ impl DateFieldsResolver for Indian {
         &self,
         month: Month,
         day: u8,
-    ) -> Result<IndianYear, EcmaReferenceYearError> {
+    ) -> Result<NumberedYear, EcmaReferenceYearError> {
         if is_plain(month, 12) {
-            Ok(IndianYear {
-                extended_year: reference_year(month.number(), day),
+            Ok(NumberedYear {
+                number: reference_year(month.number(), day),
             })
         } else {
             Err(EcmaReferenceYearError::MonthNotInCalendar)
@@ -404,18 +358,18 @@ impl NamedYears for Indian {
 
     ghost year_named = { λ _ y. Era (indian_era_year y) };
 
-    fn owns_year(&self, year: IndianYear) -> bool {
+    fn owns_year(&self, year: NumberedYear) -> bool {
         year.can_be_named()
     }
 
-    fn is_leap(&self, year: IndianYear) -> bool {
-        year.is_leap()
+    fn is_leap(&self, year: NumberedYear) -> bool {
+        is_leap(year)
     }
 
-    fn named_year(&self, year: IndianYear) -> EraYear {
+    fn named_year(&self, year: NumberedYear) -> EraYear {
         EraYear {
-            year: year.extended_year,
-            extended_year: year.extended_year,
+            year: year.number,
+            extended_year: year.number,
             era: TinyAsciiStr::of_text(b"shaka"),
             era_index: Some(0),
             ambiguity: YearAmbiguity::CenturyRequired,
@@ -424,7 +378,7 @@ impl NamedYears for Indian {
 
     fn shown_month(
         &self,
-        _year: IndianYear,
+        _year: NumberedYear,
         _ordinal_month: u8,
         month: Month,
     ) -> (LeapStatus, Month) {

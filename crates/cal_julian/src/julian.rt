@@ -10,15 +10,13 @@ ghost use Rattle.cal_julian.specs.JulianList.{julian_list};
 ghost use Rattle.cal_julian.specs.JulianNames.{julian_reference_year};
 
 use cal_arith::eras::year_in_common_era;
-use cal_arith::{
-    ArithmeticDate, DateFieldsResolver, PackWithMD, Steps, YearShapes, Years, Ymd, can_be_named,
-};
+use cal_arith::{ArithmeticDate, DateFieldsResolver, Steps, YearShapes, Years};
 use cal_base::gregorian_months::{
     days_from_march, days_in_month, in_march_year, month_and_day_from_march,
 };
 use cal_base::plain_months::{is_plain, plain_ordinal};
 use cal_base::scaffold::UnstableSealed;
-use cal_base::{Arithmetic, AsCalendar, Calendar, NamedYears};
+use cal_base::{Arithmetic, AsCalendar, Calendar, NamedYears, NumberedYear};
 use cal_days::{RataDie, julian};
 use cal_types::{
     CalendarAlgorithm, DateAddError, DateAddOptions, DateDifferenceOptions, DateDuration,
@@ -26,7 +24,6 @@ use cal_types::{
     EcmaReferenceYearError, EraYear, LeapStatus, Month, MonthError, MonthInfo, Overflow,
     TinyAsciiStr, UnknownEraError, YearAmbiguity, YearInput,
 };
-use date_bytes::solar;
 use std::convert::Infallible;
 use std::sync::ledger::Ledger;
 
@@ -50,74 +47,21 @@ impl Julian {
 #[derive(Clone, Copy, Debug, PartialEq, Eq, PartialOrd, Ord, Hash)]
 pub struct JulianDateInner(ArithmeticDate<Julian>);
 
-/// A year of the Julian calendar, by its extended year.
-#[derive(Clone, Copy, Debug, PartialEq, Eq, PartialOrd, Ord, Hash)]
-pub struct JulianYear {
-    extended_year: i32,
+/// Whether the year has 366 days.
+fn is_leap(year: NumberedYear) -> bool
+    requires { IsRuleYear year.number }
+    ensures { IsTrue result ↔ IsTrue (julian_leap year.number) }
+{
+    julian::is_leap_year(year.number)
 }
 
-impl JulianYear {
-    /// Whether fields may name the year.
-    pub(crate) fn can_be_named(self) -> bool
-        ensures { result ≡ is_field_year self.extended_year }
-    {
-        can_be_named(self.extended_year)
-    }
-
-    /// Whether the year has 366 days.
-    pub(crate) fn is_leap(self) -> bool
-        requires { IsRuleYear self.extended_year }
-        ensures { IsTrue result ↔ IsTrue (julian_leap self.extended_year) }
-    {
-        julian::is_leap_year(self.extended_year)
-    }
-
-    /// The days of a month, 1 to 12. Only February asks whether the year is a leap year.
-    fn days_in_month(self, month: u8) -> u8
-        requires year { IsRuleYear self.extended_year }
-        requires month { (1 ≤ month) × (month ≤ 12) }
-        ensures { result ≡ gregorian_month_length (julian_leap self.extended_year) month }
-    {
-        days_in_month(month == 2 && self.is_leap(), month)
-    }
-}
-
-impl PackWithMD for JulianYear {
-    ghost use Rattle.std.specs.Prelude.{◌≡◌, ◌≤◌};
-    ghost use Rattle.cal_days.specs.Day.{IsFieldYear};
-    ghost use Rattle.cal_arith.specs.Dates.{ymd};
-    ghost use Rattle.date_bytes.specs.Bytes.{date_bytes, day_from, month_from};
-    ghost use Rattle.cal_julian.specs.PackedYears.{julian_year};
-
-    type Packed = [u8; 4];
-
-    ghost stored = { λ y. y.extended_year };
-
-    ghost unpacked = { λ p. ymd (julian_year p) (month_from 0 p) (day_from 0 p) };
-
-    fn pack(self, month: u8, day: u8) -> [u8; 4]
-        requires storable { IsFieldYear self.extended_year }
-        requires month { (1 ≤ month) × (month ≤ 13) }
-        requires day { (1 ≤ day) × (day ≤ 31) }
-        ensures bytes { result ≡ date_bytes self.extended_year month day }
-        ensures parts { ymd (julian_year result) (month_from 0 result) (day_from 0 result) ≡ ymd self month day }
-    {
-        solar::pack(self.extended_year, month, day)
-    }
-
-    fn unpack_year(packed: [u8; 4]) -> JulianYear {
-        JulianYear {
-            extended_year: solar::unpack_year(packed),
-        }
-    }
-
-    fn unpack_month(packed: [u8; 4]) -> u8 {
-        solar::unpack_month(packed)
-    }
-
-    fn unpack_day(packed: [u8; 4]) -> u8 {
-        solar::unpack_day(packed)
-    }
+/// The days of a month, 1 to 12. Only February asks whether the year is a leap year.
+fn days_in_month_of(year: NumberedYear, month: u8) -> u8
+    requires year { IsRuleYear year.number }
+    requires month { (1 ≤ month) × (month ≤ 12) }
+    ensures { result ≡ gregorian_month_length (julian_leap year.number) month }
+{
+    days_in_month(month == 2 && is_leap(year), month)
 }
 
 /// The day number of a date of a year from -8000000 to 8000000.
@@ -152,32 +96,34 @@ impl YearShapes for Julian {
     ghost use Rattle.cal_julian.specs.JulianList.{julian_years};
     ghost use Rattle.cal_julian.specs.laws.JulianLaws.{julian_list-lawful, stored-extended, day_number-near, years-ranged, months-apart, days-covered};
 
-    type YearInfo = JulianYear;
+    type YearInfo = NumberedYear;
 
     ghost years = { λ _. julian_years };
 
-    fn year_counted<L: Ledger>(&self, extended_year: i32, steps: &mut Steps<L>) -> JulianYear {
+    fn year_counted<L: Ledger>(&self, extended_year: i32, steps: &mut Steps<L>) -> NumberedYear {
         steps.tick();
-        JulianYear { extended_year }
+        NumberedYear {
+            number: extended_year,
+        }
     }
 
-    fn extended_from_year_info(&self, year: JulianYear) -> i32 {
-        year.extended_year
+    fn extended_from_year_info(&self, year: NumberedYear) -> i32 {
+        year.number
     }
 
-    fn months_in_provided_year(&self, _year: JulianYear) -> u8 {
+    fn months_in_provided_year(&self, _year: NumberedYear) -> u8 {
         12
     }
 
-    fn days_in_provided_month(&self, year: JulianYear, month: u8) -> u8 {
-        year.days_in_month(month)
+    fn days_in_provided_month(&self, year: NumberedYear, month: u8) -> u8 {
+        days_in_month_of(year, month)
     }
 
-    fn to_rata_die_inner(&self, year: JulianYear, month: u8, day: u8) -> RataDie {
-        RataDie::new(day_number(year.extended_year, month, day))
+    fn to_rata_die_inner(&self, year: NumberedYear, month: u8, day: u8) -> RataDie {
+        RataDie::new(day_number(year.number, month, day))
     }
 
-    fn min_months_from(&self, _start: JulianYear, count: i32) -> i32 {
+    fn min_months_from(&self, _start: NumberedYear, count: i32) -> i32 {
         12 * count
     }
 
@@ -187,22 +133,22 @@ impl YearShapes for Julian {
 
     fn ordinal_from_month(
         &self,
-        _year: JulianYear,
+        _year: NumberedYear,
         month: Month,
         _overflow: Overflow,
     ) -> Result<u8, MonthError> {
         plain_ordinal(month, 12)
     }
 
-    fn month_from_ordinal(&self, _year: JulianYear, ordinal_month: u8) -> Month {
+    fn month_from_ordinal(&self, _year: NumberedYear, ordinal_month: u8) -> Month {
         Month::new(ordinal_month)
     }
 
     fn ordinal_in_other_year(
         &self,
-        _year: JulianYear,
+        _year: NumberedYear,
         ordinal_month: u8,
-        _other: JulianYear,
+        _other: NumberedYear,
         _overflow: Overflow,
     ) -> Option<u8> {
         Some(ordinal_month)
@@ -216,7 +162,7 @@ impl YearShapes for Julian {
 
     ghost ordered = { λ a b. refl };
 
-    ghost stored_from = { λ s y h. stored-extended y.extended_year };
+    ghost stored_from = { λ s y h. stored-extended y.number };
 
     ghost near = { λ s t. day_number-near t };
 
@@ -228,19 +174,27 @@ impl YearShapes for Julian {
 }
 
 impl Years for Julian {
-    fn year_info_from_extended(&self, extended_year: i32) -> JulianYear {
-        JulianYear { extended_year }
-    }
-
-    fn year_containing_rd(&self, rd: RataDie) -> JulianYear {
-        JulianYear {
-            extended_year: julian::year_from_fixed(rd),
+    fn year_info_from_extended(&self, extended_year: i32) -> NumberedYear {
+        NumberedYear {
+            number: extended_year,
         }
     }
 
-    fn year_month_day(&self, rd: RataDie) -> (JulianYear, u8, u8) {
+    fn year_containing_rd(&self, rd: RataDie) -> NumberedYear {
+        NumberedYear {
+            number: julian::year_from_fixed(rd),
+        }
+    }
+
+    fn year_month_day(&self, rd: RataDie) -> (NumberedYear, u8, u8) {
         let (extended_year, month, day) = date_on(rd);
-        (JulianYear { extended_year }, month, day)
+        (
+            NumberedYear {
+                number: extended_year,
+            },
+            month,
+            day,
+        )
     }
 }
 
@@ -274,10 +228,10 @@ impl DateFieldsResolver for Julian {
         &self,
         month: Month,
         day: u8,
-    ) -> Result<JulianYear, EcmaReferenceYearError> {
+    ) -> Result<NumberedYear, EcmaReferenceYearError> {
         if is_plain(month, 12) {
-            Ok(JulianYear {
-                extended_year: reference_year(month.number(), day),
+            Ok(NumberedYear {
+                number: reference_year(month.number(), day),
             })
         } else {
             Err(EcmaReferenceYearError::MonthNotInCalendar)
@@ -333,21 +287,21 @@ impl NamedYears for Julian {
 
     ghost year_named = { λ _ y. Era (julian_era_year y) };
 
-    fn owns_year(&self, year: JulianYear) -> bool {
+    fn owns_year(&self, year: NumberedYear) -> bool {
         year.can_be_named()
     }
 
-    fn is_leap(&self, year: JulianYear) -> bool {
-        year.is_leap()
+    fn is_leap(&self, year: NumberedYear) -> bool {
+        is_leap(year)
     }
 
-    fn named_year(&self, year: JulianYear) -> EraYear {
-        era_year(year.extended_year)
+    fn named_year(&self, year: NumberedYear) -> EraYear {
+        era_year(year.number)
     }
 
     fn shown_month(
         &self,
-        _year: JulianYear,
+        _year: NumberedYear,
         _ordinal_month: u8,
         month: Month,
     ) -> (LeapStatus, Month) {

@@ -7,12 +7,10 @@ ghost use Rattle.cal_julian.specs.PersianNames.{persian_reference_year};
 use crate::persian_corrections::PersianCorrections;
 use crate::persian_months::{days_before_day, days_in_month, month_and_day};
 use cal_arith::eras::year_in_only_era;
-use cal_arith::{
-    ArithmeticDate, DateFieldsResolver, PackWithMD, Steps, YearShapes, Years, Ymd, can_be_named,
-};
+use cal_arith::{ArithmeticDate, DateFieldsResolver, Steps, YearShapes, Years};
 use cal_base::plain_months::{is_plain, plain_ordinal};
 use cal_base::scaffold::UnstableSealed;
-use cal_base::{Arithmetic, AsCalendar, Calendar, NamedYears};
+use cal_base::{Arithmetic, AsCalendar, Calendar, NamedYears, NumberedYear};
 use cal_days::RataDie;
 use cal_types::{
     CalendarAlgorithm, DateAddError, DateAddOptions, DateDifferenceOptions, DateDuration,
@@ -20,7 +18,6 @@ use cal_types::{
     EcmaReferenceYearError, EraYear, LeapStatus, MismatchedCalendarError, Month, MonthError,
     MonthInfo, Overflow, TinyAsciiStr, UnknownEraError, YearAmbiguity, YearInput,
 };
-use date_bytes::solar;
 use std::cmp::Ordering;
 use std::sync::ledger::Ledger;
 
@@ -54,100 +51,47 @@ impl<'t> Persian<'t> {
 #[derive(Clone, Copy, Debug, PartialEq, Eq, PartialOrd, Ord, Hash)]
 pub struct PersianDateInner<'t>(ArithmeticDate<Persian<'t>>);
 
-/// A year of the Persian calendar, by its extended year.
-#[derive(Clone, Copy, Debug, PartialEq, Eq, PartialOrd, Ord, Hash)]
-pub struct PersianYear {
-    extended_year: i32,
-}
-
-impl PersianYear {
-    /// Whether fields may name the year.
-    pub(crate) fn can_be_named(self) -> bool
-        ensures { result ≡ is_field_year self.extended_year }
-    {
-        can_be_named(self.extended_year)
-    }
-}
-
-impl PackWithMD for PersianYear {
-    ghost use Rattle.std.specs.Prelude.{◌≡◌, ◌≤◌};
-    ghost use Rattle.cal_days.specs.Day.{IsFieldYear};
-    ghost use Rattle.cal_arith.specs.Dates.{ymd};
-    ghost use Rattle.date_bytes.specs.Bytes.{date_bytes, day_from, month_from};
-    ghost use Rattle.cal_julian.specs.PackedYears.{persian_year};
-
-    type Packed = [u8; 4];
-
-    ghost stored = { λ y. y.extended_year };
-
-    ghost unpacked = { λ p. ymd (persian_year p) (month_from 0 p) (day_from 0 p) };
-
-    fn pack(self, month: u8, day: u8) -> [u8; 4]
-        requires storable { IsFieldYear self.extended_year }
-        requires month { (1 ≤ month) × (month ≤ 13) }
-        requires day { (1 ≤ day) × (day ≤ 31) }
-        ensures bytes { result ≡ date_bytes self.extended_year month day }
-        ensures parts { ymd (persian_year result) (month_from 0 result) (day_from 0 result) ≡ ymd self month day }
-    {
-        solar::pack(self.extended_year, month, day)
-    }
-
-    fn unpack_year(packed: [u8; 4]) -> PersianYear {
-        PersianYear {
-            extended_year: solar::unpack_year(packed),
-        }
-    }
-
-    fn unpack_month(packed: [u8; 4]) -> u8 {
-        solar::unpack_month(packed)
-    }
-
-    fn unpack_day(packed: [u8; 4]) -> u8 {
-        solar::unpack_day(packed)
-    }
-}
-
 impl<'t> YearShapes for Persian<'t> {
-    ghost use Rattle.std.specs.Ordering.{int_cmp, nat_cmp, on, then_cmp};
-    ghost use Rattle.date_bytes.specs.Bytes.{day_from, month_from, year_from};
     ghost use Rattle.std.specs.Prelude.{refl};
     ghost use Rattle.cal_julian.specs.PersianList.{persian_years};
     ghost use Rattle.cal_julian.specs.PersianCorrected.{corrected_years};
     ghost use Rattle.cal_julian.specs.laws.PersianLaws.{persian_list-lawful, stored-extended, day_number-near, years-ranged, months-apart, days-covered};
 
-    type YearInfo = PersianYear;
+    type YearInfo = NumberedYear;
 
     ghost years = { λ s. persian_years (corrected_years s) };
 
-    fn year_counted<L: Ledger>(&self, extended_year: i32, steps: &mut Steps<L>) -> PersianYear {
+    fn year_counted<L: Ledger>(&self, extended_year: i32, steps: &mut Steps<L>) -> NumberedYear {
         steps.tick();
-        PersianYear { extended_year }
+        NumberedYear {
+            number: extended_year,
+        }
     }
 
-    fn extended_from_year_info(&self, year: PersianYear) -> i32 {
-        year.extended_year
+    fn extended_from_year_info(&self, year: NumberedYear) -> i32 {
+        year.number
     }
 
-    fn months_in_provided_year(&self, _year: PersianYear) -> u8 {
+    fn months_in_provided_year(&self, _year: NumberedYear) -> u8 {
         12
     }
 
-    fn days_in_provided_month(&self, year: PersianYear, month: u8) -> u8 {
+    fn days_in_provided_month(&self, year: NumberedYear, month: u8) -> u8 {
         // Only the last month asks whether the year is a leap year.
         if month == 12 {
-            days_in_month(self.corrections.is_leap_year(year.extended_year), month)
+            days_in_month(self.corrections.is_leap_year(year.number), month)
         } else {
             days_in_month(true, month)
         }
     }
 
-    fn to_rata_die_inner(&self, year: PersianYear, month: u8, day: u8) -> RataDie {
+    fn to_rata_die_inner(&self, year: NumberedYear, month: u8, day: u8) -> RataDie {
         let before = days_before_day(month, day);
-        let start = self.corrections.year_start(year.extended_year);
+        let start = self.corrections.year_start(year.number);
         RataDie::new(start + i64::from(before))
     }
 
-    fn min_months_from(&self, _start: PersianYear, count: i32) -> i32 {
+    fn min_months_from(&self, _start: NumberedYear, count: i32) -> i32 {
         12 * count
     }
 
@@ -157,22 +101,22 @@ impl<'t> YearShapes for Persian<'t> {
 
     fn ordinal_from_month(
         &self,
-        _year: PersianYear,
+        _year: NumberedYear,
         month: Month,
         _overflow: Overflow,
     ) -> Result<u8, MonthError> {
         plain_ordinal(month, 12)
     }
 
-    fn month_from_ordinal(&self, _year: PersianYear, ordinal_month: u8) -> Month {
+    fn month_from_ordinal(&self, _year: NumberedYear, ordinal_month: u8) -> Month {
         Month::new(ordinal_month)
     }
 
     fn ordinal_in_other_year(
         &self,
-        _year: PersianYear,
+        _year: NumberedYear,
         ordinal_month: u8,
-        _other: PersianYear,
+        _other: NumberedYear,
         _overflow: Overflow,
     ) -> Option<u8> {
         Some(ordinal_month)
@@ -186,7 +130,7 @@ impl<'t> YearShapes for Persian<'t> {
 
     ghost ordered = { λ a b. refl };
 
-    ghost stored_from = { λ s y h. stored-extended y.extended_year };
+    ghost stored_from = { λ s y h. stored-extended y.number };
 
     ghost near = { λ s t. day_number-near (corrected_years s) s.corrections.known t };
 
@@ -198,20 +142,28 @@ impl<'t> YearShapes for Persian<'t> {
 }
 
 impl<'t> Years for Persian<'t> {
-    fn year_info_from_extended(&self, extended_year: i32) -> PersianYear {
-        PersianYear { extended_year }
-    }
-
-    fn year_containing_rd(&self, rd: RataDie) -> PersianYear {
-        PersianYear {
-            extended_year: self.corrections.year_and_day_from_fixed(rd).0,
+    fn year_info_from_extended(&self, extended_year: i32) -> NumberedYear {
+        NumberedYear {
+            number: extended_year,
         }
     }
 
-    fn year_month_day(&self, rd: RataDie) -> (PersianYear, u8, u8) {
+    fn year_containing_rd(&self, rd: RataDie) -> NumberedYear {
+        NumberedYear {
+            number: self.corrections.year_and_day_from_fixed(rd).0,
+        }
+    }
+
+    fn year_month_day(&self, rd: RataDie) -> (NumberedYear, u8, u8) {
         let (extended_year, day_of_year) = self.corrections.year_and_day_from_fixed(rd);
         let (month, day) = month_and_day(day_of_year);
-        (PersianYear { extended_year }, month, day)
+        (
+            NumberedYear {
+                number: extended_year,
+            },
+            month,
+            day,
+        )
     }
 }
 
@@ -251,10 +203,10 @@ impl<'t> DateFieldsResolver for Persian<'t> {
         &self,
         month: Month,
         day: u8,
-    ) -> Result<PersianYear, EcmaReferenceYearError> {
+    ) -> Result<NumberedYear, EcmaReferenceYearError> {
         if is_plain(month, 12) {
-            Ok(PersianYear {
-                extended_year: reference_year(month.number(), day),
+            Ok(NumberedYear {
+                number: reference_year(month.number(), day),
             })
         } else {
             Err(EcmaReferenceYearError::MonthNotInCalendar)
@@ -290,18 +242,18 @@ impl<'t> NamedYears for Persian<'t> {
 
     ghost compatible = { λ s t. are_corrected_alike s t };
 
-    fn owns_year(&self, year: PersianYear) -> bool {
+    fn owns_year(&self, year: NumberedYear) -> bool {
         year.can_be_named()
     }
 
-    fn is_leap(&self, year: PersianYear) -> bool {
-        self.corrections.is_leap_year(year.extended_year)
+    fn is_leap(&self, year: NumberedYear) -> bool {
+        self.corrections.is_leap_year(year.number)
     }
 
-    fn named_year(&self, year: PersianYear) -> EraYear {
+    fn named_year(&self, year: NumberedYear) -> EraYear {
         EraYear {
-            year: year.extended_year,
-            extended_year: year.extended_year,
+            year: year.number,
+            extended_year: year.number,
             era: TinyAsciiStr::of_text(b"ap"),
             era_index: Some(0),
             ambiguity: YearAmbiguity::CenturyRequired,
@@ -310,7 +262,7 @@ impl<'t> NamedYears for Persian<'t> {
 
     fn shown_month(
         &self,
-        _year: PersianYear,
+        _year: NumberedYear,
         _ordinal_month: u8,
         month: Month,
     ) -> (LeapStatus, Month) {

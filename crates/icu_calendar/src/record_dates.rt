@@ -11,7 +11,7 @@ ghost use Rattle.icu_calendar.specs.RecordDates.{date_numbers, numbered_date};
 
 use crate::ixdtf_record::DateRecord;
 use cal_arith::YearShapes;
-use cal_base::{AbstractGregorian, IsoYear, IsoYears};
+use cal_base::{AbstractGregorian, IsoYears, NumberedYear};
 use cal_days::RataDie;
 use cal_types::RangeError;
 
@@ -46,7 +46,10 @@ fn test_day(year: i32, month: u8, day: u8) -> Result<(), RangeError>
     requires month { HasPlace iso_list year month }
     ensures { result_map_both (λ _. date year month day) range_parts result ≡ placed_day iso_list year month day }
 {
-    let last = AbstractGregorian(IsoYears).days_in_provided_month(IsoYear { number: year }, month);
+    let last = AbstractGregorian(IsoYears).days_in_provided_month(
+        NumberedYear { number: year },
+        month,
+    );
     if 1 <= day && day <= last {
         Ok(())
     } else {
@@ -92,7 +95,7 @@ fn day(date: DateRecord) -> RataDie
     ensures value { result ≡ day_number iso_list (date_numbers date) }
     ensures valid { IsValidDay result }
 {
-    let year = IsoYear { number: date.year };
+    let year = NumberedYear { number: date.year };
     AbstractGregorian(IsoYears).to_rata_die_inner(year, date.month, date.day)
 }
 

@@ -13,7 +13,7 @@ use Rattle.cal_base.specs.GregorianList.{gregorian_list, HasGregorianMonths}
 use Rattle.cal_base.specs.laws.GregorianMonths.{renumbered-gregorian}
 use Rattle.cal_base.specs.laws.GregorianLaws.{gregorian_list-bounded, gregorian_list-months, gregorian_list-plain}
 use Rattle.cal_base.specs.OffsetList.{offset_list, offset_years, IsOffset, iso_year_of, extended_year_from}
-use Rattle.cal_base.specs.declared.iso_year.IsoYear.{IsoYear}
+use Rattle.cal_base.specs.declared.numbered_year.NumberedYear.{NumberedYear}
 
 -- each year has the months of its ISO year
 pub offset_list-months : (offset : ℤ) → HasGregorianMonths (λ y. gregorian_leap (y +ℤ offset)) (offset_list offset)
@@ -41,16 +41,16 @@ pub extended_year-iso : (offset y : ℤ) → extended_year_from offset (iso_year
 extended_year-iso offset y = omega (arith, signed)
 
 -- and an ISO year from its extended year
-pub number-extended : (offset : ℤ) (year : IsoYear) → year.number ≡ extended_year_from offset year +ℤ offset
+pub number-extended : (offset : ℤ) (year : NumberedYear) → year.number ≡ extended_year_from offset year +ℤ offset
 number-extended offset year = omega (arith, signed)
 
-pub iso_year-extended : (offset : ℤ) (year : IsoYear) → iso_year_of offset (extended_year_from offset year) ≡ year
+pub iso_year-extended : (offset : ℤ) (year : NumberedYear) → iso_year_of offset (extended_year_from offset year) ≡ year
 iso_year-extended offset year = ap numbered (sym (number-extended offset year)) where
-  numbered : ℤ → IsoYear
+  numbered : ℤ → NumberedYear
   numbered n = record { number = n }
 
 -- the ISO year of a given year
-pub given-iso : (offset : ℤ) → IsOffset offset → (year : IsoYear) → IsGiven (offset_years offset) year → IsShiftedYear year.number
+pub given-iso : (offset : ℤ) → IsOffset offset → (year : NumberedYear) → IsGiven (offset_years offset) year → IsShiftedYear year.number
 given-iso offset small year given = (omega (arith, signed, small, given.range), omega (arith, signed, small, given.range))
 
 -- an offset that passes the test lies in the range

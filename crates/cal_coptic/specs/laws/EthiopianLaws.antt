@@ -24,7 +24,7 @@ use Rattle.cal_model.proofs.CountedDateLemmas.{shifted_year, counted-on}
 use Rattle.cal_coptic.specs.EthiopianEra.{ethiopian_era_year}
 use Rattle.cal_coptic.specs.EthiopianList.{coptic_offset, is_same_style, ethiopian_list, ethiopian_years}
 use Rattle.cal_coptic.specs.EthiopianNames.{incarnation_reads, ethiopian_reads}
-use Rattle.cal_coptic.specs.declared.coptic_year.CopticYear.{CopticYear}
+use Rattle.cal_base.specs.declared.numbered_year.NumberedYear.{NumberedYear}
 use Rattle.cal_coptic.specs.declared.ethiopian.Ethiopian.{Ethiopian}
 use Rattle.cal_coptic.specs.declared.ethiopian.EthiopianEraStyle.{EthiopianEraStyle}
 use Rattle.cal_coptic.specs.declared.ethiopian.EthiopianEraStyle.TheVariants.{AmeteMihret, AmeteAlem}
@@ -62,14 +62,14 @@ day_of_year-ethiopian offset number p month day h =
     (counted-on offset coptic_list (start_of_year coptic_list number +ℤ pos p) (date number month day) h)
 
 -- a year comes back from its extended year
-pub coptic_year-extended : (offset : ℤ) (year : CopticYear) → (ethiopian_years offset).year_of ((ethiopian_years offset).extended year) ≡ year
+pub coptic_year-extended : (offset : ℤ) (year : NumberedYear) → (ethiopian_years offset).year_of ((ethiopian_years offset).extended year) ≡ year
 coptic_year-extended offset year = ap coptic_year (shifted_year offset year.number)
 
-pub is_year-of_both : (offset : ℤ) (year : CopticYear) → IsTrue true ↔ ((ethiopian_years offset).year_of ((ethiopian_years offset).extended year) ≡ year)
+pub is_year-of_both : (offset : ℤ) (year : NumberedYear) → IsTrue true ↔ ((ethiopian_years offset).year_of ((ethiopian_years offset).extended year) ≡ year)
 is_year-of_both offset year = (λ _. coptic_year-extended offset year, λ _. refl)
 
 -- the Coptic year of a given year
-pub given-coptic : (style : EthiopianEraStyle) (year : CopticYear) → IsGiven (ethiopian_years (coptic_offset style)) year → IsShiftedYear year.number
+pub given-coptic : (style : EthiopianEraStyle) (year : NumberedYear) → IsGiven (ethiopian_years (coptic_offset style)) year → IsShiftedYear year.number
 given-coptic style year given =
     let small = coptic_offset-small style in
     (omega (arith, signed, small, given.range), omega (arith, signed, small, given.range))
@@ -127,7 +127,7 @@ styles_alike = record {
 }
 
 -- and have the same years
-pub style_years-shared : (s t : EthiopianEraStyle) (y : CopticYear) → is_same_style s t ≡ true → IsGiven (ethiopian_years (coptic_offset s)) y → IsSharedYear (ethiopian_years (coptic_offset s)) (ethiopian_years (coptic_offset t)) y
+pub style_years-shared : (s t : EthiopianEraStyle) (y : NumberedYear) → is_same_style s t ≡ true → IsGiven (ethiopian_years (coptic_offset s)) y → IsSharedYear (ethiopian_years (coptic_offset s)) (ethiopian_years (coptic_offset t)) y
 style_years-shared s t y h given =
     subst (λ (style : EthiopianEraStyle). IsSharedYear (ethiopian_years (coptic_offset s)) (ethiopian_years (coptic_offset style)) y) (style-same s t h)
     (record { given = given; start = refl; months = refl })

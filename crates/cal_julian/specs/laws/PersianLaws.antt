@@ -18,7 +18,7 @@ use Rattle.cal_julian.specs.laws.PersianRuleLaws.{int_eq-same, persian_new_year-
 use Rattle.cal_julian.specs.PersianList.{persian_list, persian_month_length, persian_days_before, persian_years}
 use Rattle.cal_julian.specs.PersianMonths.{month_of_day}
 use Rattle.cal_julian.specs.laws.PersianMonthLaws.{month_of_day-place, month_found, persian_days, persian_month-at, persian_month_length-within}
-use Rattle.cal_julian.specs.declared.persian.PersianYear.{PersianYear}
+use Rattle.cal_base.specs.declared.numbered_year.NumberedYear.{NumberedYear}
 
 module _ (years : List ℤ) where
   pub days_before-persian : (y : ℤ) (i : ℕ) → days_before (persian_list years) y i ≡ persian_days_before (is_persian_leap years y) i
@@ -140,5 +140,5 @@ same_years (x ∷ xs) (y ∷ ys) h =
     ap (λ (z : ℤ). z ∷ xs) first ∙ ap (λ (zs : List ℤ). y ∷ zs) rest
 
 -- and calendars with the same corrections have the same years
-pub years-shared : (xs ys : List ℤ) → pointwise int_eq xs ys ≡ true → (y : PersianYear) → IsGiven (persian_years xs) y → IsSharedYear (persian_years xs) (persian_years ys) y
+pub years-shared : (xs ys : List ℤ) → pointwise int_eq xs ys ≡ true → (y : NumberedYear) → IsGiven (persian_years xs) y → IsSharedYear (persian_years xs) (persian_years ys) y
 years-shared xs ys h y given = subst (λ (zs : List ℤ). IsSharedYear (persian_years xs) (persian_years zs) y) (same_years xs ys h) (record { given = given; start = refl; months = refl })

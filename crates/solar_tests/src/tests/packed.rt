@@ -2,11 +2,9 @@
 
 use crate::tests::expected::{assert_at, assert_packable};
 use cal_arith::{PackWithMD, Years};
-use cal_base::IsoYear;
-use cal_coptic::{Coptic, CopticYear, Ethiopian};
-use cal_julian::{
-    Indian, IndianYear, Julian, JulianYear, Persian, PersianCorrections, PersianYear,
-};
+use cal_base::NumberedYear;
+use cal_coptic::{Coptic, Ethiopian};
+use cal_julian::{Indian, Julian, Persian, PersianCorrections};
 
 #[test]
 fn iso_dates_have_their_bytes(rt: HostRuntime) {
@@ -19,11 +17,11 @@ fn iso_dates_have_their_bytes(rt: HostRuntime) {
     ];
     for (year, month, day, bytes) in cases {
         assert_packable(&rt, year, month, day);
-        let packed = IsoYear { number: year }.pack(month, day);
+        let packed = NumberedYear { number: year }.pack(month, day);
         assert_at(&rt, year, packed, bytes);
-        assert_at(&rt, year, IsoYear::unpack_year(packed).number, year);
-        assert_at(&rt, year, IsoYear::unpack_month(packed), month);
-        assert_at(&rt, year, IsoYear::unpack_day(packed), day);
+        assert_at(&rt, year, NumberedYear::unpack_year(packed).number, year);
+        assert_at(&rt, year, NumberedYear::unpack_month(packed), month);
+        assert_at(&rt, year, NumberedYear::unpack_day(packed), day);
     }
 }
 
@@ -37,10 +35,10 @@ fn julian_dates_have_their_bytes(rt: HostRuntime) {
         assert_packable(&rt, year, month, day);
         let packed = Julian.year_info_from_extended(year).pack(month, day);
         assert_at(&rt, year, packed, bytes);
-        let kept = JulianYear::unpack_year(packed);
+        let kept = NumberedYear::unpack_year(packed);
         assert_at(&rt, year, kept, Julian.year_info_from_extended(year));
-        assert_at(&rt, year, JulianYear::unpack_month(packed), month);
-        assert_at(&rt, year, JulianYear::unpack_day(packed), day);
+        assert_at(&rt, year, NumberedYear::unpack_month(packed), month);
+        assert_at(&rt, year, NumberedYear::unpack_day(packed), day);
     }
 }
 
@@ -54,10 +52,10 @@ fn indian_dates_have_their_bytes(rt: HostRuntime) {
         assert_packable(&rt, year, month, day);
         let packed = Indian.year_info_from_extended(year).pack(month, day);
         assert_at(&rt, year, packed, bytes);
-        let kept = IndianYear::unpack_year(packed);
+        let kept = NumberedYear::unpack_year(packed);
         assert_at(&rt, year, kept, Indian.year_info_from_extended(year));
-        assert_at(&rt, year, IndianYear::unpack_month(packed), month);
-        assert_at(&rt, year, IndianYear::unpack_day(packed), day);
+        assert_at(&rt, year, NumberedYear::unpack_month(packed), month);
+        assert_at(&rt, year, NumberedYear::unpack_day(packed), day);
     }
 }
 
@@ -72,10 +70,10 @@ fn persian_dates_have_their_bytes(rt: HostRuntime) {
         assert_packable(&rt, year, month, day);
         let packed = persian.year_info_from_extended(year).pack(month, day);
         assert_at(&rt, year, packed, bytes);
-        let kept = PersianYear::unpack_year(packed);
+        let kept = NumberedYear::unpack_year(packed);
         assert_at(&rt, year, kept, persian.year_info_from_extended(year));
-        assert_at(&rt, year, PersianYear::unpack_month(packed), month);
-        assert_at(&rt, year, PersianYear::unpack_day(packed), day);
+        assert_at(&rt, year, NumberedYear::unpack_month(packed), month);
+        assert_at(&rt, year, NumberedYear::unpack_day(packed), day);
     }
 }
 
@@ -89,10 +87,10 @@ fn coptic_dates_have_their_bytes(rt: HostRuntime) {
         assert_packable(&rt, year, month, day);
         let packed = Coptic.year_info_from_extended(year).pack(month, day);
         assert_at(&rt, year, packed, bytes);
-        let kept = CopticYear::unpack_year(packed);
+        let kept = NumberedYear::unpack_year(packed);
         assert_at(&rt, year, kept, Coptic.year_info_from_extended(year));
-        assert_at(&rt, year, CopticYear::unpack_month(packed), month);
-        assert_at(&rt, year, CopticYear::unpack_day(packed), day);
+        assert_at(&rt, year, NumberedYear::unpack_month(packed), month);
+        assert_at(&rt, year, NumberedYear::unpack_day(packed), day);
     }
 }
 
@@ -102,5 +100,5 @@ fn ethiopian_dates_have_the_bytes_of_coptic_years(rt: HostRuntime) {
     let packed = Ethiopian::new().year_info_from_extended(1).pack(13, 5);
     assert_at(&rt, 1, packed, [165, 219, 253, 255]);
     let coptic = Coptic.year_info_from_extended(-275);
-    assert_at(&rt, 1, CopticYear::unpack_year(packed), coptic);
+    assert_at(&rt, 1, NumberedYear::unpack_year(packed), coptic);
 }

@@ -8,4 +8,4 @@ use Rattle.cal_julian.proofs.julian.JulianYearShapes.ordinal_from_month.Goals as
 pub returns : goal.returns
 returns c =
     c.plain_ordinal.ensures
-    ∙ sym (ordinal_month-plain 12 julian_list julian_list-plain c.args._year.extended_year (month_parts c.args.month) c.args._overflow)
+    ∙ sym (ordinal_month-plain 12 julian_list julian_list-plain c.args._year.number (month_parts c.args.month) c.args._overflow)

@@ -12,12 +12,12 @@ use Rattle.cal_julian.proofs.persian.PersianYearShapes.days_in_provided_month.Go
 pub days_in_month-requires-else-month-eq12 : goal.days_in_month-requires-else-month-eq12
 days_in_month-requires-else-month-eq12 c =
     let years = corrected_years c.args.self.now in
-    plain-place 12 (persian_list years) (persian_list-plain years) c.args.year.extended_year c.args.month c.requires.place
+    plain-place 12 (persian_list years) (persian_list-plain years) c.args.year.number c.args.month c.requires.place
 
 pub returns-then-month-eq12 : goal.returns-then-month-eq12
 returns-then-month-eq12 c =
     let years = corrected_years c.args.self.now in
-    let y = c.args.year.extended_year in
+    let y = c.args.year.number in
     let kept : to_z w32 (of_z w32 y) ≡ y = omega (arith, signed, c.requires.year.range) in
     let leap = leap_is (is_persian_leap years) c.is_leap_year.result y (to_z w32 (of_z w32 y)) kept c.is_leap_year.ensures in
     c.days_in_month.ensures
@@ -26,7 +26,7 @@ returns-then-month-eq12 c =
 pub returns-else-month-eq12 : goal.returns-else-month-eq12
 returns-else-month-eq12 c =
     let years = corrected_years c.args.self.now in
-    let y = c.args.year.extended_year in
+    let y = c.args.year.number in
     let place = plain-place 12 (persian_list years) (persian_list-plain years) y c.args.month c.requires.place in
     let before : c.args.month ≤ 11 = omega (arith, place.1, c.if-month-eq12.false) in
     c.days_in_month-else-month-eq12.ensures

@@ -7,7 +7,7 @@ use Rattle.cal_julian.proofs.persian.PersianYearShapes.month_from_ordinal.Goals 
 
 pub returns : goal.returns
 returns c =
-    let y = c.args._year.extended_year in
+    let y = c.args._year.number in
     let place = plain-place 12 (persian_list (corrected_years c.args.self.now)) (persian_list-plain (corrected_years c.args.self.now)) y c.args.ordinal_month c.requires.place in
     let small : c.args.ordinal_month ≤ 13 = omega (arith, place) in
     c.new.ensures ∙ (plain_month-small c.args.ordinal_month small ∙ sym (plain-month 12 (persian_list (corrected_years c.args.self.now)) (persian_list-plain (corrected_years c.args.self.now)) y c.args.ordinal_month c.requires.place))

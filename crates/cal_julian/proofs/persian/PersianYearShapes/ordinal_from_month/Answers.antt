@@ -9,4 +9,4 @@ use Rattle.cal_julian.proofs.persian.PersianYearShapes.ordinal_from_month.Goals 
 pub returns : goal.returns
 returns c =
     c.plain_ordinal.ensures
-    ∙ sym (ordinal_month-plain 12 (persian_list (corrected_years c.args.self.now)) (persian_list-plain (corrected_years c.args.self.now)) c.args._year.extended_year (month_parts c.args.month) c.args._overflow)
+    ∙ sym (ordinal_month-plain 12 (persian_list (corrected_years c.args.self.now)) (persian_list-plain (corrected_years c.args.self.now)) c.args._year.number (month_parts c.args.month) c.args._overflow)

@@ -8,4 +8,4 @@ use Rattle.cal_julian.proofs.persian.PersianYearShapes.ordinal_in_other_year.Goa
 pub returns : goal.returns
 returns c =
     let years = corrected_years c.args.self.now in
-    sym (spot-plain 12 (persian_list years) (persian_list-plain years) c.args._year.extended_year c.args._other.extended_year c.args.ordinal_month c.args._overflow c.requires.month.place)
+    sym (spot-plain 12 (persian_list years) (persian_list-plain years) c.args._year.number c.args._other.number c.args.ordinal_month c.args._overflow c.requires.month.place)

@@ -12,19 +12,19 @@ use Rattle.cal_julian.proofs.persian.PersianYearShapes.to_rata_die_inner.Goals a
 pub days_before_day-before-requires-clause-month : goal.days_before_day-before-requires-clause-month
 days_before_day-before-requires-clause-month c =
     let years = corrected_years c.args.self.now in
-    plain-place 12 (persian_list years) (persian_list-plain years) c.args.year.extended_year c.args.month c.requires.date.place
+    plain-place 12 (persian_list years) (persian_list-plain years) c.args.year.number c.args.month c.requires.date.place
 
 pub days_before_day-before-requires-clause-day : goal.days_before_day-before-requires-clause-day
 days_before_day-before-requires-clause-day c =
     let years = corrected_years c.args.self.now in
-    let y = c.args.year.extended_year in
+    let y = c.args.year.number in
     let place = plain-place 12 (persian_list years) (persian_list-plain years) y c.args.month c.requires.date.place in
     (c.requires.date.day.0, omega (arith, c.requires.date.day.1, (persian_list-plain years).lengths y c.args.month place.0 place.1))
 
 pub overflow_add-start : goal.overflow_add-start
 overflow_add-start c =
     let years = corrected_years c.args.self.now in
-    let year = c.args.year.extended_year in
+    let year = c.args.year.number in
     let rule = c.requires.year.range in
     let kept : to_z w32 (of_z w32 year) ≡ year = omega (arith, signed, rule) in
     let first = c.year_start-start.ensures ∙ ap (persian_new_year years) kept in
@@ -33,7 +33,7 @@ overflow_add-start c =
 pub new-requires : goal.new-requires
 new-requires c =
     let years = corrected_years c.args.self.now in
-    let year = c.args.year.extended_year in
+    let year = c.args.year.number in
     let rule = c.requires.year.range in
     let kept : to_z w32 (of_z w32 year) ≡ year = omega (arith, signed, rule) in
     let first = c.year_start-start.ensures ∙ ap (persian_new_year years) kept in
@@ -44,7 +44,7 @@ new-requires c =
 pub returns : goal.returns
 returns c =
     let years = corrected_years c.args.self.now in
-    let year = c.args.year.extended_year in
+    let year = c.args.year.number in
     let rule = c.requires.year.range in
     let kept : to_z w32 (of_z w32 year) ≡ year = omega (arith, signed, rule) in
     let first = c.year_start-start.ensures ∙ ap (persian_new_year years) kept in

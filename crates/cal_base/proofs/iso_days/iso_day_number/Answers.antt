@@ -7,7 +7,7 @@ use Rattle.cal_model.proofs.PlainMonthLemmas.{plain-place}
 use Rattle.cal_base.specs.GregorianList.{gregorian_list}
 use Rattle.cal_base.specs.laws.GregorianLaws.{gregorian_list-months, gregorian_list-plain, start_of_year-gregorian}
 use Rattle.cal_base.specs.laws.MarchMonths.{day_number-in_march_year}
-use Rattle.cal_base.proofs.iso_year.iso_day_number.Goals as goal
+use Rattle.cal_base.proofs.iso_days.iso_day_number.Goals as goal
 
 pub in_march_year-march_year-requires-clause-month : goal.in_march_year-march_year-requires-clause-month
 in_march_year-march_year-requires-clause-month c = plain-place 12 gregorian_list gregorian_list-plain c.args.year c.args.month c.requires.date.place

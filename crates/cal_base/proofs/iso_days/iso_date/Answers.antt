@@ -4,7 +4,7 @@ use Rattle.cal_days.proofs.Signed.{signed}
 use Rattle.cal_base.specs.GregorianList.{gregorian_list}
 use Rattle.cal_base.specs.laws.GregorianLaws.{gregorian_list-months, start_of_year-gregorian}
 use Rattle.cal_base.specs.laws.MarchMonths.{on-march, on-next}
-use Rattle.cal_base.proofs.iso_year.iso_date.Goals as goal
+use Rattle.cal_base.proofs.iso_days.iso_date.Goals as goal
 
 pub returns-then-month-gt12-clause-on : goal.returns-then-month-gt12-clause-on
 returns-then-month-gt12-clause-on c =

@@ -7,7 +7,7 @@ use Rattle.cal_model.specs.CalendarList.{date, IsDate}
 use Rattle.cal_model.proofs.PlainMonthLemmas.{plain-place}
 use Rattle.cal_coptic.specs.CopticList.{coptic_list}
 use Rattle.cal_coptic.specs.laws.CopticLaws.{coptic_list-plain, days_before-coptic, start_of_year-coptic}
-use Rattle.cal_coptic.proofs.coptic_year.CopticYear.day_number.Goals as goal
+use Rattle.cal_coptic.proofs.coptic_year.day_number.Goals as goal
 
 -- what the calls say of the year's first day
 first_day : (year first number : ℤ) → IsShiftedYear year → number ≡ first → first ≡ coptic_start (to_z w32 (of_z w32 year)) → number ≡ coptic_start year
@@ -23,14 +23,14 @@ few number month day h =
 
 pub new-requires : goal.new-requires
 new-requires c =
-    let number = c.args.self.number in
+    let number = c.args.year.number in
     let first = first_day number c.year_start.result c.to_i64_date.result c.requires.year c.to_i64_date.ensures.value c.year_start.ensures.formula in
     let small = few number c.args.month c.args.day c.requires.date in
     (omega (arith, signed, first, coptic_start-bounds number, small, c.requires.year, c.from.ensures, c.from-2.ensures, c.from-3.ensures), omega (arith, signed, first, coptic_start-bounds number, small, c.requires.year, c.from.ensures, c.from-2.ensures, c.from-3.ensures))
 
 pub returns : goal.returns
 returns c =
-    let number = c.args.self.number in
+    let number = c.args.year.number in
     let first = first_day number c.year_start.result c.to_i64_date.result c.requires.year c.to_i64_date.ensures.value c.year_start.ensures.formula in
     let small = few number c.args.month c.args.day c.requires.date in
     let before = days_before-coptic number c.args.month small.0 small.1 in
