@@ -1,6 +1,8 @@
 //! The Coptic calendar (Reingold and Dershowitz, Calendrical Calculations, chapter 4).
 
-use crate::coptic_year::{coptic_date, month_and_day, reference_year};
+use crate::coptic_year::{
+    coptic_date, day_number, days_in_month, is_leap, month_and_day, reference_year,
+};
 use cal_arith::eras::year_in_only_era;
 use cal_arith::{ArithmeticDate, DateFieldsResolver, Steps, YearShapes, Years};
 use cal_base::plain_months::{is_plain, plain_ordinal};

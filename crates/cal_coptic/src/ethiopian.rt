@@ -8,7 +8,10 @@ ghost use Rattle.cal_coptic.specs.EthiopianEra.{ethiopian_era_year, world_era_ye
 ghost use Rattle.cal_coptic.specs.EthiopianList.{coptic_offset, is_same_style};
 ghost use Rattle.cal_coptic.specs.EthiopianNames.{incarnation_reads};
 
-use crate::coptic_year::{coptic_date, month_and_day, reference_year};
+use crate::coptic_year::{
+    can_be_named_from, coptic_date, day_number, days_in_month, is_leap, month_and_day,
+    reference_year,
+};
 use cal_arith::eras::year_in_only_era;
 use cal_arith::{ArithmeticDate, DateFieldsResolver, Steps, YearShapes, Years};
 use cal_base::plain_months::{is_plain, plain_ordinal};
