@@ -1,10 +1,14 @@
 //! The bytes that dates are packed into: those of both ends of the valid days, and of other days.
 
-use crate::tests::expected::{assert_at, assert_packable};
+use crate::tests::expected::{assert_at, assert_packable, assert_year};
 use cal_arith::{PackWithMD, Years};
-use cal_east_asian::{EastAsianRow, EastAsianTraditionalYear};
+use cal_east_asian::{
+    ChineseTraditional, EastAsianRow, EastAsianTable, EastAsianTraditionalYear, KoreanTraditional,
+    Side,
+};
 use cal_hebrew::{Hebrew, HebrewYear};
 use cal_hijri::{Hijri, HijriRow, HijriYear, TabularAlgorithmEpoch, TabularAlgorithmLeapYears};
+use std::process::Abort;
 
 /// The month of the place 6 of 5787 is `M05L`.
 #[test]
@@ -129,5 +133,64 @@ fn east_asian_dates_have_the_bytes_of_their_rows(rt: HostRuntime) {
             EastAsianTraditionalYear::unpack_day(packed),
             day,
         );
+    }
+}
+
+/// That a date of a year has these bytes, and that they hold it.
+fn assert_bytes(
+    rt: &impl Abort,
+    year: EastAsianTraditionalYear,
+    month: u8,
+    day: u8,
+    bytes: [u8; 7],
+) {
+    let number = year.related_iso();
+    assert_packable(rt, number, month, day);
+    let packed = year.pack(month, day);
+    assert_at(rt, number, packed, bytes);
+    let kept = EastAsianTraditionalYear::unpack_year(packed);
+    assert_at(rt, number, kept.related_iso(), number);
+    assert_at(rt, number, kept.new_year(), year.new_year());
+    assert_at(rt, number, kept.leap_month(), year.leap_month());
+    let unpacked_month = EastAsianTraditionalYear::unpack_month(packed);
+    assert_at(rt, number, unpacked_month, month);
+    let unpacked_day = EastAsianTraditionalYear::unpack_day(packed);
+    assert_at(rt, number, unpacked_day, day);
+}
+
+/// The first valid day, a year with a leap month in the place 7, and the last valid day, by mean years. The bytes are
+/// those of a program in Python that tries the moons and the terms one after another.
+#[test]
+fn computed_east_asian_dates_have_their_bytes(rt: HostRuntime) {
+    let china = ChineseTraditional::new(EastAsianTable::none(Side::China));
+    let korea = KoreanTraditional::new(EastAsianTable::none(Side::Korea));
+    for (number, month, day, in_china, in_korea) in [
+        (
+            -1000000,
+            11,
+            23,
+            [170, 6, 62, 119, 129, 123, 225],
+            [170, 6, 62, 119, 129, 123, 225],
+        ),
+        (
+            -999998,
+            12,
+            1,
+            [173, 234, 16, 129, 133, 123, 225],
+            [173, 234, 16, 129, 133, 123, 225],
+        ),
+        (
+            999999,
+            12,
+            5,
+            [181, 10, 34, 133, 127, 132, 30],
+            [173, 10, 34, 133, 127, 132, 30],
+        ),
+    ] {
+        assert_year(&rt, number);
+        let chinese = china.year_info_from_extended(number);
+        assert_bytes(&rt, chinese, month, day, in_china);
+        let korean = korea.year_info_from_extended(number);
+        assert_bytes(&rt, korean, month, day, in_korea);
     }
 }
