@@ -11,8 +11,8 @@ use icu_calendar::{
     AnyCalendar, AnyCalendarKind, Date, DateFields, DateFromFieldsError, DateFromFieldsOptions,
     Gregorian, Iso, Julian, MissingFieldsStrategy, Month, Overflow,
 };
-use known_dates::{GREGORIAN, ISO, JULIAN, calendar_of, number_of, parts_of};
 use std::process::Abort;
+use test_dates::{GREGORIAN, ISO, JULIAN, calendar_of, number_of, parts_of};
 
 /// The fields of a bag that speak of the year: era, era year and extended year.
 type YearFields = (Option<&'static str>, Option<i32>, Option<i32>);

@@ -7,8 +7,8 @@ use Rattle.cal_spans.specs.Spans.{SpanDates}
 use Rattle.cal_spans.specs.declared.span_error.SpanError.{SpanError}
 use Rattle.cal_spans.proofs.SpanLemmas.{span-exists, span-unique}
 use Rattle.cal_tables.specs.Kinds.{TableContents, kind_system, no_contents}
-use Rattle.request_parts.specs.Parts.{AreNamed, AreRefused}
-use Rattle.request_parts.specs.declared.span_parts.SpanParts.{SpanParts}
+use Rattle.date_parts.specs.Parts.{AreNamed, AreRefused}
+use Rattle.date_parts.specs.declared.span_parts.SpanParts.{SpanParts}
 use Rattle.calspan_run.specs.Generator.{generated_request, with_answer, with_refusal, with_span, no_totals, totals_text, IsCounted, AreTotals, IsGenerated}
 use Rattle.calspan_run.specs.Endings.{MayEnd}
 use Rattle.calspan_run.specs.Laws.{AreLasting}

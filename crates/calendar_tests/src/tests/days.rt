@@ -9,8 +9,8 @@ use icu_calendar::{
     EthiopianEraStyle, Hebrew, Hijri, HijriTable, Indian, Japanese, KoreanTraditional, Persian,
     PersianCorrections, Roc, Side, TabularAlgorithmEpoch, TabularAlgorithmLeapYears, YearInput,
 };
-use known_dates::{day, number_in};
 use std::cmp::Ordering;
+use test_dates::{day, number_in};
 
 /// What a date shows: its extended year, its month code, its day, and its era with the year in it.
 type Shown = (i32, &'static str, u8, &'static str, i32);

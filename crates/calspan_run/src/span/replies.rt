@@ -8,16 +8,16 @@ ghost use Rattle.cal_model.specs.CalendarSystem.{CalendarSystem};
 ghost use Rattle.cal_tables.specs.Kinds.{kind_system, table_contents};
 ghost use Rattle.request_lines.specs.Requests.{request_of};
 ghost use Rattle.request_lines.specs.RequestSaid.{header_said};
-ghost use Rattle.request_parts.specs.Parts.{AreNamed, IsDay};
+ghost use Rattle.date_parts.specs.Parts.{AreNamed, IsDay};
 ghost use Rattle.calspan_run.specs.Replies.{SaysSpan, IsReply};
 
 use crate::kinds::{name_dates, show_days};
 use cal_kinds::AnyCalendarKind;
 use cal_tables::Tables;
 use cal_types::DateFields;
+use date_parts::{DayParts, SpanParts};
 use reply_texts::{Pending, push_all, push_day, push_duration, push_error};
 use request_lines::Header;
-use request_parts::{DayParts, SpanParts};
 
 /// Both dates, the same days in the second calendar, and the difference.
 fn push_span(text: &mut Pending, parts: &SpanParts, shown: AnyCalendarKind, tables: &Tables<'_>)

@@ -6,8 +6,8 @@ use icu_calendar::{
     Iso, Japanese, Julian, KoreanTraditional, Persian, PersianCorrections, Roc, Side,
     TabularAlgorithmEpoch, TabularAlgorithmLeapYears,
 };
-use known_dates::{JULIAN, calendar_of, date_on, day, has_parts, has_parts_in, parts_in};
 use std::process::Abort;
+use test_dates::{JULIAN, calendar_of, date_on, day, has_parts, has_parts_in, parts_in};
 
 /// That a date of a calendar is the same one as a date of any calendar, that the calendar comes back from its variant,
 /// and that another variant is handed back.

@@ -6,9 +6,9 @@ use icu_calendar::{
     Japanese, JapaneseEras, LunisolarDateError, Month, RangeError, Ref, TabularAlgorithmEpoch,
     TabularAlgorithmLeapYears, TinyAsciiStr,
 };
-use known_dates::{calendar_of, date_on, number_in, parts_in, parts_of};
 use std::cmp::Ordering;
 use std::process::Abort;
+use test_dates::{calendar_of, date_on, number_in, parts_in, parts_of};
 
 /// The day number of a date that was made.
 fn day_of<A: AsCalendar, E: Drop>(made: Result<Date<A>, E>) -> Option<i64>

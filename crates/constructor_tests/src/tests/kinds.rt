@@ -1,7 +1,7 @@
 //! Dates in the calendar of each kind.
 
 use icu_calendar::AnyCalendarKind;
-use known_dates::{date_on, parts_of};
+use test_dates::{date_on, parts_of};
 
 /// The year that each kind gives to January 1, 2000 of the ISO calendar (day 730120).
 #[test]

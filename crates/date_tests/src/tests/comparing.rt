@@ -1,8 +1,8 @@
 //! Which dates are equal, and which are ordered.
 
 use icu_calendar::{AnyCalendarKind, AnyDateInner, Calendar};
-use known_dates::{GREGORIAN, ISO, JULIAN, calendar_of, day};
 use std::process::Abort;
+use test_dates::{GREGORIAN, ISO, JULIAN, calendar_of, day};
 
 /// The date of a day number as the calendar of a kind keeps it.
 fn kept_on(number: i64, kind: AnyCalendarKind) -> AnyDateInner<'static> {

@@ -1,11 +1,11 @@
 //! Days of known dates, there and back.
 
 use icu_calendar::{AnyCalendarKind, Date, DateFromFieldsError, Iso, Julian, RataDie, Ref};
-use known_dates::{
+use std::process::Abort;
+use test_dates::{
     GREGORIAN, IN_DAYS, ISO, JULIAN, calendar_of, date_named, date_on, duration, has_parts,
     has_parts_in, is_in_year, is_named, number_in, number_of, parts_of, shown_in,
 };
-use std::process::Abort;
 
 #[test]
 fn date_says_its_year_month_and_day(rt: HostRuntime) {

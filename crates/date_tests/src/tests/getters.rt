@@ -1,8 +1,8 @@
 //! What dates say of their year, month and day, and how they are written.
 
 use icu_calendar::{AsCalendar, Calendar, Date, Iso, RataDie, Weekday};
-use known_dates::{GREGORIAN, ISO, JULIAN, date_on};
 use std::alloc::{AllocError, Global};
+use test_dates::{GREGORIAN, ISO, JULIAN, date_on};
 
 /// Whether a date is on this day of the week and of the year, has these days in its month and in its year, and is in
 /// a leap year or not; the year has twelve months.

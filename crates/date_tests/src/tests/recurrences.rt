@@ -1,7 +1,7 @@
 //! Recurrences from a date on.
 
 use icu_calendar::{Date, DateDurationUnit, Iso, Missing, Occurrence, Rule, Window};
-use known_dates::day;
+use test_dates::day;
 
 /// The index and the day's number of an item.
 fn parts(item: Option<Occurrence>) -> Option<(u32, i64)> {

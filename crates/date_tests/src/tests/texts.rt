@@ -4,8 +4,8 @@ use icu_calendar::{
     AsCalendar, Calendar, CalendarAlgorithm, Date, DateRecord, Gregorian, Hebrew, Hijri, Iso,
     IxdtfRecord, ParseError, RangeError, TabularAlgorithmEpoch, TabularAlgorithmLeapYears,
 };
-use known_dates::number_in;
 use std::process::Abort;
+use test_dates::number_in;
 
 /// The day number of the date that a text names in a calendar, or what is wrong with the text.
 fn day_named<A: AsCalendar>(text: &str, calendar: A) -> Result<i64, ParseError>

@@ -1,7 +1,7 @@
 //! Weeks of years, and Easter.
 
 use icu_calendar::{Date, Iso, easter_gregorian, easter_julian};
-use known_dates::{day, number_in};
+use test_dates::{day, number_in};
 
 /// Whether the ISO date of a day is in this week of this year.
 fn is_in_week(number: i64, year: i32, week: u8) -> bool {

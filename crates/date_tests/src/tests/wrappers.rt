@@ -5,9 +5,9 @@ use icu_calendar::{
     AsCalendar, Calendar, ChineseTraditional, Date, EastAsianRow, EastAsianTable,
     EastAsianTraditionalYear, Iso, Julian, Month, RataDie, Ref, Side,
 };
-use known_dates::{IN_DAYS, has_parts_in, number_in};
 use std::cmp::Ordering;
 use std::process::Abort;
+use test_dates::{IN_DAYS, has_parts_in, number_in};
 
 /// That two dates are of one day, and of that day number.
 fn assert_same<A: AsCalendar, B: AsCalendar<Calendar = A::Calendar>>(

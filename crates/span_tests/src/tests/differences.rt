@@ -6,10 +6,10 @@ use icu_calendar::{
     AnyCalendar, AnyCalendarKind, AsCalendar, Calendar, Date, DateAddOptions,
     DateDifferenceOptions, DateDuration, DateDurationUnit, Overflow, Steps,
 };
-use known_dates::{GREGORIAN, IN_DAYS, ISO, JULIAN, date_on, difference, duration, number_in};
 use std::marker::Brand;
 use std::process::Abort;
 use std::sync::ledger::{Blank, Ledger};
+use test_dates::{GREGORIAN, IN_DAYS, ISO, JULIAN, date_on, difference, duration, number_in};
 
 #[test]
 fn dates_of_two_calendars_have_no_difference(rt: HostRuntime) {

@@ -3,17 +3,17 @@
 ghost use Rattle.cal_days.specs.Day.{IsValidDay};
 
 use calspan_run::{name_dates, show_days};
+use date_parts::{DayParts, SpanParts};
 use icu_calendar::{
     AnyCalendar, AnyCalendarKind, BagSide, Date, DateDifferenceOptions, DateDuration,
     DateDurationUnit, DateFromFieldsError, DateFromFieldsOptions, Overflow, Span, SpanError,
     Tables, named_dates, span,
 };
-use known_dates::{
+use std::process::Abort;
+use test_dates::{
     GREGORIAN, IN_DAYS, ISO, JULIAN, REJECT, calendar_of, date_named, duration, fields, has_parts,
     is_named, number_of, parts_of,
 };
-use request_parts::{DayParts, SpanParts};
-use std::process::Abort;
 
 /// A year, a month and a day.
 type Ymd = (i32, u8, u8);

@@ -4,8 +4,8 @@ use icu_calendar::{
     AnyCalendar, AnyCalendarKind, AsCalendar, Calendar, Date, DateAddError, DateAddOptions,
     DateDuration, Overflow,
 };
-use known_dates::{GREGORIAN, ISO, JULIAN, date_on, duration, has_parts, number_in, number_of};
 use std::process::Abort;
+use test_dates::{GREGORIAN, ISO, JULIAN, date_on, duration, has_parts, number_in, number_of};
 
 /// The day number of the sum of a date and a duration, or why there is none.
 fn day_of_sum<A: AsCalendar>(

@@ -7,8 +7,8 @@ use Rattle.cal_model.specs.CalendarSystem.{CalendarSystem}
 use Rattle.cal_tables.specs.Kinds.{TableContents, kind_system, table_contents}
 use Rattle.cal_kinds.specs.declared.any_calendar_kind.AnyCalendarKind.{AnyCalendarKind}
 use Rattle.cal_spans.specs.declared.span_error.SpanError.{SpanError}
-use Rattle.request_parts.specs.Parts.{AreNamed, AreRefused}
-use Rattle.request_parts.specs.declared.span_parts.SpanParts.{SpanParts}
+use Rattle.date_parts.specs.Parts.{AreNamed, AreRefused}
+use Rattle.date_parts.specs.declared.span_parts.SpanParts.{SpanParts}
 use Rattle.calspan_run.proofs.kinds.name_dates.Goals as goal
 
 -- what is refused in the calendar that is made for a kind is refused in the calendar of that kind

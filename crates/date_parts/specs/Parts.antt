@@ -11,8 +11,8 @@ use Rattle.cal_model.specs.CalendarSystem.{CalendarSystem, resolve_fields}
 use Rattle.cal_model.specs.Until.{IsUntil}
 use Rattle.cal_spans.specs.Spans.{RefusesBag}
 use Rattle.cal_spans.specs.declared.span_error.SpanError.{SpanError}
-use Rattle.request_parts.specs.declared.day_parts.DayParts.{DayParts}
-use Rattle.request_parts.specs.declared.span_parts.SpanParts.{SpanParts}
+use Rattle.date_parts.specs.declared.day_parts.DayParts.{DayParts}
+use Rattle.date_parts.specs.declared.span_parts.SpanParts.{SpanParts}
 
 -- the day has two digits, and its number is valid
 pub record IsDay (p : DayParts) : Type 0 where

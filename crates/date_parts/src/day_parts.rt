@@ -2,7 +2,7 @@
 
 ghost use Rattle.std.specs.Prelude.{◌≡◌, IsTrue};
 ghost use Rattle.cal_model.specs.CalendarList.{day_number};
-ghost use Rattle.request_parts.specs.Parts.{IsDayParts};
+ghost use Rattle.date_parts.specs.Parts.{IsDayParts};
 
 use cal_base::Calendar;
 use cal_days::RataDie;
