@@ -9,10 +9,7 @@ use date_bytes::solar;
 /// A year of a solar calendar, of which its number says everything: the ISO year in the Gregorian calendars, the Coptic
 /// year in the Coptic and the Ethiopian one, and the extended year in the Julian, the Indian and the Persian one.
 ///
-/// ```
-/// let year = NumberedYear { number: 2024 };
-/// assert!(rt; year.pack(3, 1) == [97, 208, 15, 0]); // 2024-03-01
-/// ```
+/// A date of such a year is packed into four bytes: 2024-03-01 into `[97, 208, 15, 0]`.
 #[derive(Clone, Copy, Debug, PartialEq, Eq, PartialOrd, Ord, Hash)]
 pub struct NumberedYear {
     /// The year's number: year 0 is the year before year 1.
