@@ -5,6 +5,7 @@ use Rattle.std.specs.Result.{OkIff, result_ok}
 use Rattle.std.specs.Str.{IsUtf8}
 use Rattle.std.specs.Str.Parse.{ParsesUnsigned, digits_value}
 use Rattle.std.specs.Char.{is_ascii_digit}
+use Rattle.std.proofs.lemmas.Bool.{and_parts}
 use Rattle.std.proofs.lemmas.Bool.Decides.{nat_tests}
 use Rattle.std.proofs.lemmas.Grind.{common_steps}
 use Rattle.std.proofs.lemmas.Fmt.{IsAscii-from_digits}
@@ -33,18 +34,15 @@ pub parts_of-ended : (ds : List ℕ) (end : ℕ) (text : List ℕ) → AreDigits
     parts_of (ds ++ end ∷ text) ≡ part ds (Some end) ∷ parts_of text
 parts_of-ended [] end text digits other = rw other refl
 parts_of-ended (d ∷ ds) end text digits other =
-    let first : is_ascii_digit d ≡ true = grind (arith, common_steps) in
-    let others : AreDigits ds = grind (arith, common_steps) in
-    rw (first, parts_of-ended ds end text others other) refl
+    let each = and_parts (is_ascii_digit d) (list_all is_ascii_digit ds) digits in
+    rw (each.0, parts_of-ended ds end text each.1 other) refl
 
 -- digits alone are a part
 pub parts_of-digits : (d : ℕ) (ds : List ℕ) → AreDigits (d ∷ ds) → parts_of (d ∷ ds) ≡ part (d ∷ ds) None ∷ []
-parts_of-digits d [] digits =
-    let first : is_ascii_digit d ≡ true = grind (arith, common_steps) in rw first refl
+parts_of-digits d [] digits = rw (and_parts (is_ascii_digit d) true digits).0 refl
 parts_of-digits d (e ∷ ds) digits =
-    let first : is_ascii_digit d ≡ true = grind (arith, common_steps) in
-    let others : AreDigits (e ∷ ds) = grind (arith, common_steps) in
-    rw (first, parts_of-digits e ds others) refl
+    let each = and_parts (is_ascii_digit d) (list_all is_ascii_digit (e ∷ ds)) digits in
+    rw (each.0, parts_of-digits e ds each.1) refl
 
 mapped : {A B : Type 0} (f : A → B) (test : A → Bool) (found : Option A) (x : A) →
     option_map f (option_or found (find test (x ∷ [])))
