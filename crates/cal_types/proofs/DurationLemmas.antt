@@ -16,7 +16,7 @@ use Rattle.std.proofs.lemmas.List.{take-append-drop, drop_all}
 use Rattle.std.proofs.Math.Seq.{drop-cons, take-length}
 use Rattle.std.proofs.lemmas.Str.{IsUtf8-from_ascii}
 use Rattle.std.proofs.lemmas.Str.Parse.{IsNumeralModel, numerals_by_value, parse_digits, tells_all_ascii_digits}
-use borrow.Author.Tests.{ltb-false}
+use borrow.Author.Tests.{le-ltb, ltb-false}
 use Rattle.cal_types.specs.DurationText.{DurationPart, parts_of, unit_letter, unit_at, is_end, number_of, amounts_of, amount, amount_fault, amount_put, digits_fault, first_fault, unless_fault}
 use Rattle.cal_types.specs.declared.duration.DateDurationUnit.{DateDurationUnit}
 use Rattle.cal_types.specs.declared.duration.DateDurationUnit.TheVariants.{Years, Months, Weeks, Days}
@@ -256,6 +256,12 @@ digits_model = numerals_by_value AreDigits tells_all_ascii_digits
 pub IsUtf8-digits : (ds : List ℕ) → AreDigits ds → IsUtf8 ds
 IsUtf8-digits ds digits = IsUtf8-from_ascii ds (IsAscii-from_digits ds (digits_model.to ds digits))
 
+above : (b : Bool) (n : ℕ) → nat_lt 18446744073709551615 n ≡ b → ¬ (n < 2 ^ 64) →
+    nat_lt 18446744073709551615 n ≡ true
+above true n e large = e
+above false n e large =
+    let most = ltb-false 18446744073709551615 n e in absurd (large (omega (arith, most)))
+
 -- the number that digits write, where it is read as one of 64 bits
 pub number-read : {E : Type 0} (ds text : List ℕ) (r : Result ℕ E) → text ≡ ds → ParsesUnsigned 64 10 text r →
     AreDigits ds → 0 < length ds →
@@ -265,5 +271,9 @@ number-read {E = E} ds text r same read digits some =
   where
     by_result : (r : Result ℕ E) → OkIff r ((0 < length ds) × (digits_value 10 ds < 2 ^ 64)) (digits_value 10 ds) →
         result_ok r ≡ (if nat_lt 18446744073709551615 (digits_value 10 ds) then None else Some (digits_value 10 ds))
-    by_result (Ok n) h = grind (arith, nat_tests, common_steps)
-    by_result (Err e) h = grind (arith, nat_tests, common_steps)
+    by_result (Ok n) h =
+        let within = le-ltb 18446744073709551615 (digits_value 10 ds) (omega (arith, h)) in rw within (ap Some h.1)
+    by_result (Err e) h =
+        let over = above (nat_lt 18446744073709551615 (digits_value 10 ds)) (digits_value 10 ds) refl
+        (λ small. h (some, small)) in
+        rw over refl
