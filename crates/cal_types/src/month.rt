@@ -66,7 +66,8 @@ impl Month {
 
     /// The month that two digits number; [`MonthCodeParseError::InvalidSyntax`] where one of them is none.
     fn of_digits(tens: u8, units: u8, is_leap: bool) -> Result<Month, MonthCodeParseError>
-        ensures value { parts_read result ≡ ok_or (month_numbered tens units is_leap) MonthCodeParseError.InvalidSyntax }
+        ensures value { parts_read result
+            ≡ ok_or (month_numbered tens units is_leap) MonthCodeParseError.InvalidSyntax }
         ensures code { IfOk result (λ m. code_text (month_parts m) ≡ code_numbered tens units is_leap) }
     {
         if !tens.is_ascii_digit() || !units.is_ascii_digit() {
