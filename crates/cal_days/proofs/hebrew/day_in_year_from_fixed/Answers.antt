@@ -27,3 +27,20 @@ day_in_year-requires-clause-within c =
     let before : to_z w32 (of_z w32 (to_z w32 (of_z w32 c.near_year-near.result) -ℤ pos 1)) ≡ c.near_year-near.result -ℤ pos 1 = omega (arith, signed_casts, c.near_year-near.ensures.range) in
     let first : c.first_day.result ≡ hebrew_start (c.near_year-near.result -ℤ pos 1) = rw before at c.first_day.ensures in
     (omega (arith, signed_casts, first, c.near_year-near.ensures.low), omega (arith, signed_casts, c.since.ensures, c.if-since-lt0.true))
+
+pub day_in_year-requires-clause-next : goal.day_in_year-requires-clause-next
+day_in_year-requires-clause-next c =
+    let near = c.near_year-near.result in
+    let before : to_z w32 (of_z w32 (to_z w32 (of_z w32 near) -ℤ pos 1)) ≡ near -ℤ pos 1 = omega (arith, signed_casts, c.near_year-near.ensures.range) in
+    let same : to_z w32 (of_z w32 near) ≡ near = omega (arith, signed_casts, c.near_year-near.ensures.range) in
+    let again : near -ℤ pos 1 +ℤ pos 1 ≡ near = omega (arith, signed_casts) in
+    let this : c.first_day-first.result ≡ hebrew_start near = rw same at c.first_day-first.ensures in
+    rw (before, again) this
+
+pub day_in_year-requires-else-since-lt0-clause-next : goal.day_in_year-requires-else-since-lt0-clause-next
+day_in_year-requires-else-since-lt0-clause-next c =
+    let near = c.near_year-near.result in
+    let after : to_z w32 (of_z w32 (to_z w32 (of_z w32 near) +ℤ pos 1)) ≡ near +ℤ pos 1 = omega (arith, signed_casts, c.near_year-near.ensures.range) in
+    let same : to_z w32 (of_z w32 near) ≡ near = omega (arith, signed_casts, c.near_year-near.ensures.range) in
+    let next : c.first_day-else-since-lt0.result ≡ hebrew_start (near +ℤ pos 1) = rw after at c.first_day-else-since-lt0.ensures in
+    rw same next
