@@ -9,7 +9,7 @@ use Rattle.cal_days.proofs.Signed.{signed, by_bool}
 use Rattle.cal_days.proofs.DivisionLemmas.{floor_parts}
 use Rattle.cal_days.specs.Hebrew.{months_before, parts_before, moon_day, is_put_off, days_elapsed, length_delay, hebrew_start, hebrew_leap, hebrew_year_length, IsHebrewLength}
 use Rattle.cal_days.specs.Molad.{postponement}
-use Rattle.cal_days.proofs.MoonLemmas.{late, delay, NextMoon, months_more, length_12_12_12, length_12_12_13, length_12_13_12, length_12_13_13, length_13_12_12, length_13_12_13, length_13_13_12, length_13_13_13, put_off_12_12, put_off_12_13, put_off_13_12}
+use Rattle.cal_days.proofs.MoonLemmas.{late, delay, NextMoon, months_more, length_12_12_12, length_12_12_13, length_12_13_12, length_12_13_13, length_13_12_12, length_13_12_13, length_13_13_12, length_13_13_13, put_off_12_12, put_off_12_13, put_off_13_12, same_test}
 use borrow.Author.Differences.{up, down}
 
 -- the months of a year
@@ -181,11 +181,6 @@ hebrew_year_length-most y = most (hebrew_leap y) (hebrew_year_length y) (hebrew_
 -- what division by 19 leaves of the months before a year, in nineteenths
 abbrev pub left_of : ℤ → ℕ
 left_of y = floor_mod (pos 235 *ℤ y -ℤ pos 234) 19
-
-same_test : (a b : Bool) → (a ≡ true → b ≡ true) → (b ≡ true → a ≡ true) → a ≡ b
-same_test true b f g = sym (f refl)
-same_test false true f g = g refl
-same_test false false f g = refl
 
 -- by it a year is a leap year, and so is the year before
 left-leap : (y : ℤ) → hebrew_leap y ≡ nat_le 12 (left_of y)

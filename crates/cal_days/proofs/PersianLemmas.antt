@@ -1,7 +1,6 @@
 -- The Persian rule: years join by the closed formula, and the formula is nearly linear.
-use Rattle.std.proofs.Common.{◌≡◌, ℕ, ◌+◌, ◌*◌, ◌/◌, ◌≤◌, true, false, arith, refl, cond, ℤ, pos, neg_ℤ, ◌+ℤ◌, ◌-ℤ◌, ◌*ℤ◌, ◌<ℤ◌, ◌≤ℤ◌}
+use Rattle.std.proofs.Common.{◌≡◌, ℕ, ◌+◌, ◌*◌, ◌/◌, ◌≤◌, true, false, arith, refl, cond, ℤ, pos, ◌+ℤ◌, ◌-ℤ◌, ◌*ℤ◌, ◌<ℤ◌, ◌≤ℤ◌}
 use Rattle.std.proofs.lemmas.Bool.Decides.{nat_tests}
-use Rattle.cal_days.specs.Day.{IsBetween, IsValidDay}
 use Rattle.cal_days.specs.Division.{floor_div, floor_mod}
 use Rattle.cal_days.specs.Persian.{persian_leap, persian_year_length, persian_start}
 use Rattle.cal_days.proofs.Signed.{signed}
@@ -45,11 +44,6 @@ persian_start-finds rd y e =
 -- the linear formula, counted from 1023000 years before
 pub persian_years-counted : (rd : ℤ) (n : ℕ) → pos n ≡ rd +ℤ pos 373416105 → floor_div (pos 33 *ℤ (rd -ℤ pos 226895) +ℤ pos 3) 12053 ≡ pos ((33 * n + 3) / 12053) -ℤ pos 1023000
 persian_years-counted rd n e = omega (arith, signed, floor_parts (pos 33 *ℤ (rd -ℤ pos 226895) +ℤ pos 3) 12053 (omega arith))
-
--- a valid day lies in a year from -1000621 to 999378
-pub persian_year_of_valid_day : (rd y : ℤ) → IsValidDay rd → persian_start y ≤ℤ rd → rd <ℤ persian_start (y +ℤ pos 1) → IsBetween (neg_ℤ (pos 1000621)) (pos 999378) y
-persian_year_of_valid_day rd y valid first last =
-    (omega (arith, signed, persian_start-bounds (y +ℤ pos 1)), omega (arith, signed, persian_start-bounds y))
 
 -- no two years in a row are leap years
 pub persian_leap-apart : (y z : ℤ) → z ≡ y +ℤ pos 1 → persian_leap y ≡ true → persian_leap z ≡ false

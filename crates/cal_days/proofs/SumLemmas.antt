@@ -73,13 +73,7 @@ span-later size from y later h =
     let same : y +ℤ pos 1 +ℤ pos n ≡ later = omega (arith, signed) in
     omega (arith, signed, span-next size from y, rw same at (span-rises size from (y +ℤ pos 1) n))
 
--- a number lies in one year only
-pub span-one_year : (size : ℤ → ℕ) (from y z : ℤ) (a b : ℕ) → a < size y → b < size z → span size from y +ℤ pos a ≡ span size from z +ℤ pos b → y ≡ z
-span-one_year size from y z a b p q e =
-    by_lt_z {P = y ≡ z} y z (λ lt. absurd (omega (arith, signed, span-later size from y z lt)))
-    (λ le. by_lt_z {P = y ≡ z} z y (λ lt. absurd (omega (arith, signed, span-later size from z y lt))) (λ ge. omega (arith, signed)))
-
--- and where no year is empty, each number lies in one
+-- where no year is empty, each number lies in one
 abbrev Lies : (ℤ → ℕ) → ℤ → ℤ → Type 0
 Lies size from n = (y : ℤ) × (a : ℕ) × (a < size y) × (span size from y +ℤ pos a ≡ n)
 

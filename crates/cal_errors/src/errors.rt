@@ -2,11 +2,12 @@
 
 ghost use Rattle.std.specs.Prelude.{◌≡◌};
 
+use std::fmt;
 use thiserror::Error;
 
 /// An argument is out of its range; `min` and `max` are the least and the greatest that are allowed.
 #[derive(Clone, Copy, Debug, PartialEq, Error)]
-#[error("The {field} = {value} argument is out of range {min}..={max}")]
+#[error(fmt = write_range)]
 pub struct RangeError {
     /// The argument's name, such as `day`.
     pub field: &'static str,
@@ -22,7 +23,7 @@ pub struct RangeError {
 #[derive(Clone, Copy, Debug, PartialEq, Error)]
 pub enum DateError {
     /// A number is out of its range, as in [`RangeError`].
-    #[error("The {field} = {value} argument is out of range {min}..={max}")]
+    #[error(fmt = write_range)]
     Range {
         /// The argument's name.
         field: &'static str,
@@ -42,104 +43,188 @@ pub enum DateError {
 #[derive(Clone, Copy, Debug, PartialEq, Error)]
 pub enum DateFromFieldsError {
     /// The fields name no whole date.
-    #[error("Not enough fields")]
     NotEnoughFields,
     /// Two fields say the same thing in two ways that exclude each other.
-    #[error("Too many fields")]
     TooManyFields,
     /// The year or the date is beyond what the calendars hold.
-    #[error("Result out of range")]
     Overflow,
     /// The calendar doesn't have the era.
-    #[error("Unknown era or invalid syntax")]
     InvalidEra,
     /// The year in its era and the extended year differ.
-    #[error("Inconsistent year")]
     InconsistentYear,
     /// The month code isn't `M`, two digits and an optional `L`.
-    #[error("Invalid month code syntax")]
     MonthCodeInvalidSyntax,
     /// No year of the calendar has the month.
-    #[error("The specified month does not exist in this calendar")]
     MonthNotInCalendar,
     /// This year doesn't have the month.
-    #[error("The specified month exists in this calendar, but not for this year")]
     MonthNotInYear,
     /// The month and its place in the year differ.
-    #[error("Inconsistent month")]
     InconsistentMonth,
     /// The place isn't from 1 to the year's count of months.
-    #[error("Invalid ordinal month for year, max is {max}")]
     InvalidOrdinalMonth {
         /// The year's count of months.
         max: u8,
     },
     /// The day isn't from 1 to the month's length.
-    #[error("Invalid day for month, max is {max}")]
     InvalidDay {
         /// The month's length.
         max: u8,
     },
+}
+
+impl DateFromFieldsError {
+    /// The text, and the greatest number that is allowed where the text ends in it.
+    fn message(self) -> (&'static str, Option<u8>) {
+        match self {
+            DateFromFieldsError::NotEnoughFields => ("Not enough fields", None),
+            DateFromFieldsError::TooManyFields => ("Too many fields", None),
+            DateFromFieldsError::Overflow => ("Result out of range", None),
+            DateFromFieldsError::InvalidEra => ("Unknown era or invalid syntax", None),
+            DateFromFieldsError::InconsistentYear => ("Inconsistent year", None),
+            DateFromFieldsError::MonthCodeInvalidSyntax => ("Invalid month code syntax", None),
+            DateFromFieldsError::MonthNotInCalendar => (
+                "The specified month does not exist in this calendar",
+                None,
+            ),
+            DateFromFieldsError::MonthNotInYear => (
+                "The specified month exists in this calendar, but not for this year",
+                None,
+            ),
+            DateFromFieldsError::InconsistentMonth => ("Inconsistent month", None),
+            DateFromFieldsError::InvalidOrdinalMonth { max } => (
+                "Invalid ordinal month for year",
+                Some(max),
+            ),
+            DateFromFieldsError::InvalidDay { max } => ("Invalid day for month", Some(max)),
+        }
+    }
+}
+
+impl fmt::Display for DateFromFieldsError {
+    fn fmt<W: fmt::Write>(&self, f: &mut fmt::Formatter<W>) -> fmt::Result {
+        let (text, max) = self.message();
+        write_message(text, max, f)
+    }
 }
 
 /// A duration can't be added to a date.
 #[derive(Clone, Copy, Debug, PartialEq, Error)]
 pub enum DateAddError {
     /// The duration or the sum is beyond what the calendars hold.
-    #[error("Result out of range")]
     Overflow,
     /// The year that the sum falls into doesn't have the month.
-    #[error("The specified month exists in this calendar, but not for this year")]
     MonthNotInYear,
     /// The month that the sum falls into doesn't have the day.
-    #[error("Invalid day for month, max is {max}")]
     InvalidDay {
         /// The month's length.
         max: u8,
     },
+}
+
+impl DateAddError {
+    /// The text, and the greatest number that is allowed where the text ends in it.
+    fn message(self) -> (&'static str, Option<u8>) {
+        match self {
+            DateAddError::Overflow => ("Result out of range", None),
+            DateAddError::MonthNotInYear => (
+                "The specified month exists in this calendar, but not for this year",
+                None,
+            ),
+            DateAddError::InvalidDay { max } => ("Invalid day for month", Some(max)),
+        }
+    }
+}
+
+impl fmt::Display for DateAddError {
+    fn fmt<W: fmt::Write>(&self, f: &mut fmt::Formatter<W>) -> fmt::Result {
+        let (text, max) = self.message();
+        write_message(text, max, f)
+    }
 }
 
 /// A date can't be made of a year, a month and a day.
 #[derive(Clone, Copy, Debug, PartialEq, Error)]
 pub enum DateNewError {
     /// The given year isn't from -9999 to 9999.
-    #[error("Invalid year, must be within -9999..=9999")]
     InvalidYear,
     /// The calendar doesn't have the era.
-    #[error("Unknown era or invalid syntax")]
     InvalidEra,
     /// No year of the calendar has the month.
-    #[error("The specified month does not exist in this calendar")]
     MonthNotInCalendar,
     /// This year doesn't have the month.
-    #[error("The specified month exists in this calendar, but not for this year")]
     MonthNotInYear,
     /// The day isn't from 1 to the month's length.
-    #[error("Invalid day for month, max is {max}")]
     InvalidDay {
         /// The month's length.
         max: u8,
     },
 }
 
+impl DateNewError {
+    /// The text, and the greatest number that is allowed where the text ends in it.
+    fn message(self) -> (&'static str, Option<u8>) {
+        match self {
+            DateNewError::InvalidYear => ("Invalid year, must be within -9999..=9999", None),
+            DateNewError::InvalidEra => ("Unknown era or invalid syntax", None),
+            DateNewError::MonthNotInCalendar => (
+                "The specified month does not exist in this calendar",
+                None,
+            ),
+            DateNewError::MonthNotInYear => (
+                "The specified month exists in this calendar, but not for this year",
+                None,
+            ),
+            DateNewError::InvalidDay { max } => ("Invalid day for month", Some(max)),
+        }
+    }
+}
+
+impl fmt::Display for DateNewError {
+    fn fmt<W: fmt::Write>(&self, f: &mut fmt::Formatter<W>) -> fmt::Result {
+        let (text, max) = self.message();
+        write_message(text, max, f)
+    }
+}
+
 /// A date of a lunisolar calendar can't be made of an extended year, a month and a day.
 #[derive(Clone, Copy, Debug, PartialEq, Error)]
 pub enum LunisolarDateError {
     /// The year isn't from -9999 to 9999.
-    #[error("Invalid year")]
     InvalidYear,
     /// No year of the calendar has the month.
-    #[error("The specified month does not exist in this calendar")]
     MonthNotInCalendar,
     /// This year doesn't have the month.
-    #[error("The specified month exists in this calendar, but not for this year")]
     MonthNotInYear,
     /// The day isn't from 1 to the month's length.
-    #[error("Invalid day for month, max is {max}")]
     InvalidDay {
         /// The month's length.
         max: u8,
     },
+}
+
+impl LunisolarDateError {
+    /// The text, and the greatest number that is allowed where the text ends in it.
+    fn message(self) -> (&'static str, Option<u8>) {
+        match self {
+            LunisolarDateError::InvalidYear => ("Invalid year", None),
+            LunisolarDateError::MonthNotInCalendar => (
+                "The specified month does not exist in this calendar",
+                None,
+            ),
+            LunisolarDateError::MonthNotInYear => (
+                "The specified month exists in this calendar, but not for this year",
+                None,
+            ),
+            LunisolarDateError::InvalidDay { max } => ("Invalid day for month", Some(max)),
+        }
+    }
+}
+
+impl fmt::Display for LunisolarDateError {
+    fn fmt<W: fmt::Write>(&self, f: &mut fmt::Formatter<W>) -> fmt::Result {
+        let (text, max) = self.message();
+        write_message(text, max, f)
+    }
 }
 
 /// Two dates of calendars that can't be compared met.
@@ -219,20 +304,34 @@ pub struct TableFault {
 #[derive(Clone, Copy, Debug, PartialEq, Eq, Error)]
 pub enum TablePart {
     /// The row's year is in range and follows the row before.
-    #[error("year")]
     Year,
     /// The row starts where the year before it ends.
-    #[error("join")]
     Join,
     /// The last row ends where the computed year after it starts.
-    #[error("end")]
     End,
     /// Of each three years in a row one has a leap month.
-    #[error("leap")]
     Leap,
     /// The row's year is one that the rule without the table makes a leap year.
-    #[error("rule")]
     Rule,
+}
+
+impl TablePart {
+    /// The word for it in a fault's text.
+    fn word(self) -> &'static str {
+        match self {
+            TablePart::Year => "year",
+            TablePart::Join => "join",
+            TablePart::End => "end",
+            TablePart::Leap => "leap",
+            TablePart::Rule => "rule",
+        }
+    }
+}
+
+impl fmt::Display for TablePart {
+    fn fmt<W: fmt::Write>(&self, f: &mut fmt::Formatter<W>) -> fmt::Result {
+        f.write_str(self.word())
+    }
 }
 
 /// Rows don't lengthen a table.
@@ -342,5 +441,31 @@ impl From<EcmaReferenceYearError> for DateFromFieldsError {
             EcmaReferenceYearError::MonthNotInCalendar => DateFromFieldsError::MonthNotInCalendar,
             EcmaReferenceYearError::UseRegularIfConstrain => DateFromFieldsError::MonthNotInYear,
         }
+    }
+}
+
+/// Writes which argument is out of which range.
+fn write_range<W: fmt::Write>(
+    field: &str,
+    value: &i32,
+    min: &i32,
+    max: &i32,
+    f: &mut fmt::Formatter<W>,
+) -> fmt::Result {
+    write!(
+        f,
+        "The {field} = {value} argument is out of range {min}..={max}"
+    )
+}
+
+/// Writes a text, and behind it the greatest number that is allowed where there is one.
+fn write_message<W: fmt::Write>(
+    text: &str,
+    max: Option<u8>,
+    f: &mut fmt::Formatter<W>,
+) -> fmt::Result {
+    match max {
+        None => f.write_str(text),
+        Some(max) => write!(f, "{text}, max is {max}"),
     }
 }

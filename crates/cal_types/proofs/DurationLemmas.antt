@@ -5,6 +5,7 @@ use Rattle.std.specs.Result.{OkIff, result_ok}
 use Rattle.std.specs.Str.{IsUtf8}
 use Rattle.std.specs.Str.Parse.{ParsesUnsigned, digits_value}
 use Rattle.std.specs.Char.{is_ascii_digit}
+use Rattle.std.proofs.lemmas.Bool.{and_parts}
 use Rattle.std.proofs.lemmas.Bool.Decides.{nat_tests}
 use Rattle.std.proofs.lemmas.Grind.{common_steps}
 use Rattle.std.proofs.lemmas.Fmt.{IsAscii-from_digits}
@@ -15,7 +16,7 @@ use Rattle.std.proofs.lemmas.List.{take-append-drop, drop_all}
 use Rattle.std.proofs.Math.Seq.{drop-cons, take-length}
 use Rattle.std.proofs.lemmas.Str.{IsUtf8-from_ascii}
 use Rattle.std.proofs.lemmas.Str.Parse.{IsNumeralModel, numerals_by_value, parse_digits, tells_all_ascii_digits}
-use borrow.Author.Tests.{ltb-false}
+use borrow.Author.Tests.{le-ltb, ltb-false}
 use Rattle.cal_types.specs.DurationText.{DurationPart, parts_of, unit_letter, unit_at, is_end, number_of, amounts_of, amount, amount_fault, amount_put, digits_fault, first_fault, unless_fault}
 use Rattle.cal_types.specs.declared.duration.DateDurationUnit.{DateDurationUnit}
 use Rattle.cal_types.specs.declared.duration.DateDurationUnit.TheVariants.{Years, Months, Weeks, Days}
@@ -33,18 +34,15 @@ pub parts_of-ended : (ds : List ℕ) (end : ℕ) (text : List ℕ) → AreDigits
     parts_of (ds ++ end ∷ text) ≡ part ds (Some end) ∷ parts_of text
 parts_of-ended [] end text digits other = rw other refl
 parts_of-ended (d ∷ ds) end text digits other =
-    let first : is_ascii_digit d ≡ true = grind (arith, common_steps) in
-    let others : AreDigits ds = grind (arith, common_steps) in
-    rw (first, parts_of-ended ds end text others other) refl
+    let each = and_parts (is_ascii_digit d) (list_all is_ascii_digit ds) digits in
+    rw (each.0, parts_of-ended ds end text each.1 other) refl
 
 -- digits alone are a part
 pub parts_of-digits : (d : ℕ) (ds : List ℕ) → AreDigits (d ∷ ds) → parts_of (d ∷ ds) ≡ part (d ∷ ds) None ∷ []
-parts_of-digits d [] digits =
-    let first : is_ascii_digit d ≡ true = grind (arith, common_steps) in rw first refl
+parts_of-digits d [] digits = rw (and_parts (is_ascii_digit d) true digits).0 refl
 parts_of-digits d (e ∷ ds) digits =
-    let first : is_ascii_digit d ≡ true = grind (arith, common_steps) in
-    let others : AreDigits (e ∷ ds) = grind (arith, common_steps) in
-    rw (first, parts_of-digits e ds others) refl
+    let each = and_parts (is_ascii_digit d) (list_all is_ascii_digit (e ∷ ds)) digits in
+    rw (each.0, parts_of-digits e ds each.1) refl
 
 mapped : {A B : Type 0} (f : A → B) (test : A → Bool) (found : Option A) (x : A) →
     option_map f (option_or found (find test (x ∷ [])))
@@ -258,6 +256,12 @@ digits_model = numerals_by_value AreDigits tells_all_ascii_digits
 pub IsUtf8-digits : (ds : List ℕ) → AreDigits ds → IsUtf8 ds
 IsUtf8-digits ds digits = IsUtf8-from_ascii ds (IsAscii-from_digits ds (digits_model.to ds digits))
 
+above : (b : Bool) (n : ℕ) → nat_lt 18446744073709551615 n ≡ b → ¬ (n < 2 ^ 64) →
+    nat_lt 18446744073709551615 n ≡ true
+above true n e large = e
+above false n e large =
+    let most = ltb-false 18446744073709551615 n e in absurd (large (omega (arith, most)))
+
 -- the number that digits write, where it is read as one of 64 bits
 pub number-read : {E : Type 0} (ds text : List ℕ) (r : Result ℕ E) → text ≡ ds → ParsesUnsigned 64 10 text r →
     AreDigits ds → 0 < length ds →
@@ -267,5 +271,9 @@ number-read {E = E} ds text r same read digits some =
   where
     by_result : (r : Result ℕ E) → OkIff r ((0 < length ds) × (digits_value 10 ds < 2 ^ 64)) (digits_value 10 ds) →
         result_ok r ≡ (if nat_lt 18446744073709551615 (digits_value 10 ds) then None else Some (digits_value 10 ds))
-    by_result (Ok n) h = grind (arith, nat_tests, common_steps)
-    by_result (Err e) h = grind (arith, nat_tests, common_steps)
+    by_result (Ok n) h =
+        let within = le-ltb 18446744073709551615 (digits_value 10 ds) (omega (arith, h)) in rw within (ap Some h.1)
+    by_result (Err e) h =
+        let over = above (nat_lt 18446744073709551615 (digits_value 10 ds)) (digits_value 10 ds) refl
+        (λ small. h (some, small)) in
+        rw over refl

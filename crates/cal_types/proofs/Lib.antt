@@ -1,4 +1,3 @@
 pub mod DurationLemmas
-pub mod MonthLemmas
 pub mod TextLemmas
 pub mod WeekdayLemmas

@@ -81,10 +81,14 @@ abbrev pub unit_at : Option ℕ → Option DateDurationUnit
 unit_at None = None
 unit_at (Some byte) = unit_lettered byte
 
--- the first thing that is wrong with digits and their end behind earlier ones: without digits a time begins (`T`) or
--- a number is missing, and a number may be above the greatest u64, whatever ends it
+-- what is wrong with a part without digits, by the byte that ends it: a time begins (`T`), or a number is missing
+abbrev pub digits_missed : Option ℕ → DateDurationParseError
+digits_missed end = if is_end 84 end then TimeNotSupported else MissingValue
+
+-- the first thing that is wrong with digits and their end behind earlier ones: there are none, or their number is
+-- above the greatest u64, whatever ends it
 abbrev pub digits_fault : Amounts → List ℕ → Option ℕ → Option DateDurationParseError
-digits_fault earlier [] end = Some (if is_end 84 end then TimeNotSupported else MissingValue)
+digits_fault earlier [] end = Some (digits_missed end)
 digits_fault earlier (digit ∷ digits) end =
     if nat_lt 18446744073709551615 (digits_value 10 (digit ∷ digits)) then Some NumberOverflow
     else amount_fault earlier (digits_value 10 (digit ∷ digits)) (unit_at end)

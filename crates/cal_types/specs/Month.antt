@@ -35,6 +35,15 @@ leap_read _ = None
 abbrev pub month_of_digits : ℕ → ℕ → Bool → MonthParts
 month_of_digits tens units leap = record { number = 10 * (tens - 48) + (units - 48); is_leap = leap }
 
+-- the same where both are digits
+abbrev pub month_numbered : ℕ → ℕ → Bool → Option MonthParts
+month_numbered tens units leap =
+    if is_ascii_digit tens && is_ascii_digit units then Some (month_of_digits tens units leap) else None
+
+-- the month code with two digits
+abbrev pub code_numbered : ℕ → ℕ → Bool → List ℕ
+code_numbered tens units leap = 77 ∷ tens ∷ units ∷ (if leap then 76 ∷ [] else [])
+
 -- the month that a month code names: `M`, two digits, and nothing more or `L`
 abbrev pub month_read : List ℕ → Option MonthParts
 month_read (letter ∷ tens ∷ units ∷ rest) =

@@ -4,7 +4,7 @@ ghost use Rattle.std.specs.Prelude.{◌≡◌, ◌<◌, ◌∷◌, length, true,
 ghost use Rattle.std.specs.Char.{is_ascii_digit};
 ghost use Rattle.std.specs.List.{list_all, position};
 ghost use Rattle.std.specs.Str.Parse.{digits_value};
-ghost use Rattle.cal_types.specs.DurationText.{amount, amounts_of, duration_with, first_fault, parts_of, parts_read, read_behind_sign, unit_at, unless_fault};
+ghost use Rattle.cal_types.specs.DurationText.{amount, amounts_of, digits_missed, duration_with, first_fault, parts_of, parts_read, read_behind_sign, unit_at, unless_fault};
 
 use crate::duration::{DateDuration, DateDurationUnit};
 use cal_errors::DateDurationParseError;
@@ -45,10 +45,7 @@ impl Amounts {
             (amount_put self (digits_value 10 digits.now) (unit_at end)) }
     {
         if digits.is_empty() {
-            return Err(match end {
-                Some(b'T') => DateDurationParseError::TimeNotSupported,
-                _ => DateDurationParseError::MissingValue,
-            });
+            return Err(missing_digits(end));
         }
         match number(digits) {
             None => Err(DateDurationParseError::NumberOverflow),
@@ -160,6 +157,16 @@ fn first_part(text: &[u8]) -> (&[u8], Option<u8>, &[u8])
     match first_end(text) {
         Some(i) => (&text[..i], Some(text[i]), &text[i + 1..]),
         None => (text, None, &text[text.len()..]),
+    }
+}
+
+/// What is wrong with a part that begins with no digit, by the byte that ends it.
+fn missing_digits(end: Option<u8>) -> DateDurationParseError
+    ensures { result ≡ digits_missed end }
+{
+    match end {
+        Some(b'T') => DateDurationParseError::TimeNotSupported,
+        _ => DateDurationParseError::MissingValue,
     }
 }
 

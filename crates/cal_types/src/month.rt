@@ -1,7 +1,7 @@
 //! A month as its number and whether it is a leap month, as the month codes of ECMAScript Temporal have it.
 
 ghost use Rattle.std.specs.Prelude.{◌≡◌, ◌≤◌, min, Some, IfOk, ok_or};
-ghost use Rattle.cal_types.specs.Month.{plain_month, leap_month, code_text, month_read};
+ghost use Rattle.cal_types.specs.Month.{plain_month, leap_month, code_numbered, code_text, month_numbered, month_read};
 
 use crate::month_code::MonthCode;
 use crate::tiny::TinyAsciiStr;
@@ -57,11 +57,19 @@ impl Month {
         ensures value { parts_read result ≡ ok_or (month_read bytes.now) MonthCodeParseError.InvalidSyntax }
         ensures code { IfOk result (λ m. code_text (month_parts m) ≡ bytes.now) }
     {
-        let (tens, units, is_leap) = match bytes {
-            [b'M', tens, units] => (*tens, *units, false),
-            [b'M', tens, units, b'L'] => (*tens, *units, true),
-            _ => return Err(MonthCodeParseError::InvalidSyntax),
-        };
+        match bytes {
+            [b'M', tens, units] => Month::of_digits(*tens, *units, false),
+            [b'M', tens, units, b'L'] => Month::of_digits(*tens, *units, true),
+            _ => Err(MonthCodeParseError::InvalidSyntax),
+        }
+    }
+
+    /// The month that two digits number; [`MonthCodeParseError::InvalidSyntax`] where one of them is none.
+    fn of_digits(tens: u8, units: u8, is_leap: bool) -> Result<Month, MonthCodeParseError>
+        ensures value { parts_read result
+            ≡ ok_or (month_numbered tens units is_leap) MonthCodeParseError.InvalidSyntax }
+        ensures code { IfOk result (λ m. code_text (month_parts m) ≡ code_numbered tens units is_leap) }
+    {
         if !tens.is_ascii_digit() || !units.is_ascii_digit() {
             return Err(MonthCodeParseError::InvalidSyntax);
         }

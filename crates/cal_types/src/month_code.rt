@@ -29,8 +29,10 @@ impl MonthCode {
     pub fn parsed(self) -> Option<(u8, bool)>
         ensures { result ≡ option_map (λ m. (m.number, m.is_leap)) (month_read self.0) }
     {
-        let month = Month::try_from_utf8(self.0.as_bytes()).ok()?;
-        Some((month.number(), month.is_leap()))
+        match Month::try_from_utf8(self.0.as_bytes()) {
+            Ok(month) => Some((month.number(), month.is_leap())),
+            Err(_) => None,
+        }
     }
 }
 

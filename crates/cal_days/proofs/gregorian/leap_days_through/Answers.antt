@@ -23,3 +23,12 @@ pub returns-clause-range : goal.returns-clause-range
 returns-clause-range c =
     let fits : FitsSigned w32 c.args.year = search rules in
     (omega (arith, signed, sum c, leap_days_through-bounds c.args.year), omega (arith, signed, sum c, leap_days_through-bounds c.args.year))
+
+pub overflow_add-result : goal.overflow_add-result
+overflow_add-result c =
+    let fits : FitsSigned w32 c.args.year = search rules in
+    let same : to_z w32 (of_z w32 c.args.year) ≡ c.args.year = omega (arith, signed) in
+    let fourths : c.div_euclid.result ≡ floor_div c.args.year 4 = rw same at c.div_euclid.ensures ∙ floor_div-is c.args.year 4 in
+    let centuries : c.div_euclid-2.result ≡ floor_div c.args.year 100 = rw same at c.div_euclid-2.ensures ∙ floor_div-is c.args.year 100 in
+    let cycles : c.div_euclid-3.result ≡ floor_div c.args.year 400 = rw same at c.div_euclid-3.ensures ∙ floor_div-is c.args.year 400 in
+    omega (arith, signed, fits, fourths, centuries, cycles, floor_parts c.args.year 4, floor_parts c.args.year 100, floor_parts c.args.year 400)

@@ -36,3 +36,8 @@ returns-clause-value c =
     let rest : c.rem_euclid.result ≡ pos (floor_mod number 30) = rw same at c.rem_euclid.ensures.value ∙ floor_mod-is number 30 (omega arith) in
     let back : to_z w64 (of_z w64 c.rem_euclid.result) ≡ pos (floor_mod number 30) = omega (arith, signed, rest, floor_parts number 30) in
     ap nat_abs back
+
+pub overflow_sub-from : goal.overflow_sub-from
+overflow_sub-from c =
+    let a = dropped c.args.century c.div_euclid-dropped.result c.requires.century c.div_euclid-dropped.ensures in
+    omega (arith, signed, a, c.from.ensures, c.requires.year, c.requires.century, floor_parts (pos 3 *ℤ c.args.century) 4)

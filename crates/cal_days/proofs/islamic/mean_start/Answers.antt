@@ -13,3 +13,8 @@ returns-clause-formula c =
 
 pub returns-clause-joins : goal.returns-clause-joins
 returns-clause-joins c = mean_start-next c.args.year
+
+pub new-requires : goal.new-requires
+new-requires c =
+    let scaled : to_z w64 (of_z w64 (to_z w64 (of_z w64 (to_z w64 (of_z w64 c.from.result) -ℤ pos 1)) *ℤ pos 10631)) ≡ (c.args.year -ℤ pos 1) *ℤ pos 10631 = omega (arith, signed, c.requires) in
+    (omega (arith, signed, scaled, c.requires), omega (arith, signed, scaled, c.requires))

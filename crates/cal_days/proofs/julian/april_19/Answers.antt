@@ -1,7 +1,7 @@
-use Rattle.std.proofs.Common.{◌≡◌, ◌∙◌, to_z, of_z, w32, arith}
+use Rattle.std.proofs.Common.{◌≡◌, ◌∙◌, FitsSigned, to_z, of_z, w32, rules, arith}
 use Rattle.cal_days.specs.Division.{floor_div}
 use Rattle.cal_days.proofs.Signed.{signed}
-use Rattle.cal_days.proofs.DivisionLemmas.{floor_div-is}
+use Rattle.cal_days.proofs.DivisionLemmas.{floor_div-is, floor_parts}
 use Rattle.cal_days.proofs.JulianLemmas.{julian_first_of_march-formula}
 use Rattle.cal_days.proofs.julian.april_19.Goals as goal
 
@@ -10,3 +10,11 @@ returns-clause-value c =
     let same : to_z w32 (of_z w32 c.args.year) ≡ c.args.year = omega (arith, signed) in
     let fourths : c.div_euclid.result ≡ floor_div c.args.year 4 = rw same at c.div_euclid.ensures ∙ floor_div-is c.args.year 4 in
     omega (arith, signed, fourths, c.from.ensures, c.from-2.ensures, julian_first_of_march-formula c.args.year)
+
+pub returns-clause-range : goal.returns-clause-range
+returns-clause-range c =
+    let fits : FitsSigned w32 c.args.year = search rules in
+    let same : to_z w32 (of_z w32 c.args.year) ≡ c.args.year = omega (arith, signed) in
+    let fourths : c.div_euclid.result ≡ floor_div c.args.year 4 = rw same at c.div_euclid.ensures ∙ floor_div-is c.args.year 4 in
+    let parts = floor_parts c.args.year 4 (omega arith) in
+    (omega (arith, signed, fits, fourths, parts, c.from.ensures, c.from-2.ensures), omega (arith, signed, fits, fourths, parts, c.from.ensures, c.from-2.ensures))

@@ -28,3 +28,6 @@ returns-clause-formula c =
 
 pub returns-clause-joins : goal.returns-clause-joins
 returns-clause-joins c = julian_start-next c.args.year
+
+pub overflow_add-before : goal.overflow_add-before
+overflow_add-before c = omega (arith, signed, fourth c, floor_parts (c.args.year -ℤ pos 1) 4)
