@@ -111,120 +111,60 @@ impl fmt::Display for DateFromFieldsError {
 #[derive(Clone, Copy, Debug, PartialEq, Error)]
 pub enum DateAddError {
     /// The duration or the sum is beyond what the calendars hold.
+    #[error("Result out of range")]
     Overflow,
     /// The year that the sum falls into doesn't have the month.
+    #[error("The specified month exists in this calendar, but not for this year")]
     MonthNotInYear,
     /// The month that the sum falls into doesn't have the day.
+    #[error("Invalid day for month, max is {max}")]
     InvalidDay {
         /// The month's length.
         max: u8,
     },
-}
-
-impl DateAddError {
-    /// The text, and the greatest number that is allowed where the text ends in it.
-    fn message(self) -> (&'static str, Option<u8>) {
-        match self {
-            DateAddError::Overflow => ("Result out of range", None),
-            DateAddError::MonthNotInYear => (
-                "The specified month exists in this calendar, but not for this year",
-                None,
-            ),
-            DateAddError::InvalidDay { max } => ("Invalid day for month", Some(max)),
-        }
-    }
-}
-
-impl fmt::Display for DateAddError {
-    fn fmt<W: fmt::Write>(&self, f: &mut fmt::Formatter<W>) -> fmt::Result {
-        let (text, max) = self.message();
-        write_message(text, max, f)
-    }
 }
 
 /// A date can't be made of a year, a month and a day.
 #[derive(Clone, Copy, Debug, PartialEq, Error)]
 pub enum DateNewError {
     /// The given year isn't from -9999 to 9999.
+    #[error("Invalid year, must be within -9999..=9999")]
     InvalidYear,
     /// The calendar doesn't have the era.
+    #[error("Unknown era or invalid syntax")]
     InvalidEra,
     /// No year of the calendar has the month.
+    #[error("The specified month does not exist in this calendar")]
     MonthNotInCalendar,
     /// This year doesn't have the month.
+    #[error("The specified month exists in this calendar, but not for this year")]
     MonthNotInYear,
     /// The day isn't from 1 to the month's length.
+    #[error("Invalid day for month, max is {max}")]
     InvalidDay {
         /// The month's length.
         max: u8,
     },
-}
-
-impl DateNewError {
-    /// The text, and the greatest number that is allowed where the text ends in it.
-    fn message(self) -> (&'static str, Option<u8>) {
-        match self {
-            DateNewError::InvalidYear => ("Invalid year, must be within -9999..=9999", None),
-            DateNewError::InvalidEra => ("Unknown era or invalid syntax", None),
-            DateNewError::MonthNotInCalendar => (
-                "The specified month does not exist in this calendar",
-                None,
-            ),
-            DateNewError::MonthNotInYear => (
-                "The specified month exists in this calendar, but not for this year",
-                None,
-            ),
-            DateNewError::InvalidDay { max } => ("Invalid day for month", Some(max)),
-        }
-    }
-}
-
-impl fmt::Display for DateNewError {
-    fn fmt<W: fmt::Write>(&self, f: &mut fmt::Formatter<W>) -> fmt::Result {
-        let (text, max) = self.message();
-        write_message(text, max, f)
-    }
 }
 
 /// A date of a lunisolar calendar can't be made of an extended year, a month and a day.
 #[derive(Clone, Copy, Debug, PartialEq, Error)]
 pub enum LunisolarDateError {
     /// The year isn't from -9999 to 9999.
+    #[error("Invalid year")]
     InvalidYear,
     /// No year of the calendar has the month.
+    #[error("The specified month does not exist in this calendar")]
     MonthNotInCalendar,
     /// This year doesn't have the month.
+    #[error("The specified month exists in this calendar, but not for this year")]
     MonthNotInYear,
     /// The day isn't from 1 to the month's length.
+    #[error("Invalid day for month, max is {max}")]
     InvalidDay {
         /// The month's length.
         max: u8,
     },
-}
-
-impl LunisolarDateError {
-    /// The text, and the greatest number that is allowed where the text ends in it.
-    fn message(self) -> (&'static str, Option<u8>) {
-        match self {
-            LunisolarDateError::InvalidYear => ("Invalid year", None),
-            LunisolarDateError::MonthNotInCalendar => (
-                "The specified month does not exist in this calendar",
-                None,
-            ),
-            LunisolarDateError::MonthNotInYear => (
-                "The specified month exists in this calendar, but not for this year",
-                None,
-            ),
-            LunisolarDateError::InvalidDay { max } => ("Invalid day for month", Some(max)),
-        }
-    }
-}
-
-impl fmt::Display for LunisolarDateError {
-    fn fmt<W: fmt::Write>(&self, f: &mut fmt::Formatter<W>) -> fmt::Result {
-        let (text, max) = self.message();
-        write_message(text, max, f)
-    }
 }
 
 /// Two dates of calendars that can't be compared met.
@@ -304,34 +244,20 @@ pub struct TableFault {
 #[derive(Clone, Copy, Debug, PartialEq, Eq, Error)]
 pub enum TablePart {
     /// The row's year is in range and follows the row before.
+    #[error("year")]
     Year,
     /// The row starts where the year before it ends.
+    #[error("join")]
     Join,
     /// The last row ends where the computed year after it starts.
+    #[error("end")]
     End,
     /// Of each three years in a row one has a leap month.
+    #[error("leap")]
     Leap,
     /// The row's year is one that the rule without the table makes a leap year.
+    #[error("rule")]
     Rule,
-}
-
-impl TablePart {
-    /// The word for it in a fault's text.
-    fn word(self) -> &'static str {
-        match self {
-            TablePart::Year => "year",
-            TablePart::Join => "join",
-            TablePart::End => "end",
-            TablePart::Leap => "leap",
-            TablePart::Rule => "rule",
-        }
-    }
-}
-
-impl fmt::Display for TablePart {
-    fn fmt<W: fmt::Write>(&self, f: &mut fmt::Formatter<W>) -> fmt::Result {
-        f.write_str(self.word())
-    }
 }
 
 /// Rows don't lengthen a table.
