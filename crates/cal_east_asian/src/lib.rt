@@ -1,7 +1,6 @@
 //! The Chinese and Korean calendars, and others of their kind under any lawful rules.
 #![tactic(auto)]
 
-mod china;
 mod chosen_years;
 mod computed_years;
 mod east_asian_months;
@@ -9,7 +8,6 @@ mod east_asian_row;
 mod east_asian_table;
 mod east_asian_traditional;
 mod east_asian_traditional_year;
-mod korea;
 mod leap_rows;
 mod mean_moons;
 mod mean_years;
@@ -21,14 +19,15 @@ mod same_rows;
 mod sides;
 mod table_check;
 mod table_months;
+mod table_rules;
+mod table_sides;
 
-pub use china::{China, ChineseTraditional};
 pub use east_asian_row::EastAsianRow;
 pub use east_asian_table::EastAsianTable;
 pub use east_asian_traditional::{ChineseDateInner, EastAsianTraditional};
 pub use east_asian_traditional_year::EastAsianTraditionalYear;
-pub use korea::{Korea, KoreanTraditional};
 pub use mean_years::mean_year;
 pub use qing_years::qing_year;
 pub use rules::Rules;
 pub use sides::Side;
+pub use table_rules::{China, ChineseTraditional, Korea, KoreanTraditional};
