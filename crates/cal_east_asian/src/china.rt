@@ -35,6 +35,12 @@ impl<'t> China<'t> {
     ///
     /// [`EastAsianTable::try_new`] makes a table of rows that are handed in, and [`EastAsianTable::none`] one without
     /// rows, so that all years are computed; the crate `published_years` has the published ones (`china_table`).
+    ///
+    /// ```
+    /// let computed = EastAsianTraditional(China::new(EastAsianTable::none(Side::China)));
+    /// let date = Date::from_rata_die(RataDie::new(738946), computed);
+    /// assert!(rt; date.year().extended_year() == 2024);
+    /// ```
     pub fn new(table: EastAsianTable<'t>) -> China<'t>
         requires { table.side ≡ side.China }
         ensures { result.table ≡ table.entry }
