@@ -51,6 +51,16 @@ impl<C: Calendar> Anniversaries<C> {
 
     /// What is left of the window: the days after the anniversary that was given last, or the whole window where none
     /// was given. `None` where that one is the window's last day, and once `next` has answered `None`.
+    ///
+    /// ```
+    /// let window = Window::try_new(RataDie::new(738521), RataDie::new(739616))?;
+    /// let hebrew = AnyCalendar::Hebrew(Hebrew);
+    /// let mut days = anniversaries(hebrew, Month::leap(5), 10, Leaping::Constrain, window).ok()?;
+    /// assert!(rt; days.next()?.to_i64_date() == 738582); // 2023-03-03
+    /// assert!(rt; days.next()?.to_i64_date() == 738935); // 2024-02-19
+    /// assert!(rt; days.next()?.to_i64_date() == 739320); // 2025-03-10
+    /// assert!(rt; days.rest()?.first().to_i64_date() == 739321);
+    /// ```
     pub fn rest(&self) -> Option<Window>
         ensures { result ≡ self.now.rest }
     {

@@ -28,6 +28,15 @@ use cal_types::{DateNewError, Leaping, Month, Window, YearInput};
 ///
 /// In this order: [`AnniversaryError::MonthNotInCalendar`] where no year of the calendar has the month, and
 /// [`AnniversaryError::InvalidDay`] where the day isn't from 1 to 31.
+///
+/// ```
+/// let window = Window::try_new(RataDie::new(738521), RataDie::new(739616))?;
+/// let hebrew = AnyCalendar::Hebrew(Hebrew);
+/// let mut days = anniversaries(hebrew, Month::leap(5), 10, Leaping::Constrain, window).ok()?;
+/// assert!(rt; days.next()?.to_i64_date() == 738582); // 2023-03-03
+/// assert!(rt; days.next()?.to_i64_date() == 738935); // 2024-02-19
+/// assert!(rt; days.next()?.to_i64_date() == 739320); // 2025-03-10
+/// ```
 pub fn anniversaries<C: Calendar>(
     calendar: C,
     month: Month,

@@ -25,6 +25,12 @@ pub struct Iso;
 
 impl Iso {
     /// The ISO calendar.
+    ///
+    /// ```
+    /// let inner = Iso::new().from_rata_die(RataDie::new(738946));
+    /// let date = Date::from_raw(inner, Iso::new());
+    /// assert!(rt; date.to_rata_die().to_i64_date() == 738946); // 2024-03-01
+    /// ```
     pub fn new() -> Iso {
         Iso
     }

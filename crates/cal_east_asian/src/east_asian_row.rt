@@ -76,6 +76,16 @@ fn nearest_rule_year(year: i32) -> i32
 
 impl EastAsianRow {
     /// The year that the row is read as. A row with each field within its range is read as it stands.
+    ///
+    /// ```
+    /// static YEAR_2023: EastAsianRow = EastAsianRow {
+    ///     related_iso: 2023,
+    ///     long_months: 0x15b2,
+    ///     leap_month: 3,
+    ///     start_offset: 3,
+    /// };
+    /// assert!(rt; YEAR_2023.year().leap_month() == Some(3));
+    /// ```
     pub fn year(self) -> EastAsianTraditionalYear
         ensures { result ≡ row_year self }
     {
@@ -93,6 +103,10 @@ impl EastAsianRow {
 
 impl EastAsianTraditionalYear {
     /// The row that is read as this year.
+    ///
+    /// ```
+    /// assert!(rt; qing_year(1900)?.row().leap_month == 9);
+    /// ```
     pub fn row(self) -> EastAsianRow
         ensures { row_year result ≡ self }
     {

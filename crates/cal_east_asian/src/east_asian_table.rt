@@ -58,6 +58,10 @@ impl<'t> EastAsianTable<'t> {
 
     /// The table of rows that are known to be accepted for one side, as those of constant data can be by computation.
     /// Their leap months are counted; [`EastAsianTable::with_leap_rows`] looks at no row.
+    ///
+    /// ```text
+    /// let table = EastAsianTable::new(Side::China, &ROWS);
+    /// ```
     pub fn new(side: Side, rows: &'t [EastAsianRow]) -> EastAsianTable<'t>
         requires { IsAccepted (computed_year side) (years_of rows.now) }
         ensures side { result.side ≡ side }
@@ -72,6 +76,11 @@ impl<'t> EastAsianTable<'t> {
 
     /// The table of rows that are known to be accepted for one side, of which so many have a leap month. No row is
     /// looked at.
+    ///
+    /// ```text
+    /// static ROWS: [EastAsianRow; 188] = ..; // 1912 to 2099
+    /// let table = EastAsianTable::with_leap_rows(Side::China, &ROWS, 69);
+    /// ```
     pub fn with_leap_rows(
         side: Side,
         rows: &'t [EastAsianRow],

@@ -93,6 +93,11 @@ impl EastAsianTraditionalYear {
     /// It has 12 months, of which the first 13 starts are read, or with the place of a leap month 13, of which all 14
     /// are. None exactly where the number isn't from -8000000 to 8000000, a month hasn't 29 or 30 days, the place of
     /// the leap month isn't from 2 to 13, or the first day isn't 0 to 34 days after January 19 of the number.
+    ///
+    /// ```
+    /// let starts = [RataDie::new(738926); 14]; // no month has a day
+    /// assert!(rt; EastAsianTraditionalYear::try_new(2024, starts, None).is_none());
+    /// ```
     pub fn try_new(
         related_iso: i32,
         month_starts: [RataDie; 14],
@@ -169,6 +174,12 @@ impl EastAsianTraditionalYear {
     }
 
     /// How many days the month in a place has: 29 or 30.
+    ///
+    /// ```
+    /// let year = qing_year(1900)?;
+    /// assert!(rt; year.months() == 13);
+    /// assert!(rt; year.month_len(13) == 30);
+    /// ```
     pub fn month_len(self, month: u8) -> u8
         requires { (1 ≤ month) × (month ≤ months_of_year self.leap_month) }
         ensures { result ≡ month_days self.long_months month }

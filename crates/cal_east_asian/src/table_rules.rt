@@ -55,6 +55,12 @@ impl<'t, S: TableSide> TableRules<'t, S> {
     /// [`EastAsianTable::try_new`] makes a table of rows that are handed in, and [`EastAsianTable::none`] one without
     /// rows, so that all years are computed; the crate `published_years` has the published ones (`china_table`,
     /// `korea_table`).
+    ///
+    /// ```
+    /// let computed = EastAsianTraditional(China::new(EastAsianTable::none(Side::China)));
+    /// let date = Date::from_rata_die(RataDie::new(738946), computed);
+    /// assert!(rt; date.year().extended_year() == 2024);
+    /// ```
     pub fn new(table: EastAsianTable<'t>) -> TableRules<'t, S>
         requires { table.side ≡ S.side }
         ensures { result.table ≡ table.entry }

@@ -75,6 +75,10 @@ impl JapaneseEras {
     }
 
     /// The listed eras in order, from both ends: the start, the code and the index of each.
+    ///
+    /// ```
+    /// assert!(rt; JapaneseEras::up_to_reiwa().eras().count() == 5);
+    /// ```
     pub fn eras(self) -> JapaneseErasIter
         ensures { eras_left result ≡ listed_eras self }
     {

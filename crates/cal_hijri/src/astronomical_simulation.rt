@@ -22,6 +22,12 @@ pub struct AstronomicalSimulation<'t> {
 
 impl<'t> AstronomicalSimulation<'t> {
     /// The rules with these years.
+    ///
+    /// ```
+    /// let computed = Hijri(AstronomicalSimulation::new(HijriTable::none()));
+    /// let date = Date::from_rata_die(RataDie::new(738946), computed);
+    /// assert!(rt; date.year().extended_year() == 1445);
+    /// ```
     pub fn new(table: HijriTable<'t>) -> AstronomicalSimulation<'t>
         ensures { result.table ≡ table.entry }
     {

@@ -58,6 +58,15 @@ fn start_after(year: i32, offset: u8) -> i64
 
 impl HijriRow {
     /// The year that the row is read as. A row with each field within its range is read as it stands.
+    ///
+    /// ```
+    /// let row = HijriRow {
+    ///     extended_year: 1445,
+    ///     long_months: 0x92e,
+    ///     start_offset: 5,
+    /// };
+    /// assert!(rt; row.year().month_len(1) == 29);
+    /// ```
     pub fn year(self) -> HijriYear
         ensures { result ≡ row_year self }
     {
@@ -74,6 +83,15 @@ impl HijriYear {
     /// The row that is read as this year.
     ///
     /// None exactly where the extended year isn't from -8000000 to 8000000; [`HijriYear::try_new`] makes no such year.
+    ///
+    /// ```
+    /// let row = HijriRow {
+    ///     extended_year: 1445,
+    ///     long_months: 0x92e,
+    ///     start_offset: 5,
+    /// };
+    /// assert!(rt; row.year().row()?.start_offset == 5);
+    /// ```
     pub fn row(self) -> Option<HijriRow>
         ensures some { IsSome result ↔ IsRuleYear self.extended_year }
         ensures row { IfSome result (λ row. row_year row ≡ self) }

@@ -47,6 +47,11 @@ impl<'t> HijriTable<'t> {
 
     /// The table of rows that are known to be accepted, as those of constant data can be by computation. No row is
     /// looked at.
+    ///
+    /// ```text
+    /// static ROWS: [HijriRow; 301] = ..; // 1300 to 1600
+    /// let table = HijriTable::new(&ROWS);
+    /// ```
     pub fn new(rows: &'t [HijriRow]) -> HijriTable<'t>
         requires { IsAccepted beside.friday_year (years_of rows.now) }
         ensures { result.rows.now ≡ rows.now }

@@ -35,6 +35,11 @@ impl HijriYear {
     ///
     /// None exactly where the extended year isn't from -8000000 to 8000000, a month hasn't 29 or 30 days, or the
     /// first day lies more than 5 days from the start of the mean year.
+    ///
+    /// ```
+    /// let starts = [RataDie::new(738720); 13]; // no month has a day
+    /// assert!(rt; HijriYear::try_new(1445, starts).is_none());
+    /// ```
     pub fn try_new(extended_year: i32, month_starts: [RataDie; 13]) -> Option<HijriYear>
         ensures some { IsSome result ↔ AreMonthStarts extended_year month_starts }
         ensures number { IfSome result (λ y. y.extended_year ≡ extended_year) }
@@ -55,6 +60,15 @@ impl HijriYear {
     }
 
     /// The extended year.
+    ///
+    /// ```
+    /// static YEAR_1445: HijriRow = HijriRow {
+    ///     extended_year: 1445,
+    ///     long_months: 0x92e,
+    ///     start_offset: 5,
+    /// };
+    /// assert!(rt; YEAR_1445.year().extended_year() == 1445);
+    /// ```
     pub fn extended_year(self) -> i32
         ensures { result ≡ self.extended_year }
     {
@@ -62,6 +76,15 @@ impl HijriYear {
     }
 
     /// The first day.
+    ///
+    /// ```
+    /// let row = HijriRow {
+    ///     extended_year: 1445,
+    ///     long_months: 0x92e,
+    ///     start_offset: 5,
+    /// };
+    /// assert!(rt; row.year().new_year().to_i64_date() == 738720); // 2023-07-19
+    /// ```
     pub fn new_year(self) -> RataDie
         ensures { result ≡ self.first_day }
     {

@@ -48,6 +48,15 @@ pub struct TabularAlgorithm {
 
 impl TabularAlgorithm {
     /// The rules with these leap years, from this day on.
+    ///
+    /// ```
+    /// let rules = TabularAlgorithm::new(
+    ///     TabularAlgorithmLeapYears::TypeII,
+    ///     TabularAlgorithmEpoch::Friday,
+    /// );
+    /// let date = Date::from_rata_die(RataDie::new(738750), Hijri(rules)); // 2023-08-18
+    /// assert!(rt; date.day_of_month().0 == 1);
+    /// ```
     pub const fn new(
         leap_years: TabularAlgorithmLeapYears,
         epoch: TabularAlgorithmEpoch,

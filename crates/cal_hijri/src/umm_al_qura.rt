@@ -26,6 +26,12 @@ pub struct UmmAlQura<'t> {
 
 impl<'t> UmmAlQura<'t> {
     /// The rules with these years.
+    ///
+    /// ```
+    /// let computed = Hijri(UmmAlQura::new(HijriTable::none()));
+    /// let date = Date::from_rata_die(RataDie::new(738946), computed);
+    /// assert!(rt; date.year().extended_year() == 1445);
+    /// ```
     pub fn new(table: HijriTable<'t>) -> UmmAlQura<'t>
         ensures { result.table ≡ table.entry }
     {

@@ -82,6 +82,14 @@ impl<R: NumberedRules> Merged<R> {
     /// Behind a holiday it is the window from the holiday's day on and the rule after the holiday's, where there is one,
     /// and else the window from the next day on and rule 0. `None` exactly where the holiday that was given last is of
     /// the window's last day and of the last rule, and once `next` has answered `None`.
+    ///
+    /// ```
+    /// let book = Book::try_read(alloc, b"weekday,Thanksgiving,gregorian,M11,4,thursday").ok()?;
+    /// let year = Window::try_new(RataDie::new(738886), RataDie::new(739251))?;
+    /// let mut days = holidays(&book, Tables::none(), year, 0);
+    /// assert!(rt; days.next()?.day.to_i64_date() == 739218); // 2024-11-28
+    /// assert!(rt; days.rest()?.window.first().to_i64_date() == 739219);
+    /// ```
     pub fn rest(&self) -> Option<Rest>
         ensures { result ≡ self.now.rest }
     {

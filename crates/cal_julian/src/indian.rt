@@ -42,6 +42,11 @@ pub struct Indian;
 
 impl Indian {
     /// The Indian national calendar.
+    ///
+    /// ```
+    /// let date = Date::from_rata_die(RataDie::new(738946), Indian::new());
+    /// assert!(rt; date.day_of_month().0 == 11);
+    /// ```
     pub fn new() -> Indian {
         Indian
     }

@@ -38,6 +38,11 @@ pub struct Julian;
 
 impl Julian {
     /// The Julian calendar.
+    ///
+    /// ```
+    /// let date = Date::from_rata_die(RataDie::new(738946), Julian::new());
+    /// assert!(rt; date.day_of_month().0 == 17); // of February
+    /// ```
     pub fn new() -> Julian {
         Julian
     }

@@ -36,6 +36,11 @@ impl<'t> PersianCorrections<'t> {
 
     /// The corrections of years that are known to be accepted, as those of constant data can be by computation. No
     /// year is looked at.
+    ///
+    /// ```text
+    /// static YEARS: [i32; 78] = ..; // 1502 to 2987
+    /// let corrections = PersianCorrections::new(&YEARS);
+    /// ```
     pub fn new(years: &'t [i32]) -> PersianCorrections<'t>
         requires { AreCorrections years.now }
         ensures { result.years.now ≡ years.now }
@@ -65,6 +70,11 @@ impl<'t> PersianCorrections<'t> {
     }
 
     /// The corrected years.
+    ///
+    /// ```
+    /// let corrections = PersianCorrections::try_new(&[1502])?;
+    /// assert!(rt; corrections.years().len() == 1);
+    /// ```
     pub fn years(&self) -> &'t [i32]
         ensures { result.now ≡ self.now.years.now }
     {

@@ -56,6 +56,15 @@ pub struct Recurrence<C: Calendar> {
 ///
 /// [`Missing::Constrain`]: crate::Missing::Constrain
 /// [`Missing::Skip`]: crate::Missing::Skip
+///
+/// ```
+/// let window = Window::try_new(RataDie::new(737821), RataDie::new(737910))?;
+/// let rule = Rule::try_new(DateDurationUnit::Months, 1, Missing::Constrain)?;
+/// let start = Iso.from_rata_die(RataDie::new(737821));
+/// let mut items = recur(Iso, start, rule, window);
+/// assert!(rt; items.next()?.day.to_i64_date() == 737821); // 2021-01-31
+/// assert!(rt; items.next()?.day.to_i64_date() == 737849); // 2021-02-28
+/// ```
 pub fn recur<C: Calendar + Copy>(
     calendar: C,
     start: C::DateInner,
@@ -88,6 +97,16 @@ impl<C: Calendar + Copy> Recurrence<C> {
     ///
     /// A caller may stop after any item and go on later with a recurrence of the same start and rule in these days: it
     /// gives the items that this one has left, with their indices.
+    ///
+    /// ```
+    /// let window = Window::try_new(RataDie::new(737821), RataDie::new(737910))?;
+    /// let rule = Rule::try_new(DateDurationUnit::Months, 1, Missing::Constrain)?;
+    /// let start = Iso.from_rata_die(RataDie::new(737821));
+    /// let mut items = recur(Iso, start, rule, window);
+    /// assert!(rt; items.next()?.day.to_i64_date() == 737821); // 2021-01-31
+    /// assert!(rt; items.next()?.day.to_i64_date() == 737849); // 2021-02-28
+    /// assert!(rt; items.rest()?.first().to_i64_date() == 737850);
+    /// ```
     pub fn rest(&self) -> Option<Window>
         ensures { result ≡ self.now.rest }
     {

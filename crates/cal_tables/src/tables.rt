@@ -52,6 +52,18 @@ impl<'t> Tables<'t> {
     }
 
     /// These tables. None exactly where the first one isn't China's, or the second one isn't Korea's.
+    ///
+    /// ```
+    /// let tables = Tables::try_new(
+    ///     EastAsianTable::none(Side::China),
+    ///     EastAsianTable::none(Side::Korea),
+    ///     HijriTable::none(),
+    ///     PersianCorrections::none(),
+    ///     JapaneseEras::up_to_reiwa(),
+    /// )?;
+    /// let date = Date::from_rata_die(RataDie::new(738946), tables.japanese());
+    /// assert!(rt; date.era_year().year == 6); // of Reiwa
+    /// ```
     pub fn try_new(
         china: EastAsianTable<'t>,
         korea: EastAsianTable<'t>,
@@ -121,6 +133,11 @@ impl<'t> Tables<'t> {
     }
 
     /// The Hijri calendar as it is simulated for Mecca, which has no rows.
+    ///
+    /// ```
+    /// let date = Date::from_rata_die(RataDie::new(738946), Tables::none().simulated_mecca());
+    /// assert!(rt; date.year().extended_year() == 1445);
+    /// ```
     pub fn simulated_mecca(&self) -> Hijri<AstronomicalSimulation<'t>>
         ensures system { simulated_mecca_system (years_of result.0.table.rows.now)
             ≡ kind_system (table_contents self.now) kind.HijriSimulatedMecca }
@@ -144,6 +161,11 @@ impl<'t> Tables<'t> {
     }
 
     /// The Japanese calendar, with the eras that Japan lists.
+    ///
+    /// ```
+    /// let date = Date::from_rata_die(RataDie::new(738946), tables.japanese());
+    /// assert!(rt; date.era_year().year == 6); // of Reiwa
+    /// ```
     pub fn japanese(&self) -> Japanese
         ensures system { japanese_system result ≡ kind_system (table_contents self.now) kind.Japanese }
         ensures eras { result.eras ≡ self.now.eras }

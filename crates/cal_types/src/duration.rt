@@ -37,6 +37,10 @@ pub struct DateDuration {
 
 impl DateDuration {
     /// So many years; fewer than none go back in time.
+    ///
+    /// ```
+    /// assert!(rt; DateDuration::for_years(-2).is_negative);
+    /// ```
     pub fn for_years(years: i32) -> Self
         ensures { result ≡ duration_of DateDurationUnit.Years years }
     {
@@ -48,6 +52,10 @@ impl DateDuration {
     }
 
     /// So many months; fewer than none go back in time.
+    ///
+    /// ```
+    /// assert!(rt; DateDuration::for_months(18).months == 18);
+    /// ```
     pub fn for_months(months: i32) -> Self
         ensures { result ≡ duration_of DateDurationUnit.Months months }
     {
@@ -59,6 +67,10 @@ impl DateDuration {
     }
 
     /// So many weeks of seven days; fewer than none go back in time.
+    ///
+    /// ```
+    /// assert!(rt; DateDuration::for_weeks(2).weeks == 2);
+    /// ```
     pub fn for_weeks(weeks: i32) -> Self
         ensures { result ≡ duration_of DateDurationUnit.Weeks weeks }
     {
@@ -70,6 +82,10 @@ impl DateDuration {
     }
 
     /// So many days; fewer than none go back in time.
+    ///
+    /// ```
+    /// assert!(rt; DateDuration::for_days(-7).days == 7);
+    /// ```
     pub fn for_days(days: i32) -> Self
         ensures { result ≡ duration_of DateDurationUnit.Days days }
     {
@@ -81,6 +97,10 @@ impl DateDuration {
     }
 
     /// The duration that a text names, as [`DateDuration::try_from_utf8`].
+    ///
+    /// ```
+    /// assert!(rt; DateDuration::try_from_str("P1Y2M")?.months == 2);
+    /// ```
     pub fn try_from_str(s: &str) -> Result<Self, DateDurationParseError>
         ensures { result ≡ duration_read s.now }
     {
@@ -102,6 +122,11 @@ impl DateDuration {
     /// - [`DateDurationParseError::DuplicateUnit`]: a unit came before.
     ///
     /// This is the date part of the durations of ISO 8601-2.
+    ///
+    /// ```
+    /// let back = DateDuration::try_from_utf8(b"-P3W")?;
+    /// assert!(rt; back.is_negative && back.weeks == 3);
+    /// ```
     pub fn try_from_utf8(code_units: &[u8]) -> Result<Self, DateDurationParseError>
         ensures { result ≡ duration_read code_units.now }
     {

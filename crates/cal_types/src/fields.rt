@@ -27,6 +27,16 @@ pub struct DateFields<'a> {
 
 impl DateFields<'_> {
     /// The plain form: an extended year, a month and a day, and nothing else.
+    ///
+    /// ```
+    /// let fields = DateFields::from_year_month_day(2024, Month::new(2), 30);
+    /// let constrain = DateFromFieldsOptions {
+    ///     overflow: Some(Overflow::Constrain),
+    ///     missing_fields_strategy: None,
+    /// };
+    /// let date = Date::try_from_fields(fields, constrain, Gregorian)?;
+    /// assert!(rt; date.day_of_month().0 == 29);
+    /// ```
     pub fn from_year_month_day(extended_year: i32, month: Month, day: u8) -> Self
         ensures { bag_of result ≡ year_month_day extended_year (month_parts month) day }
     {

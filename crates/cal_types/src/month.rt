@@ -22,6 +22,10 @@ impl Month {
     ghost use Rattle.cal_types.specs.MonthParts.{month_parts, parts_read};
 
     /// The plain month of this number; a number above 99 is taken as 99.
+    ///
+    /// ```
+    /// assert!(rt; Month::new(3).number() == 3);
+    /// ```
     pub const fn new(number: u8) -> Month
         ensures { month_parts result ≡ plain_month number }
     {
@@ -32,6 +36,10 @@ impl Month {
     }
 
     /// The leap month of this number; a number above 99 is taken as 99.
+    ///
+    /// ```
+    /// assert!(rt; Month::leap(5).is_leap());
+    /// ```
     pub const fn leap(number: u8) -> Month
         ensures { month_parts result ≡ leap_month number }
     {
@@ -42,6 +50,10 @@ impl Month {
     }
 
     /// The month that a month code names, as [`Month::try_from_utf8`].
+    ///
+    /// ```
+    /// assert!(rt; Month::try_from_str("M05L")? == Month::leap(5));
+    /// ```
     pub fn try_from_str(s: &str) -> Result<Month, MonthCodeParseError>
         ensures value { parts_read result ≡ ok_or (month_read s.now) MonthCodeParseError.InvalidSyntax }
         ensures code { IfOk result (λ m. code_text (month_parts m) ≡ s.now) }
@@ -53,6 +65,10 @@ impl Month {
     /// [`MonthCodeParseError::InvalidSyntax`] comes for every other text.
     ///
     /// This is ECMAScript Temporal's `ParseMonthCode`.
+    ///
+    /// ```
+    /// assert!(rt; Month::try_from_utf8(b"M12")? == Month::new(12));
+    /// ```
     pub fn try_from_utf8(bytes: &[u8]) -> Result<Month, MonthCodeParseError>
         ensures value { parts_read result ≡ ok_or (month_read bytes.now) MonthCodeParseError.InvalidSyntax }
         ensures code { IfOk result (λ m. code_text (month_parts m) ≡ bytes.now) }
@@ -80,6 +96,10 @@ impl Month {
     }
 
     /// The month's number, from 0 to 99.
+    ///
+    /// ```
+    /// assert!(rt; Month::new(3).number() == 3);
+    /// ```
     pub fn number(self) -> u8
         ensures value { result ≡ (month_parts self).number }
         ensures bound { result ≤ 99 }
@@ -88,6 +108,10 @@ impl Month {
     }
 
     /// Whether this is a leap month.
+    ///
+    /// ```
+    /// assert!(rt; Month::leap(5).is_leap());
+    /// ```
     pub fn is_leap(self) -> bool
         ensures { result ≡ (month_parts self).is_leap }
     {
@@ -95,6 +119,10 @@ impl Month {
     }
 
     /// The month code: `M`, two digits, and `L` for a leap month, such as `M05L`.
+    ///
+    /// ```
+    /// assert!(rt; Month::leap(5).code().0.as_str() == "M05L");
+    /// ```
     pub fn code(self) -> MonthCode
         ensures text { result.0 ≡ code_text (month_parts self) }
         ensures read { month_read result.0 ≡ Some (month_parts self) }

@@ -16,6 +16,10 @@ pub struct MonthCode(pub TinyAsciiStr<4>);
 impl MonthCode {
     /// The code's first three bytes where the fourth is `L`, so the code of the plain month of a leap
     /// month's number. None for every other text.
+    ///
+    /// ```
+    /// assert!(rt; Month::leap(5).code().get_normal_if_leap() == Some(Month::new(5).code()));
+    /// ```
     pub fn get_normal_if_leap(self) -> Option<MonthCode>
         ensures { option_map (λ c. c.0) result ≡ normal_code self.0 }
     {
@@ -26,6 +30,10 @@ impl MonthCode {
     }
 
     /// The month's number and whether it is a leap month. None exactly where the text is no month code.
+    ///
+    /// ```
+    /// assert!(rt; Month::leap(5).code().parsed() == Some((5, true)));
+    /// ```
     pub fn parsed(self) -> Option<(u8, bool)>
         ensures { result ≡ option_map (λ m. (m.number, m.is_leap)) (month_read self.0) }
     {

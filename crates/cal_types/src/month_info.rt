@@ -36,6 +36,12 @@ impl MonthInfo {
     ghost use Rattle.cal_types.specs.MonthInfoParts.{month_info_parts};
 
     /// The month at this place of a year, which is shown by the code of `formatting_month`.
+    ///
+    /// ```
+    /// let adar = MonthInfo::new(7, Month::new(6), LeapStatus::Base, Month::leap(6));
+    /// assert!(rt; adar.standard_code.0.as_str() == "M06");
+    /// assert!(rt; adar.formatting_code.0.as_str() == "M06L");
+    /// ```
     pub fn new(
         ordinal: u8,
         month: Month,
@@ -55,6 +61,11 @@ impl MonthInfo {
     }
 
     /// The month's number, which its code has; after a leap month it isn't the place.
+    ///
+    /// ```
+    /// let month = Date::from_rata_die(RataDie::new(738946), Hebrew).month();
+    /// assert!(rt; month.number() == 5); // in the place 6
+    /// ```
     pub fn number(self) -> u8
         ensures { result ≡ (month_info_parts self).month.number }
     {
@@ -62,6 +73,11 @@ impl MonthInfo {
     }
 
     /// How the month stands to leap months.
+    ///
+    /// ```
+    /// let month = Date::from_rata_die(RataDie::new(738946), Hebrew).month();
+    /// assert!(rt; month.leap_status() == LeapStatus::Leap);
+    /// ```
     pub fn leap_status(self) -> LeapStatus
         ensures { result ≡ (month_info_parts self).leap_status }
     {
@@ -69,6 +85,11 @@ impl MonthInfo {
     }
 
     /// The month as a constructor of dates takes it.
+    ///
+    /// ```
+    /// let month = Date::from_rata_die(RataDie::new(738946), Hebrew).month();
+    /// assert!(rt; month.to_input() == Month::leap(5)); // Adar I
+    /// ```
     pub fn to_input(&self) -> Month
         ensures { month_parts result ≡ (month_info_parts self.now).month }
     {
@@ -76,6 +97,11 @@ impl MonthInfo {
     }
 
     /// Whether this is a leap month.
+    ///
+    /// ```
+    /// let month = Date::from_rata_die(RataDie::new(738946), Hebrew).month();
+    /// assert!(rt; month.is_leap()); // Adar I
+    /// ```
     pub fn is_leap(self) -> bool
         ensures { result ≡ (month_info_parts self).month.is_leap }
     {

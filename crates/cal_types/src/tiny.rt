@@ -45,6 +45,11 @@ impl<const N: usize> Model for TinyAsciiStr<N> {
 impl<const N: usize> TinyAsciiStr<N> {
     /// The text with these bytes: [`TinyStrError::TooLong`] where there are more than `N`, and otherwise
     /// [`TinyStrError::NonAscii`] where one is 0 or above 127.
+    ///
+    /// ```
+    /// let era = TinyAsciiStr::<16>::try_from_utf8(b"reiwa")?;
+    /// assert!(rt; era.as_str() == "reiwa");
+    /// ```
     pub fn try_from_utf8(bytes: &[u8]) -> Result<Self, TinyStrError>
         ensures value { IfOk result (λ t. t ≡ bytes.now) }
         ensures ok { IsOk result ↔ ((length bytes.now ≤ N) × IsText bytes.now) }
@@ -60,6 +65,10 @@ impl<const N: usize> TinyAsciiStr<N> {
     }
 
     /// The text with these bytes, which are known to fit and to be ASCII.
+    ///
+    /// ```
+    /// let eras = JapaneseEras::with_last_era(start, TinyAsciiStr::of_text(b"later"), 7)?;
+    /// ```
     pub fn of_text(text: &[u8]) -> Self
         requires fits { length text.now ≤ N }
         requires text { IsText text.now }
@@ -72,6 +81,11 @@ impl<const N: usize> TinyAsciiStr<N> {
     }
 
     /// The text.
+    ///
+    /// ```
+    /// let era = TinyAsciiStr::<16>::try_from_utf8(b"reiwa")?;
+    /// assert!(rt; era.as_str() == "reiwa");
+    /// ```
     pub fn as_str(&self) -> &str
         ensures value { result.now ≡ self.now }
         ensures text { IsText result.now }
@@ -81,6 +95,11 @@ impl<const N: usize> TinyAsciiStr<N> {
     }
 
     /// The text's bytes.
+    ///
+    /// ```
+    /// let era = TinyAsciiStr::<16>::try_from_utf8(b"reiwa")?;
+    /// assert!(rt; era.as_bytes().first() == Some(&b'r'));
+    /// ```
     pub fn as_bytes(&self) -> &[u8]
         ensures value { result.now ≡ self.now }
         ensures text { IsText result.now }
@@ -90,6 +109,11 @@ impl<const N: usize> TinyAsciiStr<N> {
     }
 
     /// The text's bytes, filled with 0 to `N`.
+    ///
+    /// ```
+    /// let era = TinyAsciiStr::<16>::try_from_utf8(b"reiwa")?;
+    /// assert!(rt; era.all_bytes()[5] == 0);
+    /// ```
     pub fn all_bytes(&self) -> &[u8; N]
         ensures { result.now ≡ filled N self.now }
     {
@@ -97,6 +121,11 @@ impl<const N: usize> TinyAsciiStr<N> {
     }
 
     /// The count of the text's bytes, at most `N`.
+    ///
+    /// ```
+    /// let era = TinyAsciiStr::<16>::try_from_utf8(b"reiwa")?;
+    /// assert!(rt; era.len() == 5);
+    /// ```
     pub fn len(&self) -> usize
         ensures value { result ≡ length self.now }
         ensures fits { result ≤ N }
@@ -105,6 +134,13 @@ impl<const N: usize> TinyAsciiStr<N> {
     }
 
     /// The same text with room for `M` bytes, which it must not exceed.
+    ///
+    /// ```
+    /// let era = TinyAsciiStr::<16>::try_from_utf8(b"reiwa")?;
+    /// assert!(rt; era.len() == 5);
+    /// let short: TinyAsciiStr<8> = era.resize();
+    /// assert!(rt; short.as_str() == "reiwa");
+    /// ```
     pub fn resize<const M: usize>(self) -> TinyAsciiStr<M>
         requires { length self ≤ M }
         ensures { result ≡ self.entry }

@@ -18,6 +18,11 @@ pub struct WeekInformation {
 
 impl WeekInformation {
     /// Weeks that begin with this day and have this weekend.
+    ///
+    /// ```
+    /// let weekend = WeekdaySet::new(&[Weekday::Saturday, Weekday::Sunday]);
+    /// let weeks = WeekInformation::new(Weekday::Monday, weekend);
+    /// ```
     pub fn new(first_weekday: Weekday, weekend: WeekdaySet) -> Self
         ensures first { result.first_weekday ≡ first_weekday }
         ensures weekend { result.weekend ≡ weekend }
@@ -29,6 +34,12 @@ impl WeekInformation {
     }
 
     /// The days of the weekend, each once, from the first day of the week on.
+    ///
+    /// ```
+    /// let weekend = WeekdaySet::new(&[Weekday::Saturday, Weekday::Sunday]);
+    /// let weeks = WeekInformation::new(Weekday::Monday, weekend);
+    /// assert!(rt; weeks.weekend().next() == Some(Weekday::Saturday));
+    /// ```
     pub fn weekend(self) -> WeekdaySetIterator
         ensures { weekdays_left result ≡ days_of_week self.weekend self.first_weekday }
     {

@@ -27,6 +27,10 @@ pub enum Weekday {
 
 impl Weekday {
     /// The weekday of a day that lies so many days after a Sunday, or before it where the number is negative.
+    ///
+    /// ```
+    /// assert!(rt; Weekday::from_days_since_sunday(-1) == Weekday::Saturday);
+    /// ```
     pub fn from_days_since_sunday(input: isize) -> Weekday
         ensures { pos (days_since_sunday result) ≡ int_rem_euclid input (pos 7) }
     {
@@ -42,6 +46,10 @@ impl Weekday {
     }
 
     /// The weekday's number in ISO 8601, from 1 for Monday to 7 for Sunday.
+    ///
+    /// ```
+    /// assert!(rt; Weekday::Sunday.number() == 7);
+    /// ```
     pub const fn number(self) -> u8
         ensures value { result ≡ weekday_number self }
         ensures range { (1 ≤ result) × (result ≤ 7) }

@@ -15,6 +15,11 @@ pub struct WeekdaySet {
 
 impl WeekdaySet {
     /// The set of these days.
+    ///
+    /// ```
+    /// let weekend = WeekdaySet::new(&[Weekday::Saturday, Weekday::Sunday]);
+    /// assert!(rt; weekend.contains(Weekday::Sunday));
+    /// ```
     pub const fn new(days: &[Weekday]) -> Self
         ensures { (day : Weekday) → in_set result day ≡ is_one_of days.now day }
     {
@@ -28,6 +33,11 @@ impl WeekdaySet {
     }
 
     /// Whether the set has the day.
+    ///
+    /// ```
+    /// let weekend = WeekdaySet::new(&[Weekday::Saturday, Weekday::Sunday]);
+    /// assert!(rt; weekend.contains(Weekday::Sunday));
+    /// ```
     pub const fn contains(&self, day: Weekday) -> bool
         ensures { result ≡ in_set self.now day }
     {

@@ -21,6 +21,11 @@ impl Window {
 
     /// The days from the first to the last. `None` exactly where one of the two isn't valid, that is from -365242499
     /// to 365242134, or the first comes after the last.
+    ///
+    /// ```
+    /// let year = Window::try_new(RataDie::new(738886), RataDie::new(739251))?;
+    /// assert!(rt; year.contains(RataDie::new(738946)));
+    /// ```
     pub fn try_new(first: RataDie, last: RataDie) -> Option<Window>
         ensures exact { IsSome result ↔ IsWindow first last }
         ensures days { IfSome result (λ w. (w.first ≡ first) × (w.last ≡ last)) }
@@ -34,6 +39,11 @@ impl Window {
     }
 
     /// The first day.
+    ///
+    /// ```
+    /// let year = Window::try_new(RataDie::new(738886), RataDie::new(739251))?;
+    /// assert!(rt; year.first().to_i64_date() == 738886); // 2024-01-01
+    /// ```
     pub fn first(self) -> RataDie
         ensures { result ≡ self.first }
     {
@@ -41,6 +51,11 @@ impl Window {
     }
 
     /// The last day.
+    ///
+    /// ```
+    /// let year = Window::try_new(RataDie::new(738886), RataDie::new(739251))?;
+    /// assert!(rt; year.last().to_i64_date() == 739251); // 2024-12-31
+    /// ```
     pub fn last(self) -> RataDie
         ensures { result ≡ self.last }
     {
@@ -48,6 +63,11 @@ impl Window {
     }
 
     /// The first and the last day.
+    ///
+    /// ```
+    /// let year = Window::try_new(RataDie::new(738886), RataDie::new(739251))?;
+    /// assert!(rt; year.ends().0.to_i64_date() == 738886);
+    /// ```
     pub fn ends(&self) -> (RataDie, RataDie)
         ensures first { result.0 ≡ self.now.first }
         ensures last { result.1 ≡ self.now.last }
@@ -56,6 +76,11 @@ impl Window {
     }
 
     /// Whether a day is one of the window's.
+    ///
+    /// ```
+    /// let year = Window::try_new(RataDie::new(738886), RataDie::new(739251))?;
+    /// assert!(rt; year.contains(RataDie::new(738946)));
+    /// ```
     pub fn contains(&self, day: RataDie) -> bool
         ensures { IsTrue result ↔ IsBetween self.now.first self.now.last day }
     {
@@ -64,6 +89,12 @@ impl Window {
     }
 
     /// The days after one of the window's days. `None` where that one is the last.
+    ///
+    /// ```
+    /// let year = Window::try_new(RataDie::new(738886), RataDie::new(739251))?;
+    /// assert!(rt; year.contains(RataDie::new(738946)));
+    /// assert!(rt; year.after(RataDie::new(738946))?.first().to_i64_date() == 738947);
+    /// ```
     pub fn after(&self, day: RataDie) -> Option<Window>
         requires { IsBetween self.now.first self.now.last day }
         ensures { IsAfter self.now day result }

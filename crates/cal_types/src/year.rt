@@ -74,6 +74,11 @@ pub enum YearInfo {
 
 impl YearInfo {
     /// The year in the era, or the ISO year in which a year of the cycle begins.
+    ///
+    /// ```
+    /// let date = Date::from_rata_die(RataDie::new(738946), Buddhist);
+    /// assert!(rt; date.year().era_year_or_related_iso() == 2567);
+    /// ```
     pub fn era_year_or_related_iso(self) -> i32
         ensures { result ≡ era_year_or_related_iso_of self }
     {
@@ -84,6 +89,11 @@ impl YearInfo {
     }
 
     /// The extended year; for a year of the cycle that is the ISO year in which it begins.
+    ///
+    /// ```
+    /// let date = Date::from_rata_die(RataDie::new(738946), Iso);
+    /// assert!(rt; date.year().extended_year() == 2024);
+    /// ```
     pub fn extended_year(self) -> i32
         ensures { result ≡ extended_year_of self }
     {
@@ -94,6 +104,11 @@ impl YearInfo {
     }
 
     /// The year in an era. None exactly for a year of the cycle.
+    ///
+    /// ```
+    /// let year = Date::from_rata_die(RataDie::new(738946), Buddhist).year();
+    /// assert!(rt; year.era()?.year == 2567);
+    /// ```
     pub fn era(self) -> Option<EraYear>
         ensures { result ≡ era_of self }
     {
@@ -104,6 +119,11 @@ impl YearInfo {
     }
 
     /// The year in the cycle. None exactly for a year in an era.
+    ///
+    /// ```
+    /// let year = Date::from_rata_die(RataDie::new(738946), published::chinese()).year();
+    /// assert!(rt; year.cyclic()?.year == 41); // of 2024
+    /// ```
     pub fn cyclic(self) -> Option<CyclicYear>
         ensures { result ≡ cyclic_of self }
     {

@@ -1,9 +1,11 @@
 //! The examples, as the docs have them.
 
 mod dates;
+mod inner;
 mod lists;
 mod lunar;
 mod published;
 mod rows;
 mod solar;
 mod spans;
+mod units;

@@ -154,6 +154,12 @@ where
 
     /// The date of an inner date and its calendar. The inner date has to belong to the calendar, which
     /// [`Calendar::owns`] tests; each inner date in an answer of the calendar does.
+    ///
+    /// ```
+    /// let inner = Iso::new().from_rata_die(RataDie::new(738946));
+    /// let date = Date::from_raw(inner, Iso::new());
+    /// assert!(rt; date.to_rata_die().to_i64_date() == 738946); // 2024-03-01
+    /// ```
     pub fn from_raw(inner: <A::Calendar as Calendar>::DateInner, calendar: A) -> Self
         requires { IsTrue (A.Calendar.belongs (A.cal_of calendar) inner) }
         ensures inner { result.inner ≡ inner }
@@ -163,6 +169,12 @@ where
     }
 
     /// The date as its calendar keeps it.
+    ///
+    /// ```
+    /// let inner = Iso::new().from_rata_die(RataDie::new(738946));
+    /// let date = Date::from_raw(inner, Iso::new());
+    /// assert!(rt; *date.inner() == inner);
+    /// ```
     pub fn inner(&self) -> &<A::Calendar as Calendar>::DateInner
         ensures { result.now ≡ self.now.inner }
     {
@@ -533,6 +545,14 @@ where
 
     /// The difference of [`Date::try_until_with_options`]. It adds at most 8 ticks to the counter; where months are
     /// the largest unit, at most 8 and one more for each year between the dates.
+    ///
+    /// ```
+    /// let mut steps = Steps::<L>::new(blank);
+    /// let first = Date::from_rata_die(RataDie::new(738946), Iso);
+    /// let second = Date::from_rata_die(RataDie::new(738953), Iso);
+    /// let Ok(difference) = first.until_counted(&second, DateDifferenceOptions::default(), &mut steps);
+    /// assert!(rt; difference.days == 7);
+    /// ```
     pub fn until_counted<B: AsCalendar<Calendar = A::Calendar>, L: Ledger>(
         &self,
         other: &Date<B>,

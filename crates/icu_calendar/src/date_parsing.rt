@@ -95,6 +95,18 @@ where
     ///   one, as in [`Date::try_from_utf8`];
     /// - [`ParseError::Range`]: the year isn't from -999999 to 999999, the month isn't from 1 to 12, or the day isn't
     ///   from 1 to the month's length.
+    ///
+    /// ```
+    /// let date = Some(DateRecord {
+    ///     year: 2024,
+    ///     month: 3,
+    ///     day: 1,
+    /// });
+    /// let calendar = None;
+    /// let record = IxdtfRecord { date, calendar };
+    /// let date = Date::try_from_ixdtf_record(&record, Hebrew)?;
+    /// assert!(rt; date.era_year().year == 5784);
+    /// ```
     pub fn try_from_ixdtf_record(
         ixdtf_record: &IxdtfRecord<'_>,
         calendar: A,
@@ -112,6 +124,18 @@ where
     }
 
     /// The date of a record, as [`Date::try_from_ixdtf_record`], and its day number.
+    ///
+    /// ```
+    /// let date = Some(DateRecord {
+    ///     year: 2024,
+    ///     month: 3,
+    ///     day: 1,
+    /// });
+    /// let calendar = None;
+    /// let record = IxdtfRecord { date, calendar };
+    /// let (date, rd) = Date::try_from_ixdtf_record_with_rd(&record, Hebrew)?;
+    /// assert!(rt; rd.to_i64_date() == 738946);
+    /// ```
     pub fn try_from_ixdtf_record_with_rd(
         ixdtf_record: &IxdtfRecord<'_>,
         calendar: A,

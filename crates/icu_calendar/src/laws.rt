@@ -25,6 +25,13 @@ use cal_types::{
 /// sum is never refused, and it is the second date.
 ///
 /// An error comes exactly where the two calendars aren't compatible.
+///
+/// ```
+/// let first = Date::from_rata_die(RataDie::new(738946), Iso);
+/// let second = Date::from_rata_die(RataDie::new(738953), Iso);
+/// let Ok(sum) = laws::sum_with_difference(first, &second, DateDifferenceOptions::default());
+/// assert!(rt; sum.same_date(&second));
+/// ```
 pub fn sum_with_difference<A: AsCalendar + Copy, B: AsCalendar<Calendar = A::Calendar>>(
     first: Date<A>,
     second: &Date<B>,
@@ -50,6 +57,11 @@ where
 }
 
 /// The date of a date's day number, which is that date.
+///
+/// ```
+/// let date = Date::from_rata_die(RataDie::new(738946), Iso);
+/// assert!(rt; laws::date_of_its_day(&date).same_date(&date));
+/// ```
 pub fn date_of_its_day<A: AsCalendar>(date: &Date<A>) -> Date<Ref<'_, A>>
 where
     A::Calendar: Calendar,
@@ -63,6 +75,11 @@ where
 
 /// The date of a date's day in another calendar, and of that one's day in the first calendar again: no day is lost,
 /// and it is the first date.
+///
+/// ```
+/// let date = Date::from_rata_die(RataDie::new(738946), Iso);
+/// assert!(rt; laws::back_from_another_calendar(&date, Hebrew).same_date(&date));
+/// ```
 pub fn back_from_another_calendar<A: AsCalendar, B: AsCalendar>(
     date: &Date<A>,
     other: B,
@@ -81,6 +98,11 @@ where
 
 /// The extended year, the month and the day of a date, as fields in its calendar under [`Overflow::Reject`]: they are
 /// never refused, and they name that date.
+///
+/// ```
+/// let date = Date::from_rata_die(RataDie::new(738946), Iso);
+/// assert!(rt; laws::date_of_its_fields(&date).same_date(&date));
+/// ```
 pub fn date_of_its_fields<A: AsCalendar>(date: &Date<A>) -> Date<Ref<'_, A>>
 where
     A::Calendar: Calendar,

@@ -33,6 +33,13 @@ where
     A::Calendar: Calendar,
 {
     /// The date of the first bag.
+    ///
+    /// ```
+    /// let from = DateFields::from_year_month_day(2024, Month::new(9), 30);
+    /// let to = DateFields::from_year_month_day(2024, Month::new(10), 31);
+    /// let dates = named_dates(from, to, DateFromFieldsOptions::default(), Iso)?;
+    /// assert!(rt; dates.from().month().number() == 9 && dates.to().month().number() == 10);
+    /// ```
     pub fn from(&self) -> &Date<A>
         ensures { result.now ≡ self.now.from }
     {
@@ -40,6 +47,13 @@ where
     }
 
     /// The date of the second bag.
+    ///
+    /// ```
+    /// let from = DateFields::from_year_month_day(2024, Month::new(9), 30);
+    /// let to = DateFields::from_year_month_day(2024, Month::new(10), 31);
+    /// let dates = named_dates(from, to, DateFromFieldsOptions::default(), Iso)?;
+    /// assert!(rt; dates.from().month().number() == 9 && dates.to().month().number() == 10);
+    /// ```
     pub fn to(&self) -> &Date<A>
         ensures { result.now ≡ self.now.to }
     {
@@ -48,6 +62,13 @@ where
 
     /// The difference from the first date to the second, which leads back, as
     /// [`Date::try_until_with_options`].
+    ///
+    /// ```
+    /// let from = DateFields::from_year_month_day(2024, Month::new(9), 30);
+    /// let to = DateFields::from_year_month_day(2024, Month::new(10), 31);
+    /// let dates = named_dates(from, to, DateFromFieldsOptions::default(), Iso)?;
+    /// assert!(rt; dates.duration(DateDifferenceOptions::default()).days == 31);
+    /// ```
     pub fn duration(&self, options: DateDifferenceOptions) -> DateDuration
         ensures { let c = A.cal_of self.now.from.calendar in
             let s = A.Calendar.system c in

@@ -20,6 +20,10 @@ use cal_east_asian::{ChineseTraditional, EastAsianTable, KoreanTraditional, Side
 /// 0.5.11 gives the same. Almanacs of before 1929 went by the local time of Beijing, so that a few of their months
 /// begin on other days: the new year of 1916 was kept on 1916-02-03, and is 1916-02-04 here. The table ends with 2099,
 /// since the real year 2100 doesn't join the computed year that follows.
+///
+/// ```
+/// assert!(rt; published::china_table().rows().len() == 188); // 1912 to 2099
+/// ```
 pub fn china_table() -> EastAsianTable<'static>
     ensures side { result.side ≡ side.China }
     ensures rows { result.rows.now ≡ CHINA }
@@ -33,6 +37,10 @@ pub fn china_table() -> EastAsianTable<'static>
 ///
 /// They go by the same rule as China's at 9 hours from Greenwich, computed with GNU Emacs 28.2; PyMeeus 0.5.11 gives
 /// the same.
+///
+/// ```
+/// assert!(rt; published::korea_table().side() == Side::Korea);
+/// ```
 pub fn korea_table() -> EastAsianTable<'static>
     ensures side { result.side ≡ side.Korea }
     ensures rows { result.rows.now ≡ KOREA }

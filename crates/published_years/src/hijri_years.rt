@@ -13,6 +13,12 @@ use cal_hijri::{Hijri, HijriTable, UmmAlQura};
 /// The table of the Umm al-Qura years from [`FIRST_UMM_AL_QURA_YEAR`] to [`LAST_UMM_AL_QURA_YEAR`], 1300 to 1600.
 ///
 /// They are those of Java 17 (`HijrahDate`) and of ICU 72 and 78, which are the same.
+///
+/// ```
+/// let rows = published::umm_al_qura_table().rows();
+/// let table = HijriTable::try_new(rows)?;
+/// assert!(rt; table.rows().len() == 301); // 1300 to 1600
+/// ```
 pub fn umm_al_qura_table() -> HijriTable<'static>
     ensures rows { result.rows.now ≡ UMM_AL_QURA }
     ensures accepted { IsAccepted friday_year (years_of UMM_AL_QURA) }

@@ -2,9 +2,9 @@
 
 use icu_calendar::{
     AnyCalendar, AnyCalendarKind, Buddhist, Date, DateAddOptions, DateDifferenceOptions,
-    DateDuration, DateDurationUnit, DateFields, DateFromFieldsOptions, Gregorian, Hebrew, Iso,
-    Missing, Month, Overflow, RataDie, Rule, Weekday, Window, easter_gregorian, easter_julian,
-    published, recur,
+    DateDuration, DateDurationUnit, DateFields, DateFromFieldsOptions, DateRecord, Gregorian,
+    Hebrew, Iso, IxdtfRecord, Missing, Month, Overflow, RataDie, Rule, Weekday, Window,
+    easter_gregorian, easter_julian, laws, published, recur,
 };
 use std::cmp::Ordering;
 use std::process::Abort;
@@ -195,5 +195,35 @@ fn pointers_and_any_calendars(rt: HostRuntime) -> Result<(), Fail> {
     let date = Date::try_new_iso(2024, 3, 1)?.to_any();
     let hebrew = AnyCalendar::Hebrew(Hebrew);
     assert!(rt; date.convert_any(&hebrew).day_of_month().0 == 21); // of Adar I
+    Ok(())
+}
+
+#[test]
+fn records_and_laws(rt: HostRuntime) -> Result<(), Fail> {
+    let date = Some(DateRecord {
+        year: 2024,
+        month: 3,
+        day: 1,
+    });
+    let calendar = None;
+    let record = IxdtfRecord { date, calendar };
+    let date = Date::try_from_ixdtf_record(&record, Hebrew)?;
+    assert!(rt; date.era_year().year == 5784);
+    let (date, rd) = Date::try_from_ixdtf_record_with_rd(&record, Hebrew)?;
+    assert!(rt; rd.to_i64_date() == 738946);
+
+    let date = Date::from_rata_die(RataDie::new(738946), Iso);
+    assert!(rt; laws::date_of_its_day(&date).same_date(&date));
+
+    let date = Date::from_rata_die(RataDie::new(738946), Iso);
+    assert!(rt; laws::back_from_another_calendar(&date, Hebrew).same_date(&date));
+
+    let date = Date::from_rata_die(RataDie::new(738946), Iso);
+    assert!(rt; laws::date_of_its_fields(&date).same_date(&date));
+
+    let first = Date::from_rata_die(RataDie::new(738946), Iso);
+    let second = Date::from_rata_die(RataDie::new(738953), Iso);
+    let Ok(sum) = laws::sum_with_difference(first, &second, DateDifferenceOptions::default());
+    assert!(rt; sum.same_date(&second));
     Ok(())
 }

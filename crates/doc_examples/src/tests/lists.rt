@@ -16,6 +16,7 @@ fn show_birthdays(rt: &impl Abort) -> Option<()> {
     assert!(rt; days.next()?.to_i64_date() == 738582); // 2023-03-03
     assert!(rt; days.next()?.to_i64_date() == 738935); // 2024-02-19
     assert!(rt; days.next()?.to_i64_date() == 739320); // 2025-03-10
+    assert!(rt; days.rest()?.first().to_i64_date() == 739321);
     Some(())
 }
 
@@ -32,6 +33,7 @@ fn show_last_days_of_months(rt: &impl Abort) -> Option<()> {
     let mut items = recur(Iso, start, rule, window);
     assert!(rt; items.next()?.day.to_i64_date() == 737821); // 2021-01-31
     assert!(rt; items.next()?.day.to_i64_date() == 737849); // 2021-02-28
+    assert!(rt; items.rest()?.first().to_i64_date() == 737850);
     Some(())
 }
 
@@ -46,6 +48,12 @@ fn show_holidays_of_a_book(rt: &impl Abort, alloc: Global) -> Option<()> {
     let year = Window::try_new(RataDie::new(738886), RataDie::new(739251))?;
     let mut days = holidays(&book, Tables::none(), year, 0);
     assert!(rt; days.next()?.day.to_i64_date() == 739218); // 2024-11-28
+    assert!(rt; days.rest()?.window.first().to_i64_date() == 739219);
+
+    let book = Book::try_read(alloc, b"weekday,Thanksgiving,gregorian,M11,4,thursday").ok()?;
+    assert!(rt; book.len() == 1);
+    assert!(rt; book.name(0).first() == Some(&b'T'));
+    let rule = book.rule(0);
     Some(())
 }
 

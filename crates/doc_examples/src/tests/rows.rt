@@ -1,7 +1,8 @@
 //! The examples of the docs: rows of tables as constant data.
 
 use icu_calendar::{
-    EastAsianRow, EastAsianTable, HijriRow, HijriTable, Side, published, qing_year,
+    EastAsianRow, EastAsianTable, EastAsianTraditionalYear, HijriRow, HijriTable, HijriYear,
+    RataDie, Side, published, qing_year,
 };
 use std::process::Abort;
 use std::test::Fail;
@@ -47,6 +48,7 @@ fn show_years_of_rows(rt: &impl Abort) -> Option<()> {
         start_offset: 5,
     };
     assert!(rt; row.year().month_len(1) == 29);
+    assert!(rt; row.year().new_year().to_i64_date() == 738720); // 2023-07-19
 
     assert!(rt; qing_year(1900)?.related_iso() == 1900);
 
@@ -55,6 +57,14 @@ fn show_years_of_rows(rt: &impl Abort) -> Option<()> {
     assert!(rt; qing_year(1900)?.leap_month() == Some(9)); // behind the month 8
 
     assert!(rt; qing_year(1900)?.months() == 13);
+
+    let year = qing_year(1900)?;
+    assert!(rt; year.months() == 13);
+    assert!(rt; year.month_len(13) == 30);
+
+    assert!(rt; qing_year(1900)?.row().leap_month == 9);
+
+    assert!(rt; row.year().row()?.start_offset == 5);
     Some(())
 }
 
@@ -77,4 +87,13 @@ fn longer_hijri_rows() -> Result<(), Fail> {
     let table = HijriTable::try_new(&rows[..50])?;
     let lengthened = table.lengthened(&rows)?;
     Ok(())
+}
+
+#[test]
+fn years_of_month_starts(rt: HostRuntime) {
+    let starts = [RataDie::new(738720); 13]; // no month has a day
+    assert!(rt; HijriYear::try_new(1445, starts).is_none());
+
+    let starts = [RataDie::new(738926); 14]; // no month has a day
+    assert!(rt; EastAsianTraditionalYear::try_new(2024, starts, None).is_none());
 }
