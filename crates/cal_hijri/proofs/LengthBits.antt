@@ -31,9 +31,6 @@ bits-next starts long m b some bit here others i low high =
     let lowest : (2 * long + b) / 1 % 2 ≡ b = omega arith in
     rw (e, same) (ap (λ (q : ℕ). pos (29 + q)) lowest ∙ here))
 
--- the bits of twelve months are below 2 ^ 12
-pub bits-fit : (m : ℕ) → 1 ≤ m → m ≤ 12 → 2 ^ (12 - m) ≤ 2048
-bits-fit = by_month (λ m. 2 ^ (12 - m) ≤ 2048) (omega arith) (omega arith) (omega arith) (omega arith) (omega arith) (omega arith) (omega arith) (omega arith) (omega arith) (omega arith) (omega arith) (omega arith)
-
+-- the bit of the month before is twice a month's
 pub bits-double : (m : ℕ) → 1 ≤ m → m ≤ 12 → 2 ^ (12 - (m - 1)) ≡ 2 * 2 ^ (12 - m)
 bits-double = by_month (λ m. 2 ^ (12 - (m - 1)) ≡ 2 * 2 ^ (12 - m)) refl refl refl refl refl refl refl refl refl refl refl refl

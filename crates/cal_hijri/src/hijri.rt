@@ -6,14 +6,13 @@ ghost use Rattle.cal_arith.specs.FieldNames.{era_read};
 ghost use Rattle.cal_hijri.specs.HijriList.{has_parts_of};
 ghost use Rattle.cal_hijri.specs.HijriNames.{hijri_era_year, hijri_reads};
 
-use crate::astronomical_simulation::AstronomicalSimulation;
 use crate::hijri_table::HijriTable;
 use crate::hijri_year::{HijriYear, days_before_month, days_in_month};
 use crate::rules::Rules;
+use crate::table_rules::{AstronomicalSimulation, UmmAlQura};
 use crate::tabular_algorithm::{
     TabularAlgorithm, TabularAlgorithmEpoch, TabularAlgorithmLeapYears,
 };
-use crate::umm_al_qura::UmmAlQura;
 use cal_arith::{ArithmeticDate, DateFieldsResolver, Steps, YearShapes, Years, can_be_named};
 use cal_base::plain_months::{is_plain, plain_ordinal};
 use cal_base::scaffold::UnstableSealed;

@@ -1,7 +1,6 @@
 //! The Hijri calendars: the rules that decide their years, and the calendar over any of them.
 #![tactic(auto)]
 
-mod astronomical_simulation;
 mod hijri;
 mod hijri_row;
 mod hijri_table;
@@ -9,17 +8,18 @@ mod hijri_year;
 pub mod laws;
 mod rules;
 mod table_references;
+mod table_rules;
 mod tabular_algorithm;
 mod type_i_years;
-mod umm_al_qura;
 
-pub use astronomical_simulation::AstronomicalSimulation;
 pub use hijri::{Hijri, HijriDateInner};
 pub use hijri_row::HijriRow;
 pub use hijri_table::HijriTable;
 pub use hijri_year::HijriYear;
 pub use rules::Rules;
+pub use table_rules::{
+    AstronomicalSimulation, OfMecca, OfSaudiArabia, TablePurpose, TableRules, UmmAlQura,
+};
 pub use tabular_algorithm::{
     TabularAlgorithm, TabularAlgorithmEpoch, TabularAlgorithmLeapYears, epoch_of, leap_years_of,
 };
-pub use umm_al_qura::UmmAlQura;
