@@ -7,10 +7,6 @@ use Rattle.cal_errors.specs.declared.errors.MonthError.TheVariants.{NotInYear}
 use Rattle.cal_model.specs.CalendarList.{CalendarList, HasPlace, IsLawful, month_at, spot}
 use Rattle.cal_arith.specs.Places.{ordinal_month}
 
--- a month that the calendar knows has its spot as its place
-pub ordinal_month-known : (c : CalendarList) (y : ℤ) (m : MonthParts) (o : Overflow) → c.is_of_kind m ≡ true → ordinal_month c y m o ≡ ok_or (spot c y m o) NotInYear
-ordinal_month-known c y m o known = rw known refl
-
 -- a month of one year has a spot in each under Constrain
 pub stands-some : (c : CalendarList) → IsLawful c → (y : ℤ) (i : ℕ) (z : ℤ) → HasPlace c y i → ¬ (spot c z (month_at c y i) Constrain ≡ None)
 stands-some c law y i z h none =

@@ -23,11 +23,6 @@ module _ (offset : ℤ) (year : NumberedYear) where
       start_of_year-renumbered offset gregorian_list (extended_year_from offset year)
       ∙ (start_of_year-gregorian (extended_year_from offset year +ℤ offset) ∙ ap gregorian_start extended-number)
 
-  pub year_length-offset : (r : Bool) → IsTrue r ↔ IsTrue (gregorian_leap year.number) → year_length (offset_list offset) (extended_year_from offset year) ≡ (if r then 366 else 365)
-  year_length-offset r h =
-      year_length-gregorian (λ y. gregorian_leap (y +ℤ offset)) (offset_list offset) (offset_list-months offset) (extended_year_from offset year)
-      ∙ ap (λ (b : Bool). if b then 366 else 365) (leap_year-offset r h)
-
   pub year_days-offset : year_length (offset_list offset) (extended_year_from offset year) ≡ gregorian_year_length year.number
   year_days-offset =
       year_length-gregorian (λ y. gregorian_leap (y +ℤ offset)) (offset_list offset) (offset_list-months offset) (extended_year_from offset year)

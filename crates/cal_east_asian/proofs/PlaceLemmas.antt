@@ -38,9 +38,6 @@ place-none t never = ap place_of (least-never t 0 13 (λ j h k. never j k))
 pub ends-on : (lead time j : ℕ) → ends_by_term lead time j ≡ true → lead + (time + 37746000 * j) % 86400000 < 86400000 + 78303124 * j
 ends-on lead time j e = grind (arith, nat_tests)
 
-pub ends-off : (lead time j : ℕ) → ends_by_term lead time j ≡ false → 86400000 + 78303124 * j ≤ lead + (time + 37746000 * j) % 86400000
-ends-off lead time j e = grind (arith, nat_tests)
-
 pub ends-is : (lead time j : ℕ) → lead + (time + 37746000 * j) % 86400000 < 86400000 + 78303124 * j → ends_by_term lead time j ≡ true
 ends-is lead time j h = grind (arith, nat_tests)
 

@@ -166,24 +166,6 @@ module _ (names : ℕ → ℤ → Bool) (count : ℕ) where
       let place : q % 64 < 64 = omega arith in
       behind_first (IsInPlace (q % 64)) s (get_or firsts (q % 64) None) f (each (q % 64) place) (not (q % 64) place) m q (restated IsAny (IsInPlace (q % 64)) s m q (λ _. refl) h) before)
 
--- the earliest of one more
-pub earliest-next : (all : List (Option First)) (n : ℕ) (best found : Option First) → IsEarliest all n best → IsEarlier best (get_or all n None) found → IsEarliest all (n + 1) found
-earliest-next all n best None are (none, here) = λ i lt. by_lt {P = get_or all i None ≡ None} i n (λ l. none-below best none are i l) (λ ge.
-    let same : i ≡ n = omega arith in ap (λ k. get_or all k None) same ∙ here)
-  where
-    none-below : (b : Option First) → b ≡ None → IsEarliest all n b → (i : ℕ) → i < n → get_or all i None ≡ None
-    none-below None e h i l = h i l
-    none-below (Some x) e h i l = absurd cc
-earliest-next all n best (Some f) are (which, nb, nh) = (
-  there which,
-  λ i lt. by_lt {P = IsNotBefore (get_or all i None) f} i n (λ l. below best are nb i l) (λ ge.
-      let same : i ≡ n = omega arith in subst (λ k. IsNotBefore (get_or all k None) f) (sym same) nh),
-)
-  where
-    there : (best ≡ Some f) ⊎ (get_or all n None ≡ Some f) → (i : ℕ) × (i < n + 1) × (get_or all i None ≡ Some f)
-    there (inl e) = let h = subst (IsEarliest all n) e are in (h.0.0, omega (arith, h.0.1), h.0.2)
-    there (inr e) = (n, omega arith, e)
-
     after : (o : Option First) (x : First) → IsNotBefore o x → (IsBefore x.day x.rule f.day f.rule → ⊥) → IsNotBefore o f
     after None x h k = tt
     after (Some y) x h k = not_before y.day y.rule x.day x.rule f.day f.rule h k

@@ -83,9 +83,6 @@ other_month : (a b t : Bool) → b ≡ false → (a && (b && t)) ≡ false
 other_month true b t e = ap (λ v. v && t) e
 other_month false b t e = refl
 
-pub not_asked : (m : MonthParts) (before : ℤ) (length : ℕ) (asked : MonthParts) (nth : ℤ) (w : Weekday) (from : ℤ) → is_month m asked ≡ false → IsFirstInMonth m before length asked nth w from None
-not_asked m before length asked nth w from other d some most low = other_month (has_weekday w (before +ℤ pos d)) (is_month m asked) (is_nth_day nth length d) other
-
 pub asked_there : (m : MonthParts) (before : ℤ) (length : ℕ) (asked : MonthParts) (nth : ℤ) (w : Weekday) (from day : ℤ) → is_month m asked ≡ true → IsOnly nth w before length day
     → from ≤ℤ day → before <ℤ day → day ≤ℤ (before +ℤ pos length) → IsFirstInMonth m before length asked nth w from (Some day)
 asked_there m before length asked nth w from day same only low start end = (

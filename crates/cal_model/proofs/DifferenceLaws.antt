@@ -283,18 +283,6 @@ days_left-own c law back t u h leads years months no_years no_months = record {
   toward_it false le lt = omega (arith, signed)
   toward_it true le lt = omega (arith, signed)
 
--- the difference in weeks and days
-pub weeks-difference : (c : CalendarList) → IsLawful c → (t u : Date) → IsDate c t → (d : DateDuration) → (IsTrue d.is_negative ↔ (day_number c u <ℤ day_number c t)) → d.years ≡ 0 → d.months ≡ 0 → 7 * d.weeks + d.days ≡ unsigned_abs (day_number c u -ℤ day_number c t) → d.days < 7 → IsDifference c t u Weeks d
-weeks-difference c law t u h d sign no_years no_months sum lt =
-    let left = days_left-own c law d.is_negative t u h (leads-of c d.is_negative t u sign.0 sign.1) d.years d.months no_years no_months in
-    record {
-      sign = sign;
-      years = no_years;
-      months = no_months;
-      weeks = greatest_weeks-left c t u d.is_negative d.years d.months _ d.weeks d.days left sum lt;
-      days = greatest_days-left c t u d.is_negative d.years d.months _ d.weeks d.days left sum;
-    }
-
 -- the difference in days
 pub days-difference : (c : CalendarList) → IsLawful c → (t u : Date) → IsDate c t → (d : DateDuration) → (IsTrue d.is_negative ↔ (day_number c u <ℤ day_number c t)) → d.years ≡ 0 → d.months ≡ 0 → d.weeks ≡ 0 → d.days ≡ unsigned_abs (day_number c u -ℤ day_number c t) → IsDifference c t u Days d
 days-difference c law t u h d sign no_years no_months no_weeks all =

@@ -20,30 +20,13 @@ module _ (shift : ℤ) (c : CalendarList) where
   unfolding renumbered
   month_count-renumbered y = refl
 
-  pub month_at-renumbered : (y : ℤ) (i : ℕ) → month_at (renumbered shift c) y i ≡ month_at c (y +ℤ shift) i
-  unfolding renumbered
-  month_at-renumbered y i = refl
-
   pub month_length-renumbered : (y : ℤ) (i : ℕ) → month_length (renumbered shift c) y i ≡ month_length c (y +ℤ shift) i
   unfolding renumbered
   month_length-renumbered y i = refl
 
-  pub is_of_kind-renumbered : (m : MonthParts) → (renumbered shift c).is_of_kind m ≡ c.is_of_kind m
-  unfolding renumbered
-  is_of_kind-renumbered m = refl
-
   pub days_before-renumbered : (y : ℤ) (i : ℕ) → days_before (renumbered shift c) y i ≡ days_before c (y +ℤ shift) i
   unfolding renumbered days_before
   days_before-renumbered y i = refl
-
-  pub place_of-renumbered : (y : ℤ) (m : MonthParts) → place_of (renumbered shift c) y m ≡ place_of c (y +ℤ shift) m
-  unfolding renumbered place_of
-  place_of-renumbered y m = refl
-
-  pub spot-renumbered : (y : ℤ) (m : MonthParts) (o : Overflow) → spot (renumbered shift c) y m o ≡ spot c (y +ℤ shift) m o
-  unfolding renumbered spot place_of
-  spot-renumbered y m Reject = refl
-  spot-renumbered y m Constrain = refl
 
   start-anchor : start_of_year c ((renumbered shift c).anchor_year +ℤ shift) ≡ (renumbered shift c).anchor_day
   unfolding renumbered

@@ -184,13 +184,6 @@ reach-year c t years z j r =
     let here = spot-place c y (month_at c t.year t.month) Constrain r.from r.spot_is in
     (month_number-injective c z j y r.from r.moved.place here (r.moved.moved ∙ omega (arith, signed))).0
 
--- and the month is the one that the years reach
-pub reach-place : (c : CalendarList) (t : Date) (years : ℕ) (z : ℤ) (j : ℕ) → (r : Reaches c t false years 0 z j) → j ≡ r.from
-reach-place c t years z j r =
-    let y = t.year +ℤ pos years in
-    let here = spot-place c y (month_at c t.year t.month) Constrain r.from r.spot_is in
-    (month_number-injective c z j y r.from r.moved.place here (r.moved.moved ∙ omega (arith, signed))).1
-
 -- more days from one month
 days-rise : (c : CalendarList) (t : Date) (k l : ℕ) → k < l → (n m : ℤ) → Lands c t 0 0 k n → Lands c t 0 0 l m → n <ℤ m
 days-rise c t k l lt n m p q =
@@ -367,14 +360,6 @@ lands-occurrence c law shift t Months k n limits valid l = of-lands c law shift 
 lands-occurrence c law shift t Weeks k n limits valid l = of-lands c law shift t 0 0 k 0 n limits valid l
 lands-occurrence c law shift t Days k n limits valid l = of-lands c law shift t 0 0 0 k n limits valid l
 
--- nothing added to the start gives its own day
-pub occurrence-start : (c : CalendarList) → IsLawful c → (shift : ℤ) (t : Date) → IsValidDate c t → IsFieldYear (t.year +ℤ shift) → (unit : DateDurationUnit) → occurrence c shift t unit Constrain 0 ≡ Some (day_number c t)
-occurrence-start c law shift t h field unit =
-    lands-occurrence c law shift t unit 0 (day_number c t) (limits unit)
-    (true-is_between (neg_ℤ (pos 365242499)) (pos 365242134) (day_number c t) h.valid) (lands-start c law t h.date unit) where
-      year : is_field_year (t.year +ℤ pos 0 +ℤ shift) ≡ true
-      year = true-is_between (neg_ℤ (pos 1040000)) (pos 1040000) (t.year +ℤ pos 0 +ℤ shift) (omega (arith, signed, field), omega (arith, signed, field))
-
       limits : (unit : DateDurationUnit) → within_limits shift t (units unit 0) ≡ true
       limits Years = year
       limits Months = year
@@ -432,17 +417,6 @@ occurrence-sum c law shift t Years k o r p = day_after-sum c law shift t k 0 0 0
 occurrence-sum c law shift t Months k o r p = day_after-sum c law shift t 0 k 0 0 o r p
 occurrence-sum c law shift t Weeks k o r p = day_after-sum c law shift t 0 0 k 0 o r p
 occurrence-sum c law shift t Days k o r p = day_after-sum c law shift t 0 0 0 k o r p
-
--- a sum that isn't refused keeps the limit of years
-pub sum-year : (c : CalendarList) (shift : ℤ) (t u : Date) (d : DateDuration) (o : Overflow) → IsSum c shift t d o (Ok u) → d.years ≡ 0 → IsFieldYear (t.year +ℤ shift)
-sum-year c shift t u d o p none =
-    let guarded = not_refused (is_addable d && is_field_year (t.year +ℤ toward d.is_negative d.years +ℤ shift)) _ u p in
-    let parts = both_true (is_addable d) (is_field_year (t.year +ℤ toward d.is_negative d.years +ℤ shift)) guarded in
-    let same : t.year +ℤ toward d.is_negative d.years ≡ t.year = ap (λ (n : ℕ). t.year +ℤ toward d.is_negative n) none ∙ toward-zero d.is_negative t.year in
-    let year : is_field_year (t.year +ℤ shift) ≡ true = sym (ap (λ (y : ℤ). is_field_year (y +ℤ shift)) same) ∙ parts.1 in
-    is_between-true (neg_ℤ (pos 1040000)) (pos 1040000) (t.year +ℤ shift) year where
-      ok : Result Date DateAddError
-      ok = Ok u
 
       not_refused : (b : Bool) (P : Type 0) (v : Date) → MatchBool b P (ok ≡ Err fault.Overflow) → b ≡ true
       not_refused true P v p = refl

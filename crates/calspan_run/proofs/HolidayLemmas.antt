@@ -85,9 +85,6 @@ module _ (asked : HolidaysAsked) (bytes : List ℕ) where
   pub answer_is_record : (number field : ℕ) → is_window asked.first asked.last ≡ true → IsFirstBad (book_records bytes) number field → answer ≡ Err (record_fault number field)
   answer_is_record number field e h = in_window e ∙ ap (holidays_by asked) (record_is_bad (book_records bytes) number field h)
 
-  pub answer_is_window : is_window asked.first asked.last ≡ false → answer ≡ Err (codes "InvalidWindow")
-  answer_is_window e = ap (λ b. cond b (holidays_by asked (book_read 1 (book_records bytes))) (Err (codes "InvalidWindow"))) e
-
   -- the text of the answer was written, or a prefix of it
   pub ends_with_answer : (result : Status) (before now : Option (List ℕ)) (faults more : ℕ) (x : Result (List ℕ) (List ℕ)) → answer ≡ x → EndsWith result (status_of (is_refused x)) before now faults more (list_text x) → EndsHolidays asked result bytes before now faults more
   ends_with_answer result before now faults more x e h =
@@ -140,10 +137,6 @@ pub holidays_exist : (asked : HolidaysAsked) → EveryInputHas (SaysHolidays ask
 holidays_exist asked bytes false = ([], Done, (refl, refl))
 holidays_exist asked bytes true = (list_text (holidays_answer asked bytes), status_of (is_refused (holidays_answer asked bytes)), (refl, refl))
 
-pub holidays_unique : (asked : HolidaysAsked) → IsUnique (SaysHolidays asked)
-holidays_unique asked bytes false a b s t h k = (h.0 ∙ sym k.0, h.1 ∙ sym k.1)
-holidays_unique asked bytes true a b s t h k = (h.0 ∙ sym k.0, h.1 ∙ sym k.1)
-
 is_end : (refused : Bool) → IsEnd (status_of refused)
 is_end true = inr (inl refl)
 is_end false = inl refl
@@ -188,17 +181,6 @@ module _ (asked : HolidaysAsked) (left l t : Option (List ℕ)) (reads reads2 w 
     text = [];
     status = Done;
     rose = rose;
-    exchanged = record { took = took; wrote = appends_none t };
-    says = (refl, refl);
-    goes_on = λ e. e;
-  }
-
-  pub too_long_serves : StopsEarly early.TooLong limit left l reads reads2 → Serves (holiday_rules asked) TooLong (outside left t reads w) (outside l t reads2 w)
-  too_long_serves (bytes, took, more) = record {
-    bytes = bytes;
-    text = [];
-    status = Done;
-    more = more;
     exchanged = record { took = took; wrote = appends_none t };
     says = (refl, refl);
     goes_on = λ e. e;

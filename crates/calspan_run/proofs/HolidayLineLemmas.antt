@@ -18,17 +18,6 @@ use Rattle.reply_texts.specs.DateTexts.{date_text}
 use Rattle.calspan_run.specs.DayLines.{list_text}
 use Rattle.calspan_run.specs.HolidayLines.{holiday_line, name_of, record_fault}
 
--- the name of a rule that is there, and of one that isn't
-pub name_there : (rules : List NamedRule) (r : ℕ) (name : List ℕ) → option_map (λ (named : NamedRule). named.name) (slice_get rules r) ≡ Some name → name ≡ name_of rules r
-name_there rules r name e = sym (ap (λ (o : Option (List ℕ)). unwrap_or o []) e)
-
-pub name_lacking : (rules : List NamedRule) (r : ℕ) → length rules ≤ r → [] ≡ name_of rules r
-name_lacking rules r past =
-    ⊎_elim {C = [] ≡ name_of rules r}
-    (λ there. absurd (omega (arith, past, there.1)))
-    (λ none. sym (ap (λ (o : Option NamedRule). unwrap_or (option_map (λ (named : NamedRule). named.name) o) []) none.1))
-    (slice_get_cases rules r).1
-
 -- the line of a day and a rule was pushed, piece by piece
 pub pushed_holiday : (rules : List NamedRule) (n : ℤ) (r : ℕ) (t : Date) (old a b c new : List ℕ) → IsOn iso_list n t → a ≡ old ++ date_text iso_system t → b ≡ a ++ 32 ∷ [] → c ≡ b ++ name_of rules r → new ≡ c ++ 10 ∷ []
     → new ≡ old ++ holiday_line rules (n, r)
@@ -42,14 +31,6 @@ pushed_holiday rules n r t old a b c new on e f g h =
     ∙ (ap (λ x. x ++ 10 ∷ []) line
     ∙ (append_assoc old (text ++ (32 ∷ name)) (10 ∷ [])
     ∙ ap (λ (d : Date). old ++ ((date_text iso_system d ++ (32 ∷ name)) ++ 10 ∷ [])) day))
-
--- a name takes at most 64 bytes
-pub name_short : (text : List ℕ) → is_name text ≡ true → length text ≤ 64
-name_short text e =
-    let sizes : Bool = nat_le 1 (length text) && nat_le (length text) 64 in
-    let both = and-left sizes (list_all (λ b. nat_le 32 b && nat_le b 126) text) e in
-    let most = and-right (nat_le 1 (length text)) (nat_le (length text) 64) both in
-    leb-true (length text) 64 most
 
 -- the line that refuses a record was pushed, piece by piece
 pub pushed_fault : (number field wide : ℕ) (a b c d e f : List ℕ) → a ≡ [] → b ≡ a ++ codes "err record " → c ≡ b ++ decimal number → d ≡ c ++ codes " field " → e ≡ d ++ decimal wide → wide ≡ field → f ≡ e ++ 10 ∷ []

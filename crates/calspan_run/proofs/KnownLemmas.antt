@@ -24,9 +24,6 @@ appends_keeps (Some xs) None c x p q = absurd p
 appends_keeps (Some xs) (Some ys) None x p q = absurd q
 appends_keeps (Some xs) (Some ys) (Some zs) x p q = q ∙ p
 
-pub prefix_all : (x : List ℕ) → IsPrefix x x
-prefix_all x = ([], sym (append-nil x))
-
 -- a prefix of a text is a prefix of what goes on from it
 pub prefix_more : (x y z : List ℕ) → IsPrefix x y → IsPrefix x (y ++ z)
 prefix_more x y z (rest, e) = (rest ++ z, ap (λ r. r ++ z) e ∙ append_assoc x rest z)

@@ -65,10 +65,3 @@ module _ (r : Result Bool Failed) (before now : Option (List ℕ)) (a : RecurAsk
       let x = answer_by_rule a tables rule in
       let some : 0 < a.header.every = subst (λ (n : ℕ). 0 < n) is.every rule.some in
       recur_listed r before now a tables x (in_window x window (subst (Every x) (sym (some_every a.header.every some)) (rule, is, refl))) h
-
--- one word more of the fields
-pub field_goes_on : (bag new : Bag) (words left : List (List ℕ)) (word : List ℕ) → words ≡ word ∷ left → Some new ≡ with_whole_word bag word → fields_of (Some bag) words ≡ fields_of (Some new) left
-field_goes_on bag new words left word e f = ap (fields_of (Some bag)) e ∙ ap (λ (b : Option Bag). fields_of b left) (sym f)
-
-pub field_fails : (bag : Bag) (words left : List (List ℕ)) (word : List ℕ) → words ≡ word ∷ left → None ≡ with_whole_word bag word → fields_of (Some bag) words ≡ None
-field_fails bag words left word e f = ap (fields_of (Some bag)) e ∙ ap (λ (b : Option Bag). fields_of b left) (sym f)

@@ -48,9 +48,6 @@ fixed_is name word x e = by _ refl e
     by true q e = same_text word name (sym q)
     by false q e = cc
 
-pub fixed_reads : (name : List ℕ) → fixed_word name name ≡ Some tt
-fixed_reads name = ap (λ t. cond t (Some tt) None) (is_same_text name name refl)
-
 -- a next word is read
 pub next_reads : {T U : Type 0} (read : List ℕ → Option T) (word : List ℕ) (rest : List (List ℕ)) (next : T → List (List ℕ) → Option U) (x : T)
     → read word ≡ Some x → and_then (next_word read (word ∷ rest)) next ≡ next x rest

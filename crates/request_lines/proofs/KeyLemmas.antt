@@ -77,10 +77,6 @@ pub was_taken : (taken : Bool) (after : Option (List (List ℕ))) (old new : Lis
 was_taken true after old new h e = h
 was_taken false after old new h e = cc
 
-pub was_missed : (taken : Bool) (after : Option (List (List ℕ))) (old new : List (List ℕ)) → IsTaken taken after old new → taken ≡ false → (after ≡ None) × (new ≡ old)
-was_missed true after old new h e = cc
-was_missed false after old new h e = h
-
 -- each reading takes a word
 pub fewer_left : {T : Type 0} (read : List ℕ → Option T) (words left : List (List ℕ)) (x : T) → next_word read words ≡ Some (x, left) → length left < length words
 fewer_left read [] left x e = cc
@@ -92,15 +88,6 @@ fewer_left {T} read (word ∷ words) left x e = by (read word) e
         let pair : ◌≡◌ {A = T × List (List ℕ)} (z, words) (x, left) = cc in
         let same : words ≡ left = ap (λ (p : T × List (List ℕ)). p.1) pair in
         omega (arith, ap length same)
-
--- a bag before `to`
-pub bag_ends : (bag : Bag) (words left : List (List ℕ)) → after_word (codes "to") words ≡ Some left → bag_before_to (Some bag) words ≡ Some (bag, left)
-bag_ends bag [] left e = cc
-bag_ends bag (word ∷ words) left e = by (is_text word (codes "to")) e
-  where
-    by : (t : Bool) → cond t (Some words) None ≡ Some left → cond t (Some (bag, words)) (bag_before_to (with_word bag word) words) ≡ Some (bag, left)
-    by true e = let same : words ≡ left = cc in ap (λ l. Some (bag, l)) same
-    by false e = cc
 
 bag_stays : (bag : Bag) (word : List ℕ) (words : List (List ℕ)) → after_word (codes "to") (word ∷ words) ≡ None → bag_before_to (Some bag) (word ∷ words) ≡ bag_before_to (with_word bag word) words
 bag_stays bag word words e = by (is_text word (codes "to")) e

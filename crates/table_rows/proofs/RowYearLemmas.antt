@@ -320,18 +320,6 @@ starts-filled n i letters start day starts lt size put later same_put same_later
     ∙ (sym (append_assoc (take i starts) (day ∷ []) rest)
     ∙ ap (λ l. l ++ rest) (sym (take_more_set starts i day within)))))
 
--- and all stand in the end
-pub starts-all : (n i : ℕ) (letters : List ℕ) (start day : ℤ) (starts : List ℤ) → n ≤ i → i ≤ n → length starts ≡ n
-    → starts_of n start letters ≡ take i starts ++ starts_of (n - i) day (drop i letters) → starts ≡ starts_of n start letters
-starts-all n i letters start day starts low high size filled =
-    let none : n - i ≡ 0 = omega arith in
-    let end : i ≡ length starts = omega arith in
-    sym (filled
-    ∙ (ap (λ (k : ℕ). take i starts ++ starts_of k day (drop i letters)) none
-    ∙ (append-nil (take i starts)
-    ∙ (ap (λ (k : ℕ). take k starts) end
-    ∙ take-length starts))))
-
 -- the row of a Hijri year
 pub hijri_row-made : (r : YearRow) (y : HijriYear) (o : Option HijriRow) → IsHijriYear r y → (IsRuleYear y.extended_year → IsSome o) → IfSome o (λ kept. row_year kept ≡ y)
     → MatchOption o ((z : HijriYear) → IsHijriYear r z → ⊥) (λ kept. IsHijriYear r (row_year kept))

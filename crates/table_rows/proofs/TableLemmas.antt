@@ -68,8 +68,3 @@ module _ (rows : TableRows) where
 -- the same table and fault
 pub refused_as : (rows : TableRows) (s t : Table) (f g : TableFault) → s ≡ t → f ≡ g → IsFirstRefused rows t g → IsFirstRefused rows s f
 refused_as rows s t f g e d h = subst (λ (x : Table). IsFirstRefused rows x f) (sym e) (subst (λ (x : TableFault). IsFirstRefused rows t x) (sym d) h)
-
--- the same contents, list by list
-pub same_contents : (a b c d : List EastAsianTraditionalYear) (e f : List HijriYear) (g h : List ℤ) (i j : List ListedEra) → a ≡ b → c ≡ d → e ≡ f → g ≡ h → i ≡ j
-    → ◌≡◌ {A = TableContents} (record { china = a; korea = c; hijri = e; persian = g; eras = i }) (record { china = b; korea = d; hijri = f; persian = h; eras = j })
-same_contents a b c d e f g h i j p q r s t = rw (p, q, r, s, t) refl

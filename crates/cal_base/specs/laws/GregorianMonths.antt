@@ -8,18 +8,6 @@ use Rattle.cal_model.proofs.DateTests.{same_truth}
 use Rattle.cal_model.proofs.MonthCases.{by_month}
 use Rattle.cal_base.specs.GregorianList.{gregorian_months, gregorian_month_length, gregorian_days_before, HasGregorianMonths}
 
--- the lengths of the months by name
-pub gregorian_month_length-february : (leap : Bool) → gregorian_month_length leap 2 ≡ (if leap then 29 else 28)
-gregorian_month_length-february leap = refl
-
-pub gregorian_month_length-others : (leap : Bool) (i : ℕ) → 1 ≤ i → i ≤ 12 → i ≢ 2 → gregorian_month_length leap i ≡ (if i == 4 || i == 6 || i == 9 || i == 11 then 30 else 31)
-gregorian_month_length-others leap = by_month (λ i. i ≢ 2 → gregorian_month_length leap i ≡ (if i == 4 || i == 6 || i == 9 || i == 11 then 30 else 31))
-    (λ n. refl) (λ n. absurd (n refl)) (λ n. refl) (λ n. refl) (λ n. refl) (λ n. refl) (λ n. refl) (λ n. refl) (λ n. refl) (λ n. refl) (λ n. refl) (λ n. refl)
-
--- only February's length depends on the year
-pub gregorian_month_length-any_year : (leap other : Bool) (i : ℕ) → 1 ≤ i → i ≤ 12 → i ≢ 2 → gregorian_month_length leap i ≡ gregorian_month_length other i
-gregorian_month_length-any_year leap other i low high n = gregorian_month_length-others leap i low high n ∙ sym (gregorian_month_length-others other i low high n)
-
 pub gregorian_month_length-within : (leap : Bool) (i : ℕ) → 1 ≤ i → i ≤ 12 → (1 ≤ gregorian_month_length leap i) × (gregorian_month_length leap i ≤ 31)
 gregorian_month_length-within true = by_month (λ i. (1 ≤ gregorian_month_length true i) × (gregorian_month_length true i ≤ 31)) (omega arith, omega arith) (omega arith, omega arith) (omega arith, omega arith) (omega arith, omega arith) (omega arith, omega arith) (omega arith, omega arith) (omega arith, omega arith) (omega arith, omega arith) (omega arith, omega arith) (omega arith, omega arith) (omega arith, omega arith) (omega arith, omega arith)
 gregorian_month_length-within false = by_month (λ i. (1 ≤ gregorian_month_length false i) × (gregorian_month_length false i ≤ 31)) (omega arith, omega arith) (omega arith, omega arith) (omega arith, omega arith) (omega arith, omega arith) (omega arith, omega arith) (omega arith, omega arith) (omega arith, omega arith) (omega arith, omega arith) (omega arith, omega arith) (omega arith, omega arith) (omega arith, omega arith) (omega arith, omega arith)

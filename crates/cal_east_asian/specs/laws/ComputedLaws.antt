@@ -121,9 +121,6 @@ or_third true b d e = refl
 or_third false true d e = refl
 or_third false false d e = e
 
-abbrev leap_of_three : YearParts → YearParts → YearParts → Bool
-leap_of_three a b d = has_leap a || (has_leap b || has_leap d)
-
 -- where three years are the mean ones at one offset
 leaps-mean : (side : Side) (o y : ℤ) → computed_parts side y ≡ mean_parts o y → computed_parts side (y -ℤ pos 1) ≡ mean_parts o (y -ℤ pos 1) → computed_parts side (y -ℤ pos 2) ≡ mean_parts o (y -ℤ pos 2) → leap_in_three (computed_parts side) y ≡ true
 leaps-mean side o y e f g = rw (e, f, g) (mean-leaps o y)

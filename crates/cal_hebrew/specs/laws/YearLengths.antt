@@ -25,12 +25,6 @@ length-known y = known-by (hebrew_leap y) (hebrew_year_length y) (hebrew_year_le
 pub length_of-known : (b : ℕ) → length_of (class_of (length_of b)) ≡ length_of b
 length_of-known b = grind (arith, nat_tests)
 
-pub known-length : (n : ℕ) → length_of (class_of n) ≡ n → IsHebrewLength n
-known-length n known =
-    by_lt {P = IsHebrewLength n} n 383
-    (λ lt. inl (grind (arith, nat_tests), grind (arith, nat_tests)))
-    (λ le. inr (grind (arith, nat_tests), grind (arith, nat_tests)))
-
 -- the length of a year of its own number is known
 pub given-known : (y : ℤ) (n : ℕ) → n ≡ hebrew_year_length y → length_of (class_of n) ≡ n
 given-known y n same = subst (λ (m : ℕ). length_of (class_of m) ≡ m) (sym same) (length-known y)

@@ -21,15 +21,6 @@ days_before-long leap i low high = omega (arith, days_before-closed leap i low (
 pub days_before-short : (leap : Bool) (i : ℕ) → 7 ≤ i → i ≤ 12 → persian_days_before leap i ≡ 30 * (i - 1) + 6
 days_before-short leap i low high = omega (arith, days_before-closed leap i (omega arith) high)
 
--- the lengths of the months
-pub persian_month_length-closed : (leap : Bool) (i : ℕ) → 1 ≤ i → i ≤ 12 → persian_month_length leap i ≡ (if nat_le i 6 then 31 else if i == 12 && not leap then 29 else 30)
-persian_month_length-closed true =
-    by_month (λ i. persian_month_length true i ≡ (if nat_le i 6 then 31 else if i == 12 && not true then 29 else 30))
-    refl refl refl refl refl refl refl refl refl refl refl refl
-persian_month_length-closed false =
-    by_month (λ i. persian_month_length false i ≡ (if nat_le i 6 then 31 else if i == 12 && not false then 29 else 30))
-    refl refl refl refl refl refl refl refl refl refl refl refl
-
 -- of which only the last depends on the year
 pub month_length-others : (leap : Bool) (i : ℕ) → 1 ≤ i → i ≤ 11 → persian_month_length leap i ≡ persian_month_length true i
 month_length-others leap i low high =
