@@ -1,3 +1,4 @@
+pub mod WordLemmas
 pub mod GivenLemmas
 pub mod PlaceLemmas
 pub mod DifferenceSteps

@@ -1,10 +1,11 @@
-use Rattle.std.proofs.Common.{◌≡◌, ◌∙◌, ℤ, pos, ◌+◌, ◌+ℤ◌, ◌<ℤ◌, ◌≤ℤ◌, to_z, of_z, w32, ap, arith}
+use Rattle.std.proofs.Common.{◌≡◌, ◌∙◌, ℤ, pos, ◌+◌, ◌+ℤ◌, ◌<ℤ◌, ◌≤ℤ◌, to_z, of_z, w32, refl, ap, subst, sym, arith}
 use Rattle.cal_days.specs.Day.{IsRuleYear}
 use Rattle.cal_days.proofs.Signed.{signed}
 use Rattle.cal_model.specs.CalendarList.{month_count, month_number}
 use Rattle.cal_model.proofs.ListLemmas.{month_number-next}
 use Rattle.cal_arith.proofs.GivenLemmas.{given_by}
 use Rattle.cal_arith.proofs.MonthSteps.{months-between}
+use Rattle.cal_arith.proofs.WordLemmas.{word, next_word, between, from_to, after-low, after-high, before-next, none_more, none_ticked, not_below, summed, summed-next, ticked, unticked, fewer}
 use Rattle.cal_arith.proofs.months.months_between_counted.Given.{Over}
 use Rattle.cal_arith.proofs.months.months_between_counted.Goals.{After-months_by_number-next, After-from-count}
 use Rattle.cal_arith.proofs.months.months_between_counted.Goals as goal
@@ -14,20 +15,40 @@ module _ (g : Over) (c : After-months_by_number-next g) where
   abbrev first : ℤ
   first = (g.C.YearShapes.years c.args.cal.now).extended c.args.first
 
+  abbrev last : ℤ
+  last = (g.C.YearShapes.years c.args.cal.now).extended c.args.last
+
   abbrev next : ℤ
   next = c.months_by_number-next.result.0
 
-  low : first ≤ℤ next
-  low = omega (arith, signed, c.years.invariant.low, c.months_by_number-next.ensures.within)
+  to_end : to_z w32 (of_z w32 c.extended_from_year_info-end.result) ≡ last
+  to_end = word c.extended_from_year_info-end.result last c.extended_from_year_info-end.ensures c.requires.last.range
 
-  high : next ≤ℤ (g.C.YearShapes.years c.args.cal.now).extended c.args.last
-  high = omega (arith, signed, c.years.invariant.high, c.months_by_number-next.ensures.within)
+  low : first ≤ℤ next
+  low = from_to first _ next c.years.invariant.low c.months_by_number-next.ensures.within.0
+
+  high : next ≤ℤ last
+  high = subst (λ (z : ℤ). next ≤ℤ z) to_end c.months_by_number-next.ensures.within.1
 
   rule : IsRuleYear next
-  rule = (omega (arith, signed, low, high, c.requires.first.range, c.requires.last.range), omega (arith, signed, low, high, c.requires.first.range, c.requires.last.range))
+  rule = between first last next c.requires.first.range c.requires.last.range low high
+
+  kept : to_z w32 (of_z w32 next) ≡ next
+  kept = word next next refl rule
 
   counted : month_number (g.C.YearShapes.years c.args.cal.now).list next 1 ≡ month_number (g.C.YearShapes.years c.args.cal.now).list first 1 +ℤ pos (c.years.count + c.months_by_number-next.result.1)
-  counted = omega (arith, signed, c.months_by_number-next.ensures.count, c.years.invariant.counted)
+  counted = summed _ _ _ c.years.count c.months_by_number-next.result.1 c.months_by_number-next.ensures.count c.years.invariant.counted
+
+pub years-init : goal.years-init
+years-init g c =
+    let years = g.C.YearShapes.years c.args.cal.now in let first = years.extended c.args.first in
+    let same = word c.extended_from_year_info-number.result first c.extended_from_year_info-number.ensures c.requires.first.range in
+    record {
+      counted = none_more _ _ (ap (λ (y : ℤ). month_number years.list y 1) same);
+      low = not_below _ first same;
+      high = subst (λ (y : ℤ). y ≤ℤ years.extended c.args.last) (sym same) c.requires.order;
+      ticks = none_ticked c.args.steps.now first _ same;
+    }
 
 pub overflow_add-count : goal.overflow_add-count
 overflow_add-count g c =
@@ -35,35 +56,78 @@ overflow_add-count g c =
     let most = months-between (g.C.YearShapes.years c.args.cal.now).list (g.met.C.YearShapes.lawful c.args.cal.now) (first g s) (next g s) (low g s) in
     omega (arith, signed, most, counted g s, low g s, high g s, c.requires.first.range, c.requires.last.range)
 
+-- where no year is looked up, the last one is reached
+pub years-preserved : goal.years-preserved
+years-preserved g c =
+    let s = (goal.at.years-preserved g c).After-months_by_number-next in
+    let years = g.C.YearShapes.years c.args.cal.now in let back = sym (kept g s) in
+    record {
+      counted = ap (λ (y : ℤ). month_number years.list y 1) (kept g s) ∙ counted g s;
+      low = subst (λ (y : ℤ). first g s ≤ℤ y) back (low g s);
+      high = subst (λ (y : ℤ). y ≤ℤ last g s) back (high g s);
+      ticks = unticked c.years.steps c.args.steps.now (first g s) (to_z w32 c.years.number-bits) _ c.years.invariant.ticks
+          (subst (λ (y : ℤ). to_z w32 c.years.number-bits ≤ℤ y) back c.months_by_number-next.ensures.within.0);
+    }
+
+pub years-smaller : goal.years-smaller
+years-smaller g c =
+    let s = (goal.at.years-smaller g c).After-months_by_number-next in
+    fewer (last g s) (to_z w32 c.years.number-bits) _ (omega (arith, signed, c.years-test.true, c.if-number-end.false)) (subst (λ (y : ℤ). y ≤ℤ last g s) (sym (kept g s)) (high g s))
+
+pub year_counted-year-requires : goal.year_counted-year-requires
+year_counted-year-requires g c =
+    let s = (goal.at.year_counted-year-requires g c).After-months_by_number-next in
+    subst IsRuleYear (sym (kept g s)) (rule g s)
+
 pub months_in_provided_year-requires : goal.months_in_provided_year-requires
 months_in_provided_year-requires g c =
-    let range = rule g (goal.at.months_in_provided_year-requires g c).After-months_by_number-next in
-    (given_by (g.C.YearShapes.years c.args.cal.now) (g.met.C.YearShapes.numbered c.args.cal.now) _ _ c.months_by_number-next.result.0 c.year_counted-year.ensures.year (omega (arith, signed, range)) range).0
+    let s = (goal.at.months_in_provided_year-requires g c).After-months_by_number-next in
+    (given_by (g.C.YearShapes.years c.args.cal.now) (g.met.C.YearShapes.numbered c.args.cal.now) _ _ c.months_by_number-next.result.0 c.year_counted-year.ensures.year (kept g s) (rule g s)).0
 
 -- the months up to the year after it
-module _ (g : Over) (c : After-from-count g) (range : IsRuleYear c.months_by_number-next.result.0) where
+module _ (g : Over) (c : After-from-count g) (kept : to_z w32 (of_z w32 c.months_by_number-next.result.0) ≡ c.months_by_number-next.result.0) (range : IsRuleYear c.months_by_number-next.result.0) where
   year : (g.C.YearShapes.years c.args.cal.now).extended c.year_counted-year.result ≡ c.months_by_number-next.result.0
-  year = (given_by (g.C.YearShapes.years c.args.cal.now) (g.met.C.YearShapes.numbered c.args.cal.now) _ _ c.months_by_number-next.result.0 c.year_counted-year.ensures.year (omega (arith, signed, range)) range).1
+  year = (given_by (g.C.YearShapes.years c.args.cal.now) (g.met.C.YearShapes.numbered c.args.cal.now) _ _ c.months_by_number-next.result.0 c.year_counted-year.ensures.year kept range).1
 
   counted_on : month_number (g.C.YearShapes.years c.args.cal.now).list (c.months_by_number-next.result.0 +ℤ pos 1) 1 ≡ month_number (g.C.YearShapes.years c.args.cal.now).list ((g.C.YearShapes.years c.args.cal.now).extended c.args.first) 1 +ℤ pos (c.years.count + c.months_by_number-next.result.1 + c.from-count.result)
   counted_on =
       let list = (g.C.YearShapes.years c.args.cal.now).list in
-      omega (arith, signed, c.months_by_number-next.ensures.count, c.years.invariant.counted, month_number-next list c.months_by_number-next.result.0, ap (month_count list) year, c.months_in_provided_year.ensures, c.from-count.ensures)
+      let months = c.from-count.ensures ∙ (c.months_in_provided_year.ensures ∙ ap (month_count list) year) in
+      summed-next _ _ _ _ c.years.count c.months_by_number-next.result.1 c.from-count.result
+      (subst (λ n. month_number list (c.months_by_number-next.result.0 +ℤ pos 1) 1 ≡ month_number list c.months_by_number-next.result.0 1 +ℤ pos n) (sym months) (month_number-next list c.months_by_number-next.result.0))
+      c.months_by_number-next.ensures.count c.years.invariant.counted
 
 pub overflow_add-count-then-number-end : goal.overflow_add-count-then-number-end
 overflow_add-count-then-number-end g c =
-    let s = (goal.at.overflow_add-count-then-number-end g c).After-months_by_number-next in
-    let most = months-between (g.C.YearShapes.years c.args.cal.now).list (g.met.C.YearShapes.lawful c.args.cal.now) (first g s) (next g s +ℤ pos 1) (omega (arith, signed, low g s)) in
-    omega (arith, signed, most, counted_on g (goal.at.overflow_add-count-then-number-end g c).After-from-count (rule g s), low g s, high g s, c.requires.first.range, c.requires.last.range)
+    let at = goal.at.overflow_add-count-then-number-end g c in let s = at.After-months_by_number-next in
+    let most = months-between (g.C.YearShapes.years c.args.cal.now).list (g.met.C.YearShapes.lawful c.args.cal.now) (first g s) (next g s +ℤ pos 1) (after-low (first g s) (next g s) _ refl (low g s)) in
+    omega (arith, signed, most, counted_on g at.After-from-count (kept g s) (rule g s), low g s, high g s, c.requires.first.range, c.requires.last.range)
+
+pub overflow_add-number : goal.overflow_add-number
+overflow_add-number g c =
+    let s = (goal.at.overflow_add-number g c).After-months_by_number-next in
+    omega (arith, signed, kept g s, rule g s)
+
+-- a year is looked up where the last one isn't reached yet
+below : (g : Over) (c : After-from-count g) → to_z w32 (of_z w32 c.months_by_number-next.result.0) ≡ c.months_by_number-next.result.0
+    → to_z w32 (of_z w32 c.extended_from_year_info-end.result) ≡ (g.C.YearShapes.years c.args.cal.now).extended c.args.last
+    → c.months_by_number-next.result.0 <ℤ (g.C.YearShapes.years c.args.cal.now).extended c.args.last
+below g c here there = omega (arith, signed, here, there, c.if-number-end.true)
 
 pub years-preserved-then-number-end : goal.years-preserved-then-number-end
 years-preserved-then-number-end g c =
-    let s = (goal.at.years-preserved-then-number-end g c).After-months_by_number-next in
-    let one : to_z w32 (of_z w32 (to_z w32 (of_z w32 c.months_by_number-next.result.0) +ℤ pos 1)) ≡ c.months_by_number-next.result.0 +ℤ pos 1 = omega (arith, signed, rule g s) in
-    let below : c.months_by_number-next.result.0 <ℤ (g.C.YearShapes.years c.args.cal.now).extended c.args.last = omega (arith, signed, rule g s, c.if-number-end.true) in
+    let at = goal.at.years-preserved-then-number-end g c in let s = at.After-months_by_number-next in
+    let one = next_word (next g s) (rule g s) in
     record {
-      counted = ap (λ (y : ℤ). month_number (g.C.YearShapes.years c.args.cal.now).list y 1) one ∙ counted_on g (goal.at.years-preserved-then-number-end g c).After-from-count (rule g s);
-      low = omega (arith, signed, one, low g s);
-      high = omega (arith, signed, one, below);
-      ticks = omega (arith, signed, one, c.year_counted-year.ensures.tick, c.years.invariant.ticks, c.months_by_number-next.ensures.within);
+      counted = ap (λ (y : ℤ). month_number (g.C.YearShapes.years c.args.cal.now).list y 1) one ∙ counted_on g at.After-from-count (kept g s) (rule g s);
+      low = after-low (first g s) (next g s) _ one (low g s);
+      high = after-high (next g s) _ (last g s) one (below g at.After-from-count (kept g s) (to_end g s));
+      ticks = ticked c.years.steps c.args.steps.now _ (first g s) (to_z w32 c.years.number-bits) (next g s) _ c.year_counted-year.ensures.tick c.years.invariant.ticks c.months_by_number-next.ensures.within.0 one;
     }
+
+pub years-smaller-then-number-end : goal.years-smaller-then-number-end
+years-smaller-then-number-end g c =
+    let at = goal.at.years-smaller-then-number-end g c in let s = at.After-months_by_number-next in
+    let one = next_word (next g s) (rule g s) in
+    fewer (last g s) (to_z w32 c.years.number-bits) _ (before-next _ (next g s) _ one c.months_by_number-next.ensures.within.0)
+    (after-high (next g s) _ (last g s) one (below g at.After-from-count (kept g s) (to_end g s)))

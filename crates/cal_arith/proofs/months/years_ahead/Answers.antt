@@ -3,6 +3,7 @@ use Rattle.cal_days.proofs.Signed.{signed, signed_casts}
 use Rattle.cal_arith.specs.Given.{IsGiven}
 use Rattle.cal_arith.proofs.GivenLemmas.{given_by}
 use Rattle.cal_arith.proofs.MonthSteps.{months-between}
+use Rattle.cal_arith.proofs.WordLemmas.{later}
 use Rattle.cal_arith.proofs.months.years_ahead.Given.{Over}
 use Rattle.cal_arith.proofs.months.years_ahead.Goals.{After-year_info_from_extended-there, After-months_between_years-between}
 use Rattle.cal_arith.proofs.months.years_ahead.Goals as goal
@@ -41,3 +42,6 @@ returns-clause-later g c =
       fewer = omega (arith, months, c.requires.some, c.if-between-months.false);
       bound = omega (arith, signed, there.1, months, c.if-between-months.false);
     }
+
+pub months_between_years-between-requires-clause-order : goal.months_between_years-between-requires-clause-order
+months_between_years-between-requires-clause-order g c = later _ _ c.args.ahead (ahead g (goal.at.months_between_years-between-requires-clause-order g c).After-year_info_from_extended-there).1

@@ -7,6 +7,7 @@ use Rattle.cal_model.proofs.ListLemmas.{spot-place, month_number-injective}
 use Rattle.cal_model.proofs.DifferenceLemmas.{within-order, greatest-months, greatest-months_less, past_day-beyond}
 use Rattle.cal_arith.specs.Dates.{date_of}
 use Rattle.cal_arith.specs.Directions.{is_backward}
+use Rattle.cal_arith.proofs.WordLemmas.{one_answer}
 use Rattle.cal_arith.proofs.DifferenceSteps.{toward-less, reaches-months}
 use Rattle.cal_arith.proofs.months_between.months_between.Given.{Over}
 use Rattle.cal_arith.proofs.months_between.months_between.Goals.{Start, After-months_toward-count, Then-is_past_day}
@@ -67,4 +68,4 @@ pub returns-clause-greatest : goal.returns-clause-greatest
 returns-clause-greatest g c =
     let s = goal.at.returns-clause-greatest g c in
     greatest-months (g.C.YearShapes.years c.args.cal.now).list (g.met.C.YearShapes.lawful c.args.cal.now) (is_backward c.args.direction) (date_of (g.C.YearShapes.years c.args.cal.now) c.args.from) (date_of (g.C.YearShapes.years c.args.cal.now) c.args.to) c.args.years c.args.start.month (spot_is g s.Start) c.requires.to.date.place c.months_toward-count.result (distance g s.After-months_toward-count)
-    (λ p. let holds = c.is_past_day.ensures.1 p in let fails = c.if-is_past_day.false in cc)
+    (λ p. one_answer _ (c.is_past_day.ensures.1 p) c.if-is_past_day.false)

@@ -5,6 +5,7 @@ use Rattle.cal_days.proofs.Signed.{signed, by_lt}
 use Rattle.cal_model.proofs.DifferenceLemmas.{leads-years, greatest-years, greatest-years_less, years-one_year}
 use Rattle.cal_arith.specs.Dates.{date_of}
 use Rattle.cal_arith.specs.Directions.{is_backward}
+use Rattle.cal_arith.proofs.WordLemmas.{one_answer}
 use Rattle.cal_arith.proofs.years_between.years_between.Given.{Over}
 use Rattle.cal_arith.proofs.years_between.years_between.Goals.{After-unsigned_abs-apart, Then-surpasses_in_year}
 use Rattle.cal_arith.proofs.years_between.years_between.Goals as goal
@@ -23,7 +24,7 @@ pub returns-else-surpasses_in_year : goal.returns-else-surpasses_in_year
 returns-else-surpasses_in_year g c =
     greatest-years (g.C.YearShapes.years c.args.cal.now).list (is_backward c.args.direction) (date_of (g.C.YearShapes.years c.args.cal.now) c.args.from) (date_of (g.C.YearShapes.years c.args.cal.now) c.args.to) c.unsigned_abs-apart.result c.stand_in_place-place.result
     (apart g (goal.at.returns-else-surpasses_in_year g c).After-unsigned_abs-apart) c.stand_in_place-place.ensures
-    (λ p. let holds = c.surpasses_in_year.ensures.1 p in let fails = c.if-surpasses_in_year.false in cc)
+    (λ p. one_answer _ (c.surpasses_in_year.ensures.1 p) c.if-surpasses_in_year.false)
 
 passed : (g : Over) (c : Then-surpasses_in_year g) → SurpassesInYear (g.C.YearShapes.years c.args.cal.now).list (is_backward c.args.direction) (date_of (g.C.YearShapes.years c.args.cal.now) c.args.from) (date_of (g.C.YearShapes.years c.args.cal.now) c.args.to) c.stand_in_place-place.result
 passed g c = c.surpasses_in_year.ensures.0 c.if-surpasses_in_year.true
