@@ -6,6 +6,12 @@ use Rattle.cal_base.specs.OffsetList.{offset_list}
 use Rattle.cal_base.specs.laws.OffsetListLaws.{offset_list-plain}
 use Rattle.cal_base.proofs.abstract_gregorian.AbstractGregorianYearShapes.months_by_number.Goals as goal
 
+pub overflow_cast-result : goal.overflow_cast-result
+overflow_cast-result g c = (omega (arith, signed_casts, c.requires.first, c.requires.last, c.requires.order), omega (arith, signed_casts, c.requires.first, c.requires.last, c.requires.order))
+
+pub overflow_mul-result : goal.overflow_mul-result
+overflow_mul-result g c = omega (arith, signed_casts, c.requires.first, c.requires.last, c.requires.order)
+
 pub returns-clause-count : goal.returns-clause-count
 returns-clause-count g c =
     let apart : to_z w32 (of_z w32 (to_z w32 (of_z w32 c.args.last) -ℤ to_z w32 (of_z w32 c.args.first))) ≡ c.args.last -ℤ c.args.first = omega (arith, signed_casts, c.requires.first, c.requires.last) in

@@ -4,7 +4,12 @@ use Rattle.cal_model.specs.CalendarList.{date, day_number}
 use Rattle.cal_base.specs.GregorianList.{gregorian_list}
 use Rattle.cal_base.specs.laws.OffsetListLaws.{given-iso}
 use Rattle.cal_base.proofs.OffsetYears.{offset-date, day_number-offset}
+use Rattle.cal_base.proofs.OffsetAnswers.{shifted_argument}
 use Rattle.cal_base.proofs.abstract_gregorian.AbstractGregorianYearShapes.to_rata_die_inner.Goals as goal
+
+pub iso_day_number-requires-clause-year : goal.iso_day_number-requires-clause-year
+iso_day_number-requires-clause-year g c =
+    shifted_argument c.args.year.number (given-iso (g.Y.GregorianYears.offset c.args.self.now.0) (g.met.Y.GregorianYears.offset_bound c.args.self.now.0) c.args.year c.requires.year)
 
 pub iso_day_number-requires-clause-date : goal.iso_day_number-requires-clause-date
 iso_day_number-requires-clause-date g c =

@@ -3,7 +3,12 @@ use Rattle.cal_days.proofs.Signed.{signed}
 use Rattle.cal_model.specs.CalendarList.{date, IsOn}
 use Rattle.cal_base.specs.GregorianList.{gregorian_list}
 use Rattle.cal_base.proofs.OffsetYears.{on-offset}
+use Rattle.cal_base.proofs.OffsetAnswers.{given_kept}
 use Rattle.cal_base.proofs.abstract_gregorian.AbstractGregorianYears.year_month_day.Goals as goal
+
+pub returns-clause-year : goal.returns-clause-year
+returns-clause-year g c =
+    given_kept c.iso_date-number.result.0 (g.Y.GregorianYears.offset c.args.self.now.0) c.iso_date-number.ensures.year (g.met.Y.GregorianYears.offset_bound c.args.self.now.0)
 
 pub returns-clause-on : goal.returns-clause-on
 returns-clause-on g c =
