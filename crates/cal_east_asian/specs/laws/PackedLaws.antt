@@ -1,7 +1,6 @@
 -- What is read of any packed date is a year.
-use Rattle.std.proofs.Common.{◌≡◌, ◌≤◌, ◌<◌, ◌%◌, ◌/◌, ◌^◌, ◌||◌, ℕ, Bool, true, false, if◌then◌else◌, min, nat_eq, nat_lt, List, IsTrue, refl, subst, sym, arith, ℤ, pos, neg_ℤ, ◌+ℤ◌}
+use Rattle.std.proofs.Common.{◌≡◌, ◌≤◌, ◌<◌, ◌%◌, ◌/◌, ◌^◌, ◌||◌, ℕ, nat_eq, nat_lt, List, IsTrue, refl, subst, sym, arith, ℤ, pos, ◌+ℤ◌}
 use Rattle.std.proofs.lemmas.Bool.Decides.{nat_tests}
-use Rattle.cal_days.specs.Day.{IsRuleYear}
 use Rattle.cal_days.proofs.Signed.{by_bool, signed}
 use Rattle.date_bytes.specs.Bytes.{year_from}
 use Rattle.date_bytes.specs.EastAsianBytes.{bits_in, bits_of_places, leap_in, long_in, place_of, start_in}

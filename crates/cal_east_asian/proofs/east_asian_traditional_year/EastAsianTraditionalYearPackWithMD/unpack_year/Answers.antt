@@ -4,9 +4,8 @@ use Rattle.std.proofs.lemmas.Bool.Decides.{nat_tests}
 use Rattle.cal_days.specs.Day.{IsBetween, IsRuleYear}
 use Rattle.cal_days.proofs.Signed.{signed}
 use Rattle.date_bytes.specs.Bytes.{year_from}
-use Rattle.date_bytes.specs.EastAsianBytes.{IsLeapPlace, bits_of_places, leap_in, start_in}
+use Rattle.date_bytes.specs.EastAsianBytes.{IsLeapPlace, bits_of_places, leap_in}
 use Rattle.cal_east_asian.specs.EastAsianYear.{is_leap_place, january_19, months_of_year}
-use Rattle.cal_east_asian.specs.RuleYears.{rule_year}
 use Rattle.cal_east_asian.specs.laws.RuleYearLaws.{rule_year-same}
 use Rattle.cal_east_asian.specs.PackedYears.{packed_year, year_in}
 use Rattle.cal_east_asian.specs.laws.SameParts.{same_parts}
