@@ -1,10 +1,18 @@
 -- The last era of a list that passes a test, found from the back.
-use Rattle.std.proofs.Common.{◌≡◌, ℕ, ◌+◌, ◌-◌, ◌<◌, ◌≤◌, arith, length, take, drop, get_or, length-drop, List, [], ◌∷◌, ◌++◌, Option, None, Some, Bool, true, false, if◌then◌else◌, refl, ap, sym, ◌∙◌}
+use Rattle.std.proofs.Common.{◌≡◌, ℕ, ℤ, Result, Ok, Err, ◌+◌, ◌-◌, ◌<◌, ◌≤◌, arith, length, take, drop, get_or, length-drop, List, [], ◌∷◌, ◌++◌, Option, None, Some, Bool, true, false, if◌then◌else◌, refl, ap, sym, ◌∙◌}
+use Rattle.std.specs.Prelude.{⊤}
+use Rattle.std.specs.Iterator.{MakesProgress, item_count}
 use Rattle.std.specs.List.{slice_range, slice_get}
-use Rattle.std.proofs.lemmas.List.{take_all, take_more, get_or-drop}
+use Rattle.std.proofs.Math.Seq.{length-take-le}
+use Rattle.std.proofs.lemmas.List.{take_all, take_more, get_or-drop, length-append}
 use Rattle.std.proofs.lemmas.Option.{get_or_from_slice_get}
 use Rattle.std.specs.Option.{option_or}
+use Rattle.cal_errors.specs.declared.errors.UnknownEraError.{UnknownEraError}
+use Rattle.cal_arith.specs.FieldNames.{era_read}
 use Rattle.cal_gregory.specs.JapaneseEraList.{ListedEra, last_era}
+use Rattle.cal_gregory.specs.JapaneseEras.{listed_eras}
+use Rattle.cal_gregory.specs.JapaneseErasLeft.{eras_left}
+use Rattle.cal_gregory.specs.declared.japanese_eras_iter.JapaneseErasIter.{JapaneseErasIter}
 
 option_or-assoc : {A : Type 0} (a b c : Option A) → option_or (option_or a b) c ≡ option_or a (option_or b c)
 option_or-assoc (Some x) b c = refl
@@ -45,3 +53,26 @@ slice_range-back {X} xs first last x ahead fits here =
 -- the part from the first place to the last is the whole
 pub slice_range-all : {X : Type 0} (xs : List X) (last : ℕ) → last ≡ length xs → slice_range xs 0 last ≡ xs
 slice_range-all xs last same = let rest : length xs ≤ last - 0 = omega arith in take_all (last - 0) xs rest
+
+-- how many eras an iterator has left
+length-left : (s : JapaneseErasIter) → length (eras_left s) ≡ s.back - s.front
+length-left s = length-take-le (s.back - s.front) (drop s.front (listed_eras s.eras)) (omega (arith, s.ordered, s.fits, length-drop s.front (listed_eras s.eras)))
+
+-- after one was taken from the back there are fewer
+pub fewer-left : (s t : JapaneseErasIter) (e : ListedEra) → eras_left s ≡ eras_left t ++ e ∷ [] → t.back - t.front < s.back - s.front
+fewer-left s t e same = omega (arith, length-left s, length-left t, ap length same, length-append (eras_left t) (e ∷ []))
+
+-- a call that gives the last of what is left lowers its number
+pub progress-back : {S A : Type 0} (rest : S → List A) (s t : S) (x : A) → rest s ≡ rest t ++ x ∷ [] → MakesProgress (λ _. ⊤) (item_count rest) s (Some x) t
+progress-back rest s t x e = record {
+  on = λ _. (tt, tt, omega (arith, ap length e, length-append (rest t) (x ∷ [])));
+  keeps = tt;
+  rests = λ _. tt;
+}
+
+-- a year in an era that the first reading doesn't know is that of the second
+pub read_second : (first second : Option ℤ) (fault : UnknownEraError) (year found : ℤ) → Err fault ≡ era_read first → second ≡ Some found → year ≡ found → Ok year ≡ era_read (option_or first second)
+read_second None second fault year found fails reads same = ap Ok same ∙ sym (ap era_read reads)
+read_second (Some z) second fault year found fails reads same = absurd (never fails) where
+  never : ◌≡◌ {A = Result ℤ UnknownEraError} (Err fault) (Ok z) → ⊥
+  never e = cc

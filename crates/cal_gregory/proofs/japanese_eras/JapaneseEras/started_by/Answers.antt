@@ -6,7 +6,7 @@ use Rattle.cal_model.specs.CalendarList.{date}
 use Rattle.cal_gregory.specs.JapaneseEraList.{ListedEra, last_era, has_started}
 use Rattle.cal_gregory.specs.JapaneseEras.{listed_eras}
 use Rattle.cal_gregory.specs.laws.JapaneseLaws.{FoundNear, listed-near}
-use Rattle.cal_gregory.proofs.JapaneseEraLemmas.{last_era-passes, last_era-past}
+use Rattle.cal_gregory.proofs.JapaneseEraLemmas.{fewer-left, last_era-passes, last_era-past}
 use Rattle.cal_gregory.proofs.japanese_eras.JapaneseEras.started_by.Goals as goal
 
 le_then : (a b c : Ordering) → is_some_and is_le (partial_ordering_then (Some a) (partial_ordering_then (Some b) (Some c))) ≡ is_le (ordering_then a (ordering_then b c))
@@ -35,3 +35,6 @@ pub loop-era-preserved : goal.loop-era-preserved
 loop-era-preserved c =
     let on = c.args.on in
     c.loop-era.invariant ∙ last_era-past (has_started (date on.year on.month on.day)) _ _ c.in-Some.era c.in-Some.ensures.steps (tested c.in-Some.era on.year on.month on.day _ _ c.le.ensures c.if-le.false)
+
+pub loop-era-smaller : goal.loop-era-smaller
+loop-era-smaller c = fewer-left c.loop-era.eras c.next_back.new.self c.in-Some.era c.in-Some.ensures.steps

@@ -3,7 +3,7 @@ use Rattle.cal_model.specs.YearNames.{is_code}
 use Rattle.cal_gregory.specs.JapaneseEraList.{ListedEra, last_era}
 use Rattle.cal_gregory.specs.JapaneseEras.{listed_eras}
 use Rattle.cal_gregory.specs.laws.JapaneseLaws.{FoundNear, listed-near}
-use Rattle.cal_gregory.proofs.JapaneseEraLemmas.{last_era-passes, last_era-past}
+use Rattle.cal_gregory.proofs.JapaneseEraLemmas.{fewer-left, last_era-passes, last_era-past}
 use Rattle.cal_gregory.proofs.japanese_eras.JapaneseEras.with_code.Goals as goal
 
 -- what the test of the bytes says of the code
@@ -25,3 +25,6 @@ pub loop-era-preserved : goal.loop-era-preserved
 loop-era-preserved c =
     let text = c.args.code.now in
     c.loop-era.invariant ∙ last_era-past (λ e. is_code text e.1) _ _ c.in-Some.era c.in-Some.ensures.steps (tested text c.in-Some.era.1 _ _ _ c.as_bytes.ensures.value c.eq.ensures c.if-eq.false)
+
+pub loop-era-smaller : goal.loop-era-smaller
+loop-era-smaller c = fewer-left c.loop-era.eras c.next_back.new.self c.in-Some.era c.in-Some.ensures.steps
