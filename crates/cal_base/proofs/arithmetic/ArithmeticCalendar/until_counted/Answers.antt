@@ -2,6 +2,3 @@ use Rattle.cal_base.proofs.arithmetic.ArithmeticCalendar.until_counted.Goals as 
 
 pub returns-clause-until : goal.returns-clause-until
 returns-clause-until g c = rw (c.own_date.ensures.same, c.own_date-2.ensures.same) at c.until_counted.ensures.until
-
-pub returns-clause-ticks : goal.returns-clause-ticks
-returns-clause-ticks g c = rw (c.own_date.ensures.same, c.own_date-2.ensures.same) at c.until_counted.ensures.ticks
