@@ -1,10 +1,13 @@
-use Rattle.std.proofs.Common.{◌≡◌, ℕ, suc, ◌+◌, ◌<◌, Option, Some, ℤ, pos, FitsSigned, to_z, of_z, w32, rules, refl, sym, ap, subst, ◌∙◌, arith, length, get_or}
+use Rattle.std.proofs.Common.{◌≡◌, Bool, true, false, ℕ, suc, ◌+◌, ◌<◌, Option, Some, ℤ, pos, FitsSigned, to_z, of_z, w32, rules, refl, sym, ap, subst, ◌∙◌, arith, length, get_or}
 use Rattle.cal_days.proofs.Signed.{signed}
 use Rattle.std.proofs.lemmas.Option.{slice_get-get_or, slice_get_within}
 use Rattle.cal_rows.specs.laws.FaultLaws.{fault_refuses}
 use Rattle.cal_rows.specs.laws.RowLaws.{row_before-next, rows_before_next}
 use Rattle.cal_julian.specs.PersianAccepted.{IsListed, MeetsAll, meets_at, year_before}
 use Rattle.cal_julian.proofs.persian_corrections.check.Goals as goal
+
+differ : ◌≡◌ {A = Bool} false true → ⊥
+differ e = cc
 
 pub loop-index-preserved : goal.loop-index-preserved
 loop-index-preserved c =
@@ -34,7 +37,7 @@ returns-in-Some-clause-first c =
 
 pub returns-in-Some-clause-exact : goal.returns-in-Some-clause-exact
 returns-in-Some-clause-exact c =
-    (λ ok. absurd cc, λ accepted. absurd (fault_refuses (meets_at c.args.years.now) c.args.years.now _ (returns-in-Some-clause-first c) accepted))
+    (λ ok. absurd (differ ok), λ accepted. absurd (fault_refuses (meets_at c.args.years.now) c.args.years.now _ (returns-in-Some-clause-first c) accepted))
 
 pub returns-clause-first : goal.returns-clause-first
 returns-clause-first c i y h =
