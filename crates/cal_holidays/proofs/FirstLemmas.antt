@@ -165,11 +165,3 @@ module _ (names : ℕ → ℤ → Bool) (count : ℕ) where
       (λ m q h before.
       let place : q % 64 < 64 = omega arith in
       behind_first (IsInPlace (q % 64)) s (get_or firsts (q % 64) None) f (each (q % 64) place) (not (q % 64) place) m q (restated IsAny (IsInPlace (q % 64)) s m q (λ _. refl) h) before)
-
-    after : (o : Option First) (x : First) → IsNotBefore o x → (IsBefore x.day x.rule f.day f.rule → ⊥) → IsNotBefore o f
-    after None x h k = tt
-    after (Some y) x h k = not_before y.day y.rule x.day x.rule f.day f.rule h k
-
-    below : (b : Option First) → IsEarliest all n b → IsNotBefore b f → (i : ℕ) → i < n → IsNotBefore (get_or all i None) f
-    below None h k i l = subst (λ o. IsNotBefore o f) (sym (h i l)) tt
-    below (Some x) h k i l = after (get_or all i None) x (h.1 i l) k

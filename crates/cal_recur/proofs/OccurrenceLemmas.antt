@@ -360,12 +360,6 @@ lands-occurrence c law shift t Months k n limits valid l = of-lands c law shift 
 lands-occurrence c law shift t Weeks k n limits valid l = of-lands c law shift t 0 0 k 0 n limits valid l
 lands-occurrence c law shift t Days k n limits valid l = of-lands c law shift t 0 0 0 k n limits valid l
 
-      limits : (unit : DateDurationUnit) → within_limits shift t (units unit 0) ≡ true
-      limits Years = year
-      limits Months = year
-      limits Weeks = year
-      limits Days = year
-
 -- occurrences rise, and where there is one there are all before it
 pub occurrence-earlier : (c : CalendarList) → IsLawful c → (shift : ℤ) (t : Date) → IsValidDate c t → IsFieldYear (t.year +ℤ shift) → (unit : DateDurationUnit) (k l : ℕ) → k < l → (m : ℤ) → occurrence c shift t unit Constrain l ≡ Some m → (n : ℤ) × (occurrence c shift t unit Constrain k ≡ Some n) × (n <ℤ m)
 occurrence-earlier c law shift t h field unit k l lt m e =
@@ -417,10 +411,6 @@ occurrence-sum c law shift t Years k o r p = day_after-sum c law shift t k 0 0 0
 occurrence-sum c law shift t Months k o r p = day_after-sum c law shift t 0 k 0 0 o r p
 occurrence-sum c law shift t Weeks k o r p = day_after-sum c law shift t 0 0 k 0 o r p
 occurrence-sum c law shift t Days k o r p = day_after-sum c law shift t 0 0 0 k o r p
-
-      not_refused : (b : Bool) (P : Type 0) (v : Date) → MatchBool b P (ok ≡ Err fault.Overflow) → b ≡ true
-      not_refused true P v p = refl
-      not_refused false P v p = cc
 
 -- ---- a sum has an answer
 
