@@ -209,8 +209,13 @@ fn records_and_laws(rt: HostRuntime) -> Result<(), Fail> {
     let record = IxdtfRecord { date, calendar };
     let date = Date::try_from_ixdtf_record(&record, Hebrew)?;
     assert!(rt; date.era_year().year == 5784);
-    let (date, rd) = Date::try_from_ixdtf_record_with_rd(&record, Hebrew)?;
-    assert!(rt; rd.to_i64_date() == 738946);
+    match Date::try_from_ixdtf_record_with_rd(&record, Hebrew) {
+        Ok((date, rd)) => {
+            assert!(rt; rd.to_i64_date() == 738946);
+            assert!(rt; date.era_year().year == 5784);
+        }
+        Err(_) => assert!(rt; false),
+    }
 
     let date = Date::from_rata_die(RataDie::new(738946), Iso);
     assert!(rt; laws::date_of_its_day(&date).same_date(&date));
