@@ -51,6 +51,10 @@ pub enum HijriCalendarAlgorithm {
 
 impl CalendarAlgorithm {
     /// The algorithm's name, such as `gregory` or `islamic-civil`.
+    ///
+    /// ```
+    /// assert!(rt; CalendarAlgorithm::Gregory.as_str() == "gregory");
+    /// ```
     pub fn as_str(&self) -> &'static str
         ensures value { result.now ≡ algorithm_name self.now }
         ensures read { algorithm_named result.now ≡ Some self.now }
@@ -78,6 +82,10 @@ impl CalendarAlgorithm {
     }
 
     /// The algorithm with this name. None exactly where no algorithm has it.
+    ///
+    /// ```
+    /// assert!(rt; CalendarAlgorithm::from_name(b"hebrew") == Some(CalendarAlgorithm::Hebrew));
+    /// ```
     pub fn from_name(bytes: &[u8]) -> Option<CalendarAlgorithm>
         ensures value { result ≡ algorithm_named bytes.now }
         ensures name { IfSome result (λ a. algorithm_name a ≡ bytes.now) }

@@ -18,6 +18,14 @@ pub struct CalendarPreference {
 impl CalendarPreference {
     /// The algorithm that is meant: the default where none is given, the default kind for `islamic` alone, and any
     /// other as it is.
+    ///
+    /// ```
+    /// let preference = CalendarPreference {
+    ///     default_algorithm: CalendarAlgorithm::Gregory,
+    ///     default_hijri_algorithm: HijriCalendarAlgorithm::Umalqura,
+    /// };
+    /// assert!(rt; preference.resolve(None) == CalendarAlgorithm::Gregory);
+    /// ```
     pub fn resolve(&self, unresolved: Option<CalendarAlgorithm>) -> CalendarAlgorithm
         ensures { result ≡ resolved self.now unresolved }
     {

@@ -1,11 +1,17 @@
 //! Any of the calendars, chosen at run time.
 
-ghost use Rattle.std.specs.Prelude.{◌≡◌};
+ghost use Rattle.std.specs.Prelude.{◌≡◌, ◌<◌, IsTrue};
+ghost use Rattle.cal_model.specs.Difference.{largest_unit_of};
+ghost use Rattle.cal_model.specs.Until.{IsUntil};
 ghost use Rattle.cal_any.specs.AnyOrder.{any_eq, any_cmp};
 ghost use Rattle.cal_any.specs.laws.AnyOrderLaws.{any_alike, any_equal, any_partial_order};
 ghost use Rattle.cal_any.specs.AnySystem.{any_system, any_date, any_belongs, any_compatible};
 ghost use Rattle.cal_any.specs.AnySystem.{any_is_cheap, any_algorithm, any_name};
 
+use crate::date_questions::{
+    DateQuestion, DayInMonth, DayInYear, DayNumber, DaysInMonth, DaysInYear, ExtendedYear,
+    IsInLeapYear, MonthsInYear, NamedMonth, NamedYear,
+};
 use cal_arith::Steps;
 use cal_base::scaffold::UnstableSealed;
 use cal_base::{AsCalendar, Calendar, Iso, IsoDateInner};
@@ -22,10 +28,11 @@ use cal_julian::{Indian, IndianDateInner, Julian, JulianDateInner, Persian, Pers
 use cal_types::{
     CalendarAlgorithm, DateAddError, DateAddOptions, DateDifferenceOptions, DateDuration,
     DateFields, DateFromFieldsError, DateFromFieldsOptions, DateNewError, DayOfMonth, DayOfYear,
-    IntoYearInfo, MismatchedCalendarError, Month, MonthInfo, YearInfo, YearInput,
+    MismatchedCalendarError, Month, MonthInfo, YearInfo, YearInput,
 };
 use std::cmp::Ordering;
-use std::sync::ledger::Ledger;
+use std::marker::Brand;
+use std::sync::ledger::{Blank, Ledger};
 
 /// Any of the calendars.
 ///
@@ -280,7 +287,7 @@ impl<'t> PartialEq for AnyDateInner<'t> {
     ghost laws = { any_alike };
 
     fn eq(&self, other: &Self) -> bool {
-        if_same_variant!((self, AnyDateInner(date)), (other, AnyDateInner(other)) => date == other, else false)
+        matches!(self.partial_cmp(other), Some(Ordering::Equal))
     }
 }
 
@@ -296,6 +303,39 @@ impl<'t> PartialOrd for AnyDateInner<'t> {
     fn partial_cmp(&self, other: &Self) -> Option<Ordering> {
         if_same_variant!((self, AnyDateInner(date)), (other, AnyDateInner(other)) => Some(date.cmp(other)), else None)
     }
+}
+
+/// What a question is answered in the calendar that is held, of an inner date of the same variant.
+fn ask<'t, Q: DateQuestion>(
+    question: &Q,
+    calendar: &AnyCalendar<'t>,
+    date: &AnyDateInner<'t>,
+) -> Q::Answer
+    requires { IsTrue (any_belongs calendar.now date.now) }
+    ensures { Q.answers (any_system calendar.now) (any_date calendar.now date.now) result }
+{
+    with_date!(calendar, date, held => question.ask(held, date))
+}
+
+/// The difference by a counter that nobody reads.
+fn until_with_blank<'t, L: Ledger>(
+    calendar: &AnyCalendar<'t>,
+    date1: &AnyDateInner<'t>,
+    date2: &AnyDateInner<'t>,
+    options: DateDifferenceOptions,
+    blank: Blank,
+) -> DateDuration
+    requires first { IsTrue (any_belongs calendar.now date1.now) }
+    requires second { IsTrue (any_belongs calendar.now date2.now) }
+    requires name { blank.name ≡ L.name }
+    requires parts { blank.parts ≡ L.parts }
+    requires some { 0 < blank.parts }
+    ensures { let s = any_system calendar.now in let t = any_date calendar.now date1.now in
+        let u = any_date calendar.now date2.now in
+        IsUntil s.list s.year_shift t u (largest_unit_of options.largest_unit) result }
+{
+    let mut steps = Steps::<L>::new(blank);
+    calendar.until_counted(date1, date2, options, &mut steps)
 }
 
 impl<'t> UnstableSealed for AnyCalendar<'t> {}
@@ -355,43 +395,43 @@ impl<'t> Calendar for AnyCalendar<'t> {
     }
 
     fn to_rata_die(&self, date: &AnyDateInner<'t>) -> RataDie {
-        with_date!(self, date, calendar => calendar.to_rata_die(date))
+        ask(&DayNumber, self, date)
     }
 
     fn months_in_year(&self, date: &AnyDateInner<'t>) -> u8 {
-        with_date!(self, date, calendar => calendar.months_in_year(date))
+        ask(&MonthsInYear, self, date)
     }
 
     fn days_in_year(&self, date: &AnyDateInner<'t>) -> u16 {
-        with_date!(self, date, calendar => calendar.days_in_year(date))
+        ask(&DaysInYear, self, date)
     }
 
     fn days_in_month(&self, date: &AnyDateInner<'t>) -> u8 {
-        with_date!(self, date, calendar => calendar.days_in_month(date))
+        ask(&DaysInMonth, self, date)
     }
 
     fn is_in_leap_year(&self, date: &AnyDateInner<'t>) -> bool {
-        with_date!(self, date, calendar => calendar.is_in_leap_year(date))
+        ask(&IsInLeapYear, self, date)
     }
 
     fn year_info(&self, date: &AnyDateInner<'t>) -> YearInfo {
-        with_date!(self, date, calendar => calendar.year_info(date).into_year_info())
+        ask(&NamedYear, self, date)
     }
 
     fn extended_year(&self, date: &AnyDateInner<'t>) -> i32 {
-        with_date!(self, date, calendar => calendar.extended_year(date))
+        ask(&ExtendedYear, self, date)
     }
 
     fn month(&self, date: &AnyDateInner<'t>) -> MonthInfo {
-        with_date!(self, date, calendar => calendar.month(date))
+        ask(&NamedMonth, self, date)
     }
 
     fn day_of_month(&self, date: &AnyDateInner<'t>) -> DayOfMonth {
-        with_date!(self, date, calendar => calendar.day_of_month(date))
+        ask(&DayInMonth, self, date)
     }
 
     fn day_of_year(&self, date: &AnyDateInner<'t>) -> DayOfYear {
-        with_date!(self, date, calendar => calendar.day_of_year(date))
+        ask(&DayInYear, self, date)
     }
 
     fn add(
@@ -409,7 +449,7 @@ impl<'t> Calendar for AnyCalendar<'t> {
         date2: &AnyDateInner<'t>,
         options: DateDifferenceOptions,
     ) -> DateDuration {
-        with_two_dates!(self, date1, date2, calendar => calendar.until(date1, date2, options))
+        until_with_blank::<Brand>(self, date1, date2, options, Blank::new(1))
     }
 
     fn until_counted<L: Ledger>(

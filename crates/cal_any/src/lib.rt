@@ -3,6 +3,7 @@
 
 mod any_calendar;
 mod any_calendar_new;
+mod date_questions;
 mod kind_held;
 
 pub use any_calendar::{AnyCalendar, AnyDateInner};

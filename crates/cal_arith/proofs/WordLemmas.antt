@@ -11,9 +11,6 @@ word x y e h = omega (arith, signed, e, h)
 pub next_word : (y : ℤ) → IsRuleYear y → to_z w32 (of_z w32 (to_z w32 (of_z w32 y) +ℤ pos 1)) ≡ y +ℤ pos 1
 next_word y h = omega (arith, signed, h)
 
-pub next_fits : (x y : ℤ) → x ≡ y → IsRuleYear y → IsRuleYear x
-next_fits x y e h = (omega (arith, signed, e, h.0), omega (arith, signed, e, h.1))
-
 -- a year that fields may name is one of the rules
 pub field-rule : (y : ℤ) → IsFieldYear y → IsRuleYear y
 field-rule y h = (omega (arith, signed, h.0), omega (arith, signed, h.1))

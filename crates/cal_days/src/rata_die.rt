@@ -34,6 +34,11 @@ impl Model for RataDie {
 
 impl RataDie {
     /// The day of a number from -2^55 to 2^55 - 1.
+    ///
+    /// ```
+    /// let day = RataDie::new(738946); // 2024-03-01
+    /// assert!(rt; day.to_i64_date() == 738946);
+    /// ```
     pub const fn new(value: i64) -> RataDie
         requires { IsHeld value }
         ensures { result ≡ value }
@@ -42,6 +47,10 @@ impl RataDie {
     }
 
     /// The number of the day.
+    ///
+    /// ```
+    /// assert!(rt; RataDie::new(1).to_i64_date() == 1); // 0001-01-01
+    /// ```
     pub const fn to_i64_date(self) -> i64
         ensures value { result ≡ self }
         ensures range { IsHeld result }
@@ -50,6 +59,10 @@ impl RataDie {
     }
 
     /// How many days lie from `other` to this day; negative where this day is the earlier one.
+    ///
+    /// ```
+    /// assert!(rt; RataDie::new(738946).since(RataDie::new(738915)) == 31); // from 2024-01-30
+    /// ```
     pub const fn since(self, other: RataDie) -> i64
         ensures { result ≡ self -ℤ other }
     {
@@ -58,6 +71,10 @@ impl RataDie {
 
     /// The day that lies `days` days later, or earlier where `days` is negative. `None` exactly where its
     /// number isn't from -2^55 to 2^55 - 1.
+    ///
+    /// ```
+    /// assert!(rt; RataDie::new(738946).checked_add(-1) == Some(RataDie::new(738945)));
+    /// ```
     pub fn checked_add(self, days: i64) -> Option<RataDie>
         ensures some { IfSome result (λ sum. sum ≡ self +ℤ days) }
         ensures exact { IsSome result ↔ IsHeld (self +ℤ days) }

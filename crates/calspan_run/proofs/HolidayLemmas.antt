@@ -173,19 +173,8 @@ module _ (asked : HolidaysAsked) (left l t t2 : Option (List ℕ)) (reads reads2
         at_end = λ e. (h.at_end, h.within);
       }
 
--- the source failed or gave too much, or there was no memory for its bytes
+-- there was no memory for the bytes of the source
 module _ (asked : HolidaysAsked) (left l t : Option (List ℕ)) (reads reads2 w : ℕ) where
-  pub fault_serves : StopsEarly early.Fault limit left l reads reads2 → Serves (holiday_rules asked) ReadFault (outside left t reads w) (outside l t reads2 w)
-  fault_serves (bytes, took, (within, rose)) = record {
-    bytes = bytes;
-    text = [];
-    status = Done;
-    rose = rose;
-    exchanged = record { took = took; wrote = appends_none t };
-    says = (refl, refl);
-    goes_on = λ e. e;
-  }
-
   pub memory_serves : StopsEarly early.NoMemory limit left l reads reads2 → Serves (holiday_rules asked) NoMemory (outside left t reads w) (outside l t reads2 w)
   memory_serves (bytes, took, (some, within)) = record {
     bytes = bytes;

@@ -1,11 +1,37 @@
 //! The examples of the docs: months, durations, texts, weeks, windows and years.
 
 use icu_calendar::{
-    Buddhist, Date, DateDuration, Hebrew, LeapStatus, Month, MonthInfo, RataDie, TinyAsciiStr,
-    WeekInformation, Weekday, WeekdaySet, Window, published,
+    Buddhist, CalendarAlgorithm, CalendarPreference, Date, DateDuration, Hebrew,
+    HijriCalendarAlgorithm, LeapStatus, Month, MonthInfo, RataDie, TinyAsciiStr, WeekInformation,
+    Weekday, WeekdaySet, Window, published,
 };
 use std::process::Abort;
 use std::test::Fail;
+
+#[test]
+fn day_numbers(rt: HostRuntime) {
+    let day = RataDie::new(738946); // 2024-03-01
+    assert!(rt; day.to_i64_date() == 738946);
+
+    assert!(rt; RataDie::new(1).to_i64_date() == 1); // 0001-01-01
+
+    assert!(rt; RataDie::new(738946).since(RataDie::new(738915)) == 31); // from 2024-01-30
+
+    assert!(rt; RataDie::new(738946).checked_add(-1) == Some(RataDie::new(738945)));
+}
+
+#[test]
+fn names_of_algorithms(rt: HostRuntime) {
+    assert!(rt; CalendarAlgorithm::Gregory.as_str() == "gregory");
+
+    assert!(rt; CalendarAlgorithm::from_name(b"hebrew") == Some(CalendarAlgorithm::Hebrew));
+
+    let preference = CalendarPreference {
+        default_algorithm: CalendarAlgorithm::Gregory,
+        default_hijri_algorithm: HijriCalendarAlgorithm::Umalqura,
+    };
+    assert!(rt; preference.resolve(None) == CalendarAlgorithm::Gregory);
+}
 
 #[test]
 fn durations(rt: HostRuntime) -> Result<(), Fail> {
