@@ -5,7 +5,7 @@ ghost use Rattle.icu_calendar.specs.HijriLengthening.{IsNotAdded, Lengthens, lis
 ghost use Rattle.icu_calendar.specs.HijriSystem.{kept_date};
 ghost use Rattle.icu_calendar.specs.Rebasing.{IsRebased};
 
-use icu_calendar::laws::umm_al_qura_date_kept;
+use icu_calendar::laws::hijri_date_kept;
 use icu_calendar::rows::TableRows;
 use icu_calendar::{Date, Hijri, HijriTable, LengthenFault, Rebased, UmmAlQura};
 
@@ -27,7 +27,7 @@ pub fn updated_date<'u>(
         → IfOk result (λ r. r.moved ≡ false) }
 {
     match table.lengthened(rows.umm_al_qura()) {
-        Ok(longer) => Ok(umm_al_qura_date_kept(stored, Hijri::new_umm_al_qura(longer))),
+        Ok(longer) => Ok(hijri_date_kept(stored, Hijri::new_umm_al_qura(longer))),
         Err(fault) => Err(fault),
     }
 }

@@ -15,7 +15,7 @@ use crate::date::Date;
 use crate::date::rebasing::Rebased;
 use cal_base::{AsCalendar, Calendar, Ref};
 use cal_east_asian::{ChineseTraditional, KoreanTraditional};
-use cal_hijri::{AstronomicalSimulation, Hijri, UmmAlQura};
+use cal_hijri::{Hijri, TablePurpose, TableRules};
 use cal_types::{
     DateAddOptions, DateDifferenceOptions, DateFields, DateFromFieldsOptions,
     MissingFieldsStrategy, Overflow,
@@ -152,28 +152,12 @@ where
     date.rebase(calendar)
 }
 
-/// A date of Umm al-Qura, where the table is lengthened: it isn't moved where its year isn't among the rows that were
-/// added.
-pub fn umm_al_qura_date_kept<'u>(
-    date: &Date<Hijri<UmmAlQura<'_>>>,
-    calendar: Hijri<UmmAlQura<'u>>,
-) -> Rebased<Hijri<UmmAlQura<'u>>>
-    ensures rebased { let old = date.now.calendar.0.table.rows.now in let longer = calendar.entry.0.table.rows.now in
-        let c = hijri.list_with old in let d = hijri.list_with longer in
-        let t = kept_hijri date.now.inner.0.parts in let u = kept_hijri result.date.inner.0.parts in
-        IsRebased c d t u result.moved }
-    ensures stays { let old = date.now.calendar.0.table.rows.now in let longer = calendar.entry.0.table.rows.now in
-        hijri.Lengthens old longer → hijri.IsNotAdded old longer (kept_hijri date.now.inner.0.parts).year
-        → result.moved ≡ false }
-{
-    rebased_in_a_shared_year(date, calendar)
-}
-
-/// The same for the simulated calendar of Mecca.
-pub fn simulated_mecca_date_kept<'u>(
-    date: &Date<Hijri<AstronomicalSimulation<'_>>>,
-    calendar: Hijri<AstronomicalSimulation<'u>>,
-) -> Rebased<Hijri<AstronomicalSimulation<'u>>>
+/// A date of the Hijri calendar of Umm al-Qura, or as it is simulated for Mecca, where the table is lengthened: it isn't
+/// moved where its year isn't among the rows that were added.
+pub fn hijri_date_kept<'u, P: TablePurpose>(
+    date: &Date<Hijri<TableRules<'_, P>>>,
+    calendar: Hijri<TableRules<'u, P>>,
+) -> Rebased<Hijri<TableRules<'u, P>>>
     ensures rebased { let old = date.now.calendar.0.table.rows.now in let longer = calendar.entry.0.table.rows.now in
         let c = hijri.list_with old in let d = hijri.list_with longer in
         let t = kept_hijri date.now.inner.0.parts in let u = kept_hijri result.date.inner.0.parts in
