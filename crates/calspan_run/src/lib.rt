@@ -30,7 +30,7 @@ pub mod writer;
 pub use command_run::run;
 pub use generated::generator::generated_request;
 pub use generated::totals::{Totals, push_totals, totals_over};
-pub use kinds::{name_dates, show_days};
+pub use kinds::{TwoDays, name_dates, show_days};
 pub use row_refusals::{push_row_refusal, push_table_refusal};
 pub use span::answers::{Answered, Progress, answer};
 pub use span::replies::reply;

@@ -11,7 +11,7 @@ ghost use Rattle.request_lines.specs.RequestSaid.{header_said};
 ghost use Rattle.date_parts.specs.Parts.{AreNamed, IsDay};
 ghost use Rattle.calspan_run.specs.Replies.{SaysSpan, IsReply};
 
-use crate::kinds::{name_dates, show_days};
+use crate::kinds::{TwoDays, name_dates, show_days};
 use cal_kinds::AnyCalendarKind;
 use cal_tables::Tables;
 use cal_types::DateFields;
@@ -29,13 +29,15 @@ fn push_span(text: &mut Pending, parts: &SpanParts, shown: AnyCalendarKind, tabl
         → SaysSpan c (kind_system (table_contents tables.now) shown) named.from_date named.to_date unit
         text.old.items text.new.items }
 {
-    let mut from_shown = DayParts::unnamed(parts.from.rata_die);
-    let mut to_shown = DayParts::unnamed(parts.to.rata_die);
-    show_days(&mut from_shown, &mut to_shown, shown, tables);
+    let mut days = TwoDays {
+        from: DayParts::unnamed(parts.from.rata_die),
+        to: DayParts::unnamed(parts.to.rata_die),
+    };
+    show_days(&mut days, shown, tables);
     push_all(text, b"ok ");
-    push_day(text, &parts.from, &from_shown);
+    push_day(text, &parts.from, &days.from);
     text.push(b' ');
-    push_day(text, &parts.to, &to_shown);
+    push_day(text, &parts.to, &days.to);
     text.push(b' ');
     push_duration(text, &parts.duration);
     text.push(b'\n');

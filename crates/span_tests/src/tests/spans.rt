@@ -2,7 +2,7 @@
 
 ghost use Rattle.cal_days.specs.Day.{IsValidDay};
 
-use calspan_run::{name_dates, show_days};
+use calspan_run::{TwoDays, name_dates, show_days};
 use date_parts::{DayParts, SpanParts};
 use icu_calendar::{
     AnyCalendar, AnyCalendarKind, BagSide, Date, DateDifferenceOptions, DateDuration,
@@ -122,10 +122,12 @@ fn are_in_julian(parts: &SpanParts, from: Ymd, to: Ymd) -> bool
     requires from { IsValidDay parts.now.from.rata_die }
     requires to { IsValidDay parts.now.to.rata_die }
 {
-    let mut from_shown = DayParts::unnamed(parts.from.rata_die);
-    let mut to_shown = DayParts::unnamed(parts.to.rata_die);
-    show_days(&mut from_shown, &mut to_shown, JULIAN, &Tables::none());
-    is_day(&from_shown, from) && is_day(&to_shown, to)
+    let mut days = TwoDays {
+        from: DayParts::unnamed(parts.from.rata_die),
+        to: DayParts::unnamed(parts.to.rata_die),
+    };
+    show_days(&mut days, JULIAN, &Tables::none());
+    is_day(&days.from, from) && is_day(&days.to, to)
 }
 
 #[test]

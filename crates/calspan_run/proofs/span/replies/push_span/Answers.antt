@@ -17,8 +17,8 @@ returns c s first second options unit named =
       from_shown = from.date;
       to_shown = to.date;
       duration = c.args.parts.now.duration;
-      from_on = subst (λ n. IsOn other.list n from.date) (c.unnamed-from_shown.ensures ∙ named.from_parts.rata_die) from.on;
-      to_on = subst (λ n. IsOn other.list n to.date) (c.unnamed-to_shown.ensures ∙ named.to_parts.rata_die) to.on;
+      from_on = subst (λ n. IsOn other.list n from.date) (c.unnamed.ensures ∙ named.from_parts.rata_die) from.on;
+      to_on = subst (λ n. IsOn other.list n to.date) (c.unnamed-2.ensures ∙ named.to_parts.rata_die) to.on;
       until = named.until;
       says = pushed c.args.text.now.items _ _ _ _ _ _ _ _ _ _ c.push-3.new.self.items c.push_all.ensures
           (c.push_day.ensures.items s other named.from_date from.date named.from_parts from.parts) c.push.ensures.items
