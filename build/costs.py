@@ -1,0 +1,148 @@
+#!/usr/bin/env python3
+"""Measures what proofs cost: what the proof of each crate and of its tests takes of one processor, in seconds and in multiples of `rt selftest`.
+
+Each is proved with one job, as many side by side as there are processors, over libraries of statements in a folder of its own, which a later
+run takes over for crates that haven't changed. With names of crates, these are measured, and those below them that aren't built yet. With
+`--functions NAME` it proves one crate and lists its functions by what they took; the crates below are built first.
+
+Run it where nothing else runs. Machines and days differ, so a crate is compared with itself on one machine, or by the multiples.
+"""
+
+import os
+import resource
+import subprocess
+import sys
+import time
+from pathlib import Path
+from typing import NamedTuple
+
+import program
+
+# How often the unit is measured; the least counts.
+TIMES = 3
+# What of a file's name says which function it is of, and which part of its proof.
+PARTS = ("Lts", "Tie", "Proof", "Goals", "Answers", "Invariants", "Mir", "Code", "Kinds", "Met", "Laws", "Statement", "Symbol", "TheImpl", "Layout")
+
+
+class Task(NamedTuple):
+    """The proof of a crate, or that of its tests."""
+
+    name: str
+    is_of_tests: bool
+
+
+def is_program(name: str) -> bool:
+    return (program.TOP / "crates" / name / "src/main.rt").exists()
+
+
+def has_tests(name: str) -> bool:
+    return any("#[test]" in it.read_text() for it in program.files_of(name) if it.suffix == ".rt")
+
+
+def selftest() -> float:
+    """What `rt selftest` takes of one processor, at best."""
+
+    def taken() -> float:
+        used = resource.getrusage(resource.RUSAGE_CHILDREN)
+        return used.ru_utime + used.ru_stime
+
+    best = float("inf")
+    for _ in range(TIMES):
+        before = taken()
+        subprocess.run(["rt", "selftest"], stdout=subprocess.DEVNULL, stderr=subprocess.DEVNULL, check=True)
+        best = min(best, taken() - before)
+    return best
+
+
+def command(task: Task, crates: dict[str, list[str]], tools: program.Kit, room: Path, kept: Path | None = None) -> list[str]:
+    """The words that prove a crate with one job. A library is built too, of statements alone, unless its work is to be kept."""
+    name = task.name
+    words = program.command(name, crates, tools, room, 1)
+    words[4] = "src/main.rt" if is_program(name) else "src/lib.rt"
+    if task.is_of_tests or kept or is_program(name) or name in program.static_libraries():
+        words[1] = "check"
+        for flag, values in (("--toolchain", 1), ("--backend", 1), ("--statements", 0), ("-o", 1)):
+            if flag in words:
+                del words[words.index(flag) : words.index(flag) + values + 1]
+    words += ["--test"] if task.is_of_tests else []
+    words += ["--incremental", str(kept)] if kept else []
+    return words
+
+
+class Measuring:
+    """The proofs that are to be measured, those under way, and the libraries that are there."""
+
+    def __init__(self, room: Path, names: list[str]):
+        self.room, self.tools = room, program.kit()
+        listed = [head.split()[0] for head, _ in program.lines_of_crates()]
+        self.crates = program.crates_below(names or listed)
+        self.wanted = set(names or listed)
+        self.sums = program.sums(self.crates, self.tools)
+        self.chains = program.longest_chains(self.crates, program.proof_seconds(self.crates))
+        self.built = {it for it in self.crates if it not in self.wanted and program.is_made(it, room, self.sums[it])}
+        tests = [Task(it, True) for it in self.crates if it in self.wanted and has_tests(it)]
+        self.left = [Task(it, False) for it in self.crates if it not in self.built] + tests
+        self.left.sort(key=lambda it: (it.is_of_tests, -self.chains[it.name]))
+        self.running: dict[int, Task] = {}
+
+    def is_ready(self, task: Task) -> bool:
+        return all(it in self.built or it not in self.crates for it in self.crates[task.name])
+
+    def begin(self, task: Task) -> None:
+        if not task.is_of_tests:
+            program.clear(task.name, self.room)
+        log = self.room / f"{task.name}{'.tests' if task.is_of_tests else ''}.log"
+        with log.open("w") as out:
+            words = command(task, self.crates, self.tools, self.room)
+            process = subprocess.Popen(words, cwd=program.TOP / "crates" / task.name, stdin=subprocess.DEVNULL, stdout=out, stderr=out)
+        self.running[process.pid] = task
+        self.left.remove(task)
+
+    def each(self, lanes: int):
+        """What each proof takes, as it ends."""
+        while self.left or self.running:
+            for task in [it for it in self.left if self.is_ready(it)][: lanes - len(self.running)]:
+                self.begin(task)
+            pid, said, usage = os.wait4(-1, 0)
+            task = self.running.pop(pid)
+            if os.waitstatus_to_exitcode(said):
+                sys.exit(f"{task.name} isn't proved: see {self.room}")
+            if not task.is_of_tests:
+                self.built.add(task.name)
+                (self.room / f"{task.name}.sum").write_text(self.sums[task.name])
+            yield task, usage.ru_utime + usage.ru_stime
+
+
+def show_functions(room: Path, name: str) -> None:
+    """Proves a crate with one job, and lists what its functions took: each file of the kept work is written as its part ends."""
+    below = [it for it in program.crates_below([name]) if it != name]
+    if below and (status := program.Build(room, below, False).whole()):
+        sys.exit(status)
+    kept = room / "kept" / f"{name}-{time.time_ns()}"
+    kept.mkdir(parents=True)
+    words = command(Task(name, False), program.crates_below([name]), program.kit(), room, kept)
+    subprocess.run(words, cwd=program.TOP / "crates" / name, stdout=subprocess.DEVNULL, stderr=subprocess.DEVNULL, check=True)
+    files = sorted((it for it in kept.rglob("*.oantt") if "records" not in it.parts), key=lambda it: it.stat().st_mtime_ns)
+    taken: dict[str, float] = {}
+    for before, it in zip(files, files[1:]):
+        function = ".".join(part for part in it.stem.split(".") if part not in PARTS)
+        taken[function] = taken.get(function, 0.0) + (it.stat().st_mtime_ns - before.stat().st_mtime_ns) / 1e9
+    for function, seconds in sorted(taken.items(), key=lambda it: -it[1])[:40]:
+        print(f"{seconds:6.1f} {function}")
+
+
+def main(words: list[str]) -> int:
+    room = program.room_of_checkout() / "costs"
+    room.mkdir(parents=True, exist_ok=True)
+    if words[:1] == ["--functions"]:
+        show_functions(room, words[1])
+        return 0
+    unit = selftest()
+    print(f"rt selftest: {unit:.0f} s")
+    for task, seconds in Measuring(room, words).each(os.cpu_count() or 1):
+        print(f"{task.name}{' (tests)' if task.is_of_tests else ''}: {seconds:.0f} s, {seconds / unit:.2f}", flush=True)
+    return 0
+
+
+if __name__ == "__main__":
+    sys.exit(main(sys.argv[1:]))
