@@ -1,9 +1,9 @@
 -- A small calendar for tests: each year has twelve months of 30 and 29 days in turn.
 use Rattle.std.proofs.Common.{ℕ, Bool, false, not, ◌&&◌, nat_le, List, [], ◌∷◌, pos}
 use Rattle.cal_types.specs.Month.{MonthParts}
-use Rattle.cal_model.specs.CalendarList.{CalendarList, Entry}
-use Rattle.cal_model.specs.Eras.{only_era_reads}
-use Rattle.cal_model.specs.YearNames.{YearNames, reference_of_known}
+use Rattle.cal_types.specs.CalendarList.{CalendarList, Entry}
+use Rattle.cal_types.specs.Eras.{only_era_reads}
+use Rattle.cal_types.specs.YearNames.{YearNames, reference_of_known}
 use Rattle.std.specs.Prelude.{codes}
 
 -- the plain month of a number, with its days

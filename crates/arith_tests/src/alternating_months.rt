@@ -157,8 +157,8 @@ impl DateFieldsResolver for AlternatingMonths {
     ghost use Rattle.arith_tests.specs.AlternatingMonths.{alternating_names};
     ghost use Rattle.arith_tests.specs.laws.AlternatingMonthLaws.{alternating_reference-kind};
     ghost use Rattle.std.specs.Prelude.{codes};
-    ghost use Rattle.cal_model.proofs.EraLemmas.{only_era_reads-in_range, only_era_reads-covered};
-    ghost use Rattle.cal_model.proofs.YearNameLemmas.{reference_of_known-stands};
+    ghost use Rattle.cal_types.proofs.EraLemmas.{only_era_reads-in_range, only_era_reads-covered};
+    ghost use Rattle.cal_types.proofs.YearNameLemmas.{reference_of_known-stands};
 
     ghost names = { λ _. alternating_names };
 

@@ -4,3 +4,7 @@ pub mod Memory
 pub mod Plain
 pub mod Standard
 pub mod Whole
+pub mod Lines
+pub mod Buffer
+pub mod Looks
+pub mod Reader

@@ -4,10 +4,19 @@
 //! faults, and an error comes only where that count rose. An object that knows its bytes tells
 //! them to contracts, as those in memory do, so that what a program reads and writes can be stated
 //! exactly. Over standard input and output the same contracts hold and no content is told.
+//!
+//! A [`Reader`] reads the lines of any source, in chunks and without memory of its own. It holds one chunk of bytes and
+//! looks for the next LF in it, and a [`LineBuffer`] holds a prefix of the line that is read. Reading is a pull:
+//! [`Reader::next_line`] looks at the chunk alone, and [`Reader::fill`] reads the next chunk, so that a caller can do
+//! other work between the two.
 #![tactic(auto)]
 
+mod buffer;
+#[cfg(test)]
+mod line_tests;
 mod memory;
 mod plain;
+mod reader;
 mod standard;
 #[cfg(test)]
 mod tests;
@@ -19,8 +28,10 @@ ghost use Rattle.std.specs.Io.KnownBytes.{ReadConsumes, WriteAppends};
 ghost use Rattle.byte_io.specs.Faults.{HasCause};
 ghost use Rattle.byte_io.specs.Bytes.{WritesSome};
 
+pub use buffer::LineBuffer;
 pub use memory::{MemorySink, MemorySource};
 pub use plain::{PlainSink, PlainSource};
+pub use reader::{Filled, LIMIT, Next, Reader};
 pub use standard::{StdSink, StdSource};
 pub use whole::{ReadAllError, read_all};
 

@@ -4,7 +4,7 @@ use Rattle.std.proofs.lemmas.Int.{by_lt_z}
 use Rattle.cal_days.specs.Day.{IsBetween, IsFieldYear}
 use Rattle.cal_days.proofs.Signed.{signed}
 use Rattle.cal_types.specs.MonthParts.{month_parts}
-use Rattle.cal_model.specs.CalendarList.{CalendarList, Date, IsLawful, IsOn}
+use Rattle.cal_types.specs.CalendarList.{CalendarList, Date, IsLawful, IsOn}
 use Rattle.cal_anniversary.specs.Asking.{IsAsked}
 use Rattle.cal_anniversary.specs.Listing.{AreInYears, IsListing, days_left}
 use Rattle.cal_types.specs.WindowDays.{IsAfter}

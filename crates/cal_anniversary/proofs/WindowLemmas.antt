@@ -5,16 +5,16 @@ use Rattle.cal_days.specs.Day.{IsBetween, IsValidDay}
 use Rattle.cal_days.specs.Sums.{years_up}
 use Rattle.cal_days.proofs.Signed.{signed}
 use Rattle.cal_types.specs.Month.{MonthParts}
-use Rattle.cal_model.specs.CalendarList.{CalendarList, IsLawful}
-use Rattle.cal_model.proofs.DateTests.{not_true}
-use Rattle.cal_model.specs.Anniversary.{is_anniversary, anniversaries_between}
+use Rattle.cal_types.specs.CalendarList.{CalendarList, IsLawful}
+use Rattle.cal_types.proofs.DateTests.{not_true}
+use Rattle.cal_types.specs.Anniversary.{is_anniversary, anniversaries_between}
 use Rattle.cal_anniversary.specs.Listing.{AreInYears, anniversaries_in}
 use Rattle.cal_types.specs.WindowDays.{IsAfter}
 use Rattle.cal_types.specs.Windows.{days_from, days_between}
 use Rattle.cal_anniversary.specs.YearlyDays.{IsOfYear, IsFirst, HasNone}
 use Rattle.cal_types.specs.declared.leaping.Leaping.{Leaping}
 use Rattle.cal_types.specs.declared.window.Window.{Window}
-use Rattle.cal_model.proofs.AnniversaryLemmas.{anniversary-true, true-anniversary}
+use Rattle.cal_types.proofs.AnniversaryLemmas.{anniversary-true, true-anniversary}
 use Rattle.cal_anniversary.proofs.YearLemmas.{one_of_year, years_rise}
 
 filter-step : (test : ℤ → Bool) (n : ℤ) (count : ℕ) (b : Bool) → test n ≡ b → filter test (days_from n (suc count)) ≡ cond b (n ∷ filter test (days_from (n +ℤ pos 1) count)) (filter test (days_from (n +ℤ pos 1) count))

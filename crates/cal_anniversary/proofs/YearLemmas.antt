@@ -12,18 +12,18 @@ use Rattle.cal_types.specs.declared.options.Overflow.TheVariants as overflow
 use Rattle.cal_types.specs.declared.options.MissingFieldsStrategy.TheVariants as missing
 use Rattle.cal_errors.specs.declared.errors.DateFromFieldsError.{DateFromFieldsError}
 use Rattle.cal_errors.specs.declared.errors.DateFromFieldsError.TheVariants.{InvalidDay}
-use Rattle.cal_model.specs.CalendarList.{CalendarList, Date, date, IsDate, IsOn, IsLawful, month_at, month_length, day_number, spot}
-use Rattle.cal_model.specs.YearNames.{YearNames}
-use Rattle.cal_model.specs.Resolving.{Resolved, resolve, after, resolved_place, resolved_in_month, resolved_day, valid_date, same_place}
-use Rattle.cal_model.proofs.ListLemmas.{place_of-some, spot-place, day_number-rises}
-use Rattle.cal_model.proofs.ResolvingLemmas.{after-ok, valid_date-ok, resolve-date}
+use Rattle.cal_types.specs.CalendarList.{CalendarList, Date, date, IsDate, IsOn, IsLawful, month_at, month_length, day_number, spot}
+use Rattle.cal_types.specs.YearNames.{YearNames}
+use Rattle.cal_types.specs.Resolving.{Resolved, resolve, after, resolved_place, resolved_in_month, resolved_day, valid_date, same_place}
+use Rattle.cal_types.proofs.ListLemmas.{place_of-some, spot-place, day_number-rises}
+use Rattle.cal_types.proofs.ResolvingLemmas.{after-ok, valid_date-ok, resolve-date}
 use Rattle.cal_types.specs.Leaping.{overflow_for}
-use Rattle.cal_model.specs.Anniversary.{IsNamed}
+use Rattle.cal_types.specs.Anniversary.{IsNamed}
 use Rattle.cal_anniversary.specs.Asking.{IsAsked}
 use Rattle.cal_anniversary.specs.YearlyDays.{IsOfYear, HasNone}
 use Rattle.cal_types.specs.declared.leaping.Leaping.{Leaping}
 use Rattle.cal_types.specs.declared.leaping.Leaping.TheVariants.{Exact, Constrain}
-use Rattle.cal_model.proofs.AnniversaryLemmas.{rank-injective, named-spot}
+use Rattle.cal_types.proofs.AnniversaryLemmas.{rank-injective, named-spot}
 
 -- a year, a month and a day resolve to the day of the month's spot
 resolve-year : (c : CalendarList) (names : YearNames) (y : ℤ) (m : MonthParts) (d : ℕ) (o : Overflow) → is_field_year y ≡ true → c.is_of_kind m ≡ true → resolve c names (year_month_day y m d) o missing.Reject ≡ after (after (resolved_place (spot c y m o)) (λ (i : ℕ). same_place None i)) (λ (i : ℕ). resolved_in_month c y i o d)

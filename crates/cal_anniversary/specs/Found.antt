@@ -1,7 +1,7 @@
 -- The first anniversary of some years.
 use Rattle.std.specs.Prelude.{ℕ, MatchOption, Option, ℤ, pos, ◌+ℤ◌}
 use Rattle.cal_types.specs.Month.{MonthParts}
-use Rattle.cal_model.specs.CalendarList.{CalendarList}
+use Rattle.cal_types.specs.CalendarList.{CalendarList}
 use Rattle.cal_anniversary.specs.YearlyDays.{HasNone, IsFirst}
 use Rattle.cal_types.specs.declared.leaping.Leaping.{Leaping}
 use Rattle.cal_anniversary.specs.declared.yearly_day.Found.{Found}

@@ -3,8 +3,8 @@ use Rattle.std.specs.Prelude.{◌≡◌, ℕ, MatchOption, List, [], Option, Som
 use Rattle.cal_days.specs.Day.{IsBetween}
 use Rattle.cal_types.specs.Month.{MonthParts}
 use Rattle.cal_types.specs.MonthParts.{month_parts}
-use Rattle.cal_model.specs.CalendarList.{CalendarList}
-use Rattle.cal_model.specs.Anniversary.{anniversaries_between}
+use Rattle.cal_types.specs.CalendarList.{CalendarList}
+use Rattle.cal_types.specs.Anniversary.{anniversaries_between}
 use Rattle.cal_anniversary.specs.Asking.{IsAsked}
 use Rattle.cal_types.specs.WindowDays.{IsAfter}
 use Rattle.cal_anniversary.specs.YearlyDays.{IsOfYear}

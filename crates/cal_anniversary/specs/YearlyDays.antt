@@ -2,8 +2,8 @@
 use Rattle.std.specs.Prelude.{◌≡◌, ℕ, MatchOption, Option, ℤ, ◌≤ℤ◌, ◌<ℤ◌}
 use Rattle.cal_days.specs.Day.{IsBetween, IsValidDay}
 use Rattle.cal_types.specs.Month.{MonthParts}
-use Rattle.cal_model.specs.CalendarList.{CalendarList, Date, IsOn}
-use Rattle.cal_model.specs.Anniversary.{IsNamed}
+use Rattle.cal_types.specs.CalendarList.{CalendarList, Date, IsOn}
+use Rattle.cal_types.specs.Anniversary.{IsNamed}
 use Rattle.cal_types.specs.declared.leaping.Leaping.{Leaping}
 
 -- a valid day is the anniversary of a year

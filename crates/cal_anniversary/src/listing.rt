@@ -3,7 +3,7 @@
 ghost use Rattle.std.specs.Prelude.{◌≡◌, IfOk, Some};
 ghost use Rattle.cal_types.specs.MonthParts.{month_parts};
 ghost use Rattle.cal_anniversary.specs.Asking.{anniversary_fault, fault_of};
-ghost use Rattle.cal_model.specs.Anniversary.{anniversaries_between};
+ghost use Rattle.cal_types.specs.Anniversary.{anniversaries_between};
 ghost use Rattle.cal_anniversary.specs.Listing.{days_left};
 
 use crate::errors::AnniversaryError;

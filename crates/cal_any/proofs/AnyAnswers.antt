@@ -6,9 +6,9 @@ use Rattle.cal_errors.specs.declared.errors.DateFromFieldsError.{DateFromFieldsE
 use Rattle.cal_errors.specs.declared.errors.DateNewError.{DateNewError}
 use Rattle.cal_types.specs.declared.options.DateFromFieldsOptions.{DateFromFieldsOptions}
 use Rattle.cal_types.specs.declared.year.YearInput.{YearInput}
-use Rattle.cal_model.specs.CalendarList.{Date}
-use Rattle.cal_model.specs.CalendarSystem.{resolve_fields}
-use Rattle.cal_model.specs.Constructing.{made_date}
+use Rattle.cal_types.specs.CalendarList.{Date}
+use Rattle.cal_types.specs.CalendarSystem.{resolve_fields}
+use Rattle.cal_types.specs.Constructing.{made_date}
 use Rattle.cal_any.specs.AnySystem.{any_system, any_date}
 use Rattle.cal_any.specs.declared.any_calendar.AnyCalendar.{AnyCalendar}
 use Rattle.cal_any.specs.declared.any_calendar.AnyDateInner.{AnyDateInner}

@@ -1,8 +1,8 @@
 -- When inner dates of any calendars are equal, and how they are ordered.
 use Rattle.std.specs.Prelude.{ℕ, pos, Bool, true, ◌&&◌, ◌==◌, Option, Some, None, if◌then◌else◌}
 use Rattle.std.specs.declared.cmp.Ordering.{Ordering}
-use Rattle.cal_model.specs.CalendarList.{Date}
-use Rattle.cal_model.specs.DateOrder.{date_eq, date_cmp}
+use Rattle.cal_types.specs.CalendarList.{Date}
+use Rattle.cal_types.specs.DateOrder.{date_eq, date_cmp}
 use Rattle.cal_base.specs.KeptDates.{kept_date as in_iso_years}
 use Rattle.cal_coptic.specs.CopticSystem.{coptic_date}
 use Rattle.cal_coptic.specs.EthiopianSystem.{kept_date as in_coptic_years}

@@ -2,11 +2,11 @@
 use Rattle.std.specs.Prelude.{ℕ, Bool, true, false, ◌==◌, ◌&&◌, List, [], ◌∷◌, codes, Option, Some, None, ℤ, pos}
 use Rattle.std.specs.Ordering.{int_eq}
 use Rattle.std.specs.Cmp.Lexicographic.{pointwise}
-use Rattle.cal_algorithms.specs.declared.algorithm.CalendarAlgorithm.{CalendarAlgorithm}
-use Rattle.cal_algorithms.specs.declared.algorithm.CalendarAlgorithm.TheVariants as algorithm
-use Rattle.cal_model.specs.CalendarList.{CalendarList, Date, is_valid_date}
-use Rattle.cal_model.specs.CalendarSystem.{CalendarSystem}
-use Rattle.cal_model.specs.Renumbered.{counted_date}
+use Rattle.cal_errors.specs.declared.algorithm.CalendarAlgorithm.{CalendarAlgorithm}
+use Rattle.cal_errors.specs.declared.algorithm.CalendarAlgorithm.TheVariants as algorithm
+use Rattle.cal_types.specs.CalendarList.{CalendarList, Date, is_valid_date}
+use Rattle.cal_types.specs.CalendarSystem.{CalendarSystem}
+use Rattle.cal_types.specs.Renumbered.{counted_date}
 use Rattle.cal_base.specs.GregorianList.{gregorian_list}
 use Rattle.cal_base.specs.IsoSystem.{iso_system}
 use Rattle.cal_coptic.specs.CopticList.{coptic_list}
@@ -37,7 +37,7 @@ use Rattle.cal_hijri.specs.TableRules.{table_year, table_system}
 use Rattle.cal_hijri.specs.TabularRules.{tabular_year, tabular_system, are_same_rules, algorithm_of_rules}
 use Rattle.cal_hijri.specs.declared.hijri_year.HijriYear.{HijriYear}
 use Rattle.cal_hijri.specs.declared.tabular_algorithm.TabularAlgorithm.{TabularAlgorithm}
-use Rattle.cal_algorithms.specs.declared.algorithm.HijriCalendarAlgorithm.TheVariants.{Umalqura}
+use Rattle.cal_errors.specs.declared.algorithm.HijriCalendarAlgorithm.TheVariants.{Umalqura}
 use Rattle.cal_julian.specs.IndianList.{indian_list}
 use Rattle.cal_julian.specs.IndianSystem.{indian_system}
 use Rattle.cal_julian.specs.JulianList.{julian_list}

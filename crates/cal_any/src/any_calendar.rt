@@ -1,8 +1,8 @@
 //! Any of the calendars, chosen at run time.
 
 ghost use Rattle.std.specs.Prelude.{◌≡◌, ◌<◌, IsTrue};
-ghost use Rattle.cal_model.specs.Difference.{largest_unit_of};
-ghost use Rattle.cal_model.specs.Until.{IsUntil};
+ghost use Rattle.cal_types.specs.Difference.{largest_unit_of};
+ghost use Rattle.cal_types.specs.Until.{IsUntil};
 ghost use Rattle.cal_any.specs.AnyOrder.{any_eq, any_cmp};
 ghost use Rattle.cal_any.specs.laws.AnyOrderLaws.{any_alike, any_equal, any_partial_order};
 ghost use Rattle.cal_any.specs.AnySystem.{any_system, any_date, any_belongs, any_compatible};

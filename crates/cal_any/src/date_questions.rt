@@ -5,8 +5,8 @@
 
 ghost use Rattle.std.specs.Prelude.{◌≡◌, ◌↔◌, ℕ, pos, ◌+ℤ◌, IsTrue};
 ghost use Rattle.cal_types.specs.MonthInfoParts.{month_info_parts};
-ghost use Rattle.cal_model.specs.CalendarList.{Date, day_number, month_count, month_length, start_of_year, year_length};
-ghost use Rattle.cal_model.specs.CalendarSystem.{CalendarSystem, month_info_of};
+ghost use Rattle.cal_types.specs.CalendarList.{Date, day_number, month_count, month_length, start_of_year, year_length};
+ghost use Rattle.cal_types.specs.CalendarSystem.{CalendarSystem, month_info_of};
 
 use cal_base::Calendar;
 use cal_days::RataDie;

@@ -4,13 +4,13 @@ use Rattle.cal_types.specs.declared.options.Overflow.TheVariants.{Constrain}
 use Rattle.cal_types.specs.declared.duration.DateDuration.{DateDuration}
 use Rattle.cal_types.specs.declared.duration.DateDurationUnit.{DateDurationUnit}
 use Rattle.cal_types.specs.declared.duration.DateDurationUnit.TheVariants.{Years, Months, Weeks, Days}
-use Rattle.cal_model.specs.CalendarList.{CalendarList, Date, HasPlace, IsDate, day_number, month_at, month_count, month_number, spot}
-use Rattle.cal_model.specs.WithinYear.{Leads}
-use Rattle.cal_model.specs.Difference.{toward, Reaches, YearsSurpass, MonthsSurpass, DaysSurpass, IsGreatest, IsGreatestIf, IsDifference, admits_years, admits_months, admits_weeks}
+use Rattle.cal_types.specs.CalendarList.{CalendarList, Date, HasPlace, IsDate, day_number, month_at, month_count, month_number, spot}
+use Rattle.cal_types.specs.WithinYear.{Leads}
+use Rattle.cal_types.specs.Difference.{toward, Reaches, YearsSurpass, MonthsSurpass, DaysSurpass, IsGreatest, IsGreatestIf, IsDifference, admits_years, admits_months, admits_weeks}
 use Rattle.cal_days.proofs.Signed.{signed, by_lt}
-use Rattle.cal_model.proofs.ListLemmas.{month_number-place, month_number-next}
-use Rattle.cal_model.proofs.DifferenceLemmas.{greatest_if, leads-years, toward-zero, years_surpass-far, years_surpass-near}
-use Rattle.cal_model.proofs.DifferenceLaws.{IsLeft, greatest_weeks-left, greatest_days-left}
+use Rattle.cal_types.proofs.ListLemmas.{month_number-place, month_number-next}
+use Rattle.cal_types.proofs.DifferenceLemmas.{greatest_if, leads-years, toward-zero, years_surpass-far, years_surpass-near}
+use Rattle.cal_types.proofs.DifferenceLaws.{IsLeft, greatest_weeks-left, greatest_days-left}
 use Rattle.cal_arith.specs.Ticks.{most_ticks}
 
 -- the next place of a year has the next month

@@ -6,8 +6,8 @@ use Rattle.cal_types.specs.Month.{MonthParts}
 use Rattle.cal_types.specs.declared.options.Overflow.{Overflow}
 use Rattle.cal_errors.specs.declared.errors.MonthError.{MonthError}
 use Rattle.cal_errors.specs.declared.errors.MonthError.TheVariants.{NotInCalendar, NotInYear}
-use Rattle.cal_model.specs.CalendarList.{CalendarList, HasPlace, spot}
-use Rattle.cal_model.proofs.ListLemmas.{spot-place}
+use Rattle.cal_types.specs.CalendarList.{CalendarList, HasPlace, spot}
+use Rattle.cal_types.proofs.ListLemmas.{spot-place}
 use Rattle.cal_arith.specs.FieldNames.{era_read}
 use Rattle.cal_arith.specs.Places.{ordinal_month}
 

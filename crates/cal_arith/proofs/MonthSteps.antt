@@ -2,8 +2,8 @@
 use Rattle.std.proofs.Common.{◌≡◌, ℕ, zero, suc, ◌*◌, ℤ, pos, ◌+ℤ◌, ◌-ℤ◌, ◌*ℤ◌, ◌≤ℤ◌, ap, arith}
 use Rattle.cal_days.specs.Sums.{years_up}
 use Rattle.cal_days.proofs.Signed.{signed}
-use Rattle.cal_model.specs.CalendarList.{CalendarList, IsLawful, month_number}
-use Rattle.cal_model.proofs.ListLemmas.{month_number-next}
+use Rattle.cal_types.specs.CalendarList.{CalendarList, IsLawful, month_number}
+use Rattle.cal_types.proofs.ListLemmas.{month_number-next}
 
 -- n years have from 12 n to 13 n months
 months-of_years : (c : CalendarList) → IsLawful c → (y : ℤ) (n : ℕ) → ((month_number c y 1 +ℤ pos (12 * n)) ≤ℤ month_number c (y +ℤ pos n) 1) × (month_number c (y +ℤ pos n) 1 ≤ℤ (month_number c y 1 +ℤ pos (13 * n)))

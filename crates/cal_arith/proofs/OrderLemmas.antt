@@ -7,8 +7,8 @@ use Rattle.std.specs.declared.cmp.Ordering.{Ordering}
 use Rattle.std.specs.declared.cmp.Ordering.TheVariants.{Less, Equal, Greater}
 use Rattle.std.proofs.lemmas.Int.{by_lt_z}
 use Rattle.cal_days.proofs.Signed.{signed}
-use Rattle.cal_model.specs.CalendarList.{IsDate, day_number}
-use Rattle.cal_model.proofs.OrderLemmas.{dates-equal, dates-ordered}
+use Rattle.cal_types.specs.CalendarList.{IsDate, day_number}
+use Rattle.cal_types.proofs.OrderLemmas.{dates-equal, dates-ordered}
 use Rattle.cal_arith.specs.declared.dates.Ymd.{Ymd}
 use Rattle.cal_arith.specs.Given.{CalendarYears}
 use Rattle.cal_arith.specs.Dates.{date_of}

@@ -4,7 +4,7 @@ use Rattle.cal_types.specs.Month.{MonthParts}
 use Rattle.cal_types.specs.declared.options.Overflow.{Overflow}
 use Rattle.cal_types.specs.declared.options.Overflow.TheVariants.{Constrain}
 use Rattle.cal_errors.specs.declared.errors.MonthError.TheVariants.{NotInYear}
-use Rattle.cal_model.specs.CalendarList.{CalendarList, HasPlace, IsLawful, month_at, spot}
+use Rattle.cal_types.specs.CalendarList.{CalendarList, HasPlace, IsLawful, month_at, spot}
 use Rattle.cal_arith.specs.Places.{ordinal_month}
 
 -- a month of one year has a spot in each under Constrain

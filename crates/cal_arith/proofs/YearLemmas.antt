@@ -1,8 +1,8 @@
 -- Days of a year, counted from its first.
 use Rattle.std.proofs.Common.{◌≡◌, ℕ, ℤ, pos, ◌+◌, ◌<◌, ◌≤◌, ◌+ℤ◌, ◌-ℤ◌, ◌∙◌, arith}
 use Rattle.cal_days.proofs.Signed.{signed}
-use Rattle.cal_model.specs.CalendarList.{CalendarList, Date, date, HasPlace, IsDate, IsLawful, day_number, month_count, month_length, start_of_year, year_length}
-use Rattle.cal_model.proofs.ListLemmas.{date-in_year, day_number-first, days_before-end, days_before-next, year_length-most}
+use Rattle.cal_types.specs.CalendarList.{CalendarList, Date, date, HasPlace, IsDate, IsLawful, day_number, month_count, month_length, start_of_year, year_length}
+use Rattle.cal_types.proofs.ListLemmas.{date-in_year, day_number-first, days_before-end, days_before-next, year_length-most}
 use borrow.Author.Differences.{up, down}
 
 -- the days from the first of a year to a date of it are few, and lead to the date

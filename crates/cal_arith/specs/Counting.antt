@@ -2,8 +2,8 @@
 use Rattle.std.specs.Prelude.{◌≡◌, ◌≤◌, ◌<◌, ◌+ℤ◌, ◌*ℤ◌, ◌≤ℤ◌, ℕ, Bool, Some, pos, neg_ℤ}
 use Rattle.cal_days.specs.Day.{IsBetween, IsFieldYear}
 use Rattle.cal_types.specs.declared.options.Overflow.TheVariants.{Constrain}
-use Rattle.cal_model.specs.CalendarList.{month_at, month_number, spot}
-use Rattle.cal_model.specs.Difference.{toward}
+use Rattle.cal_types.specs.CalendarList.{month_at, month_number, spot}
+use Rattle.cal_types.specs.Difference.{toward}
 use Rattle.cal_arith.specs.declared.dates.Ymd.{Ymd}
 use Rattle.cal_arith.specs.declared.months.MonthsFrom.{MonthsFrom}
 use Rattle.cal_arith.specs.declared.months.YearMonth.{YearMonth}

@@ -1,7 +1,7 @@
 -- What contracts see of a date.
 use Rattle.std.specs.Prelude.{ℕ, Result, Ok, Err}
 use Rattle.cal_days.specs.Day.{IsValidDay}
-use Rattle.cal_model.specs.CalendarList.{Date, date, day_number, IsDate}
+use Rattle.cal_types.specs.CalendarList.{Date, date, day_number, IsDate}
 use Rattle.cal_arith.specs.declared.dates.Ymd.{Ymd}
 use Rattle.cal_arith.specs.Given.{CalendarYears, IsGiven}
 

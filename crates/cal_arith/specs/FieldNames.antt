@@ -2,7 +2,7 @@
 use Rattle.std.specs.Prelude.{ℤ, Option, Some, None, Result, Ok, Err}
 use Rattle.cal_types.specs.MonthParts.{month_parts}
 use Rattle.cal_errors.specs.declared.errors.UnknownEraError.{UnknownEraError}
-use Rattle.cal_model.specs.Resolving.{MonthName, ByMonth, ByCode, ByOrdinal, YearAndMonth, year_and_month}
+use Rattle.cal_types.specs.Resolving.{MonthName, ByMonth, ByCode, ByOrdinal, YearAndMonth, year_and_month}
 use Rattle.cal_arith.specs.Given.{CalendarYears}
 use Rattle.cal_arith.specs.declared.month_names.NamedMonth.{NamedMonth}
 use Rattle.cal_arith.specs.declared.month_names.NamedMonth.TheVariants as named

@@ -1,7 +1,7 @@
 -- A calendar's years, and the years that it gave.
 use Rattle.std.specs.Prelude.{◌≡◌, ℕ, ℤ}
 use Rattle.cal_days.specs.Day.{IsRuleYear}
-use Rattle.cal_model.specs.CalendarList.{CalendarList, HasPlace}
+use Rattle.cal_types.specs.CalendarList.{CalendarList, HasPlace}
 
 -- what a calendar's years are: the calendar as a list in extended years;
 -- the year of an extended year, and the extended year of a year;

@@ -4,7 +4,7 @@ use Rattle.cal_types.specs.Month.{MonthParts}
 use Rattle.cal_types.specs.declared.options.Overflow.{Overflow}
 use Rattle.cal_errors.specs.declared.errors.MonthError.{MonthError}
 use Rattle.cal_errors.specs.declared.errors.MonthError.TheVariants.{NotInCalendar, NotInYear}
-use Rattle.cal_model.specs.CalendarList.{CalendarList, spot}
+use Rattle.cal_types.specs.CalendarList.{CalendarList, spot}
 
 -- a month that the calendar does not know; else its spot, or that the year lacks it
 abbrev pub ordinal_month : CalendarList → ℤ → MonthParts → Overflow → Result ℕ MonthError

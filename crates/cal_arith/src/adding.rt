@@ -2,9 +2,9 @@
 
 ghost use Rattle.std.specs.Prelude.{◌≡◌, ◌+◌, ◌*◌, ◌≤◌, ◌+ℤ◌, pos, neg_ℤ, true, false, IfSome, IfNone, IfOk};
 ghost use Rattle.cal_days.specs.Day.{IsBetween, IsFieldYear, IsRuleYear, is_field_year};
-ghost use Rattle.cal_model.specs.CalendarList.{day_number, month_length, date};
-ghost use Rattle.cal_model.specs.Difference.{toward};
-ghost use Rattle.cal_model.specs.Adding.{is_addable, IsValidOn, IsSumFromMonth, IsSum};
+ghost use Rattle.cal_types.specs.CalendarList.{day_number, month_length, date};
+ghost use Rattle.cal_types.specs.Difference.{toward};
+ghost use Rattle.cal_types.specs.Adding.{is_addable, IsValidOn, IsSumFromMonth, IsSum};
 ghost use Rattle.cal_arith.specs.Given.{HasMonth, IsGiven};
 ghost use Rattle.cal_arith.specs.Dates.{answer_of, date_of, Belongs, IsGivenDate};
 ghost use Rattle.cal_arith.specs.Directions.{is_backward};

@@ -8,10 +8,10 @@ ghost use Rattle.std.specs.Ordering.{nat_cmp, on, then_cmp, as_partial_cmp, eq_o
 ghost use Rattle.std.proofs.lemmas.Cmp.{nat_cmp_total};
 ghost use Rattle.std.specs.Hash as fed;
 ghost use Rattle.cal_days.specs.Day.{IsFieldYear, IsValidDay};
-ghost use Rattle.cal_model.specs.CalendarList.{IsOn, day_number};
-ghost use Rattle.cal_model.specs.Adding.{add_overflow_of, IsSum};
-ghost use Rattle.cal_model.specs.Difference.{largest_unit_of};
-ghost use Rattle.cal_model.specs.Until.{IsUntil};
+ghost use Rattle.cal_types.specs.CalendarList.{IsOn, day_number};
+ghost use Rattle.cal_types.specs.Adding.{add_overflow_of, IsSum};
+ghost use Rattle.cal_types.specs.Difference.{largest_unit_of};
+ghost use Rattle.cal_types.specs.Until.{IsUntil};
 ghost use Rattle.cal_arith.specs.Dates.{answer_by, date_of, Belongs};
 ghost use Rattle.cal_arith.specs.Ticks.{most_ticks};
 

@@ -4,7 +4,7 @@ ghost use Rattle.std.specs.Prelude.{◌≡◌, Err, IfOk, ok_or, pos, neg_ℤ, i
 ghost use Rattle.cal_days.specs.Day.{IsCoveredYear, IsConstructorYear, is_constructor_year};
 ghost use Rattle.cal_types.specs.MonthParts.{month_parts};
 ghost use Rattle.cal_errors.specs.declared.errors.DateNewError.TheVariants.{InvalidYear, InvalidEra};
-ghost use Rattle.cal_model.specs.Constructing.{made_date, made_day, made_in_year, year_given, year_read};
+ghost use Rattle.cal_types.specs.Constructing.{made_date, made_day, made_in_year, year_given, year_read};
 ghost use Rattle.cal_arith.specs.Dates.{answer_by, answer_of, date_of, Belongs};
 ghost use Rattle.cal_arith.specs.FieldNames.{era_read};
 ghost use Rattle.cal_arith.specs.Given.{HasMonth, IsGiven};
@@ -68,7 +68,7 @@ fn extended_year_of<C: DateFieldsResolver>(
 }
 
 /// The date of a year, a month and a day, or the first fault.
-#[tactic(auto, unfolding(cal_model::specs::Constructing::made_date))]
+#[tactic(auto, unfolding(cal_types::specs::Constructing::made_date))]
 pub(crate) fn date_of_input<C: DateFieldsResolver>(
     year: YearInput<'_>,
     month: Month,

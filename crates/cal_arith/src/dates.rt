@@ -1,7 +1,7 @@
 //! Dates as a year, the place of a month and a day.
 
 ghost use Rattle.std.specs.Prelude.{◌≡◌, ◌<◌, ◌+ℤ◌, pos};
-ghost use Rattle.cal_model.specs.CalendarList.{IsOn, date, day_number, start_of_year, year_length};
+ghost use Rattle.cal_types.specs.CalendarList.{IsOn, date, day_number, start_of_year, year_length};
 ghost use Rattle.cal_days.specs.Day.{IsValidDay};
 ghost use Rattle.cal_arith.specs.Given.{IsGiven};
 ghost use Rattle.cal_arith.specs.Dates.{date_of, ymd, Belongs, IsGivenDate};

@@ -1,10 +1,10 @@
 //! The difference of two dates, as ECMAScript Temporal's NonISODateUntil.
 
 ghost use Rattle.std.specs.Prelude.{◌≡◌, ◌+◌, ◌-◌, ◌*◌, ◌<◌, ◌≤◌, ◌<ℤ◌, ◌-ℤ◌, unsigned_abs, IsTrue, false, Ok, ◌↔◌};
-ghost use Rattle.cal_model.specs.CalendarList.{date};
-ghost use Rattle.cal_model.specs.Adding.{IsSum};
-ghost use Rattle.cal_model.specs.Difference.{admits_weeks, largest_unit_of};
-ghost use Rattle.cal_model.specs.Until.{IsUntil};
+ghost use Rattle.cal_types.specs.CalendarList.{date};
+ghost use Rattle.cal_types.specs.Adding.{IsSum};
+ghost use Rattle.cal_types.specs.Difference.{admits_weeks, largest_unit_of};
+ghost use Rattle.cal_types.specs.Until.{IsUntil};
 ghost use Rattle.cal_arith.specs.Dates.{date_of, ymd, Belongs};
 ghost use Rattle.cal_arith.specs.Directions.{is_backward};
 ghost use Rattle.cal_arith.specs.Ticks.{most_ticks};

@@ -2,7 +2,7 @@
 
 ghost use Rattle.std.specs.Prelude.{◌≡◌};
 ghost use Rattle.cal_days.specs.Day.{IsFieldYear};
-ghost use Rattle.cal_model.specs.Eras.{common_era_reads, only_era_reads};
+ghost use Rattle.cal_types.specs.Eras.{common_era_reads, only_era_reads};
 ghost use Rattle.cal_arith.specs.FieldNames.{era_read};
 
 use cal_types::UnknownEraError;

@@ -5,8 +5,8 @@ ghost use Rattle.std.specs.Prelude.{◌≡◌, ◌≤◌, ◌&&◌, IfOk, IfSome
 ghost use Rattle.cal_days.specs.Day.{IsRuleYear};
 ghost use Rattle.cal_types.specs.Bag.{bag_of};
 ghost use Rattle.cal_types.specs.MonthParts.{month_parts};
-ghost use Rattle.cal_model.specs.CalendarList.{spot};
-ghost use Rattle.cal_model.specs.Resolving.{after, day_or_first, in_reference_year, in_year, is_ecma, missing_fields_of, month_of_kind, month_said, or_plain_month, overflow_of, place_in_year, resolve, resolved_in_month, resolved_in_year, resolved_number, resolved_place, same_place, same_year, valid_date, without_year, year_and_month, year_named, year_of_era};
+ghost use Rattle.cal_types.specs.CalendarList.{spot};
+ghost use Rattle.cal_types.specs.Resolving.{after, day_or_first, in_reference_year, in_year, is_ecma, missing_fields_of, month_of_kind, month_said, or_plain_month, overflow_of, place_in_year, resolve, resolved_in_month, resolved_in_year, resolved_number, resolved_place, same_place, same_year, valid_date, without_year, year_and_month, year_named, year_of_era};
 ghost use Rattle.cal_arith.specs.Dates.{answer_by, answer_of, date_of, Belongs, IsGivenDate};
 ghost use Rattle.cal_arith.specs.FieldNames.{month_name, month_of_year, seen};
 ghost use Rattle.cal_arith.specs.Given.{HasMonth, IsGiven};
@@ -360,7 +360,7 @@ fn date_in_year<C: Years>(
 }
 
 /// The date of a bag, or the first fault.
-#[tactic(auto, unfolding(cal_model::specs::Resolving::resolve))]
+#[tactic(auto, unfolding(cal_types::specs::Resolving::resolve))]
 fn date_of_fields<C: DateFieldsResolver>(
     fields: DateFields<'_>,
     overflow: Overflow,

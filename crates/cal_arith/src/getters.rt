@@ -3,7 +3,7 @@
 ghost use Rattle.std.specs.Prelude.{◌≡◌, ◌+◌, ◌+ℤ◌, pos, neg_ℤ, ◌&&◌, nat_le};
 ghost use Rattle.cal_days.specs.Day.{is_valid_day, is_covered_year};
 ghost use Rattle.cal_types.specs.MonthParts.{month_parts};
-ghost use Rattle.cal_model.specs.CalendarList.{date, day_number, is_date, is_valid_date, month_at, month_count, month_length, start_of_year, year_length};
+ghost use Rattle.cal_types.specs.CalendarList.{date, day_number, is_date, is_valid_date, month_at, month_count, month_length, start_of_year, year_length};
 ghost use Rattle.cal_arith.specs.Dates.{date_of, Belongs, IsGivenDate};
 ghost use Rattle.cal_arith.specs.Given.{IsGiven};
 

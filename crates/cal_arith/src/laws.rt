@@ -2,10 +2,10 @@
 
 ghost use Rattle.std.specs.Prelude.{◌≡◌, ℤ, pos, Ok, Result, MatchResult};
 ghost use Rattle.std.specs.Ordering.{int_cmp, int_eq};
-ghost use Rattle.cal_model.specs.CalendarList.{Date, IsValidDate, day_number};
+ghost use Rattle.cal_types.specs.CalendarList.{Date, IsValidDate, day_number};
 ghost use Rattle.cal_errors.specs.declared.errors.DateAddError.{DateAddError};
-ghost use Rattle.cal_model.specs.Adding.{IsSum};
-ghost use Rattle.cal_model.specs.Difference.{IsDifference};
+ghost use Rattle.cal_types.specs.Adding.{IsSum};
+ghost use Rattle.cal_types.specs.Difference.{IsDifference};
 ghost use Rattle.cal_arith.specs.Dates.{date_of, Belongs};
 
 use crate::arithmetic_date::ArithmeticDate;

@@ -2,7 +2,7 @@
 
 ghost use Rattle.std.specs.Prelude.{◌≡◌, option_map};
 ghost use Rattle.cal_types.specs.MonthParts.{month_parts};
-ghost use Rattle.cal_model.specs.Resolving.{month_named};
+ghost use Rattle.cal_types.specs.Resolving.{month_named};
 ghost use Rattle.cal_arith.specs.FieldNames.{month_name, seen};
 
 use cal_types::{DateFromFieldsError, Month};

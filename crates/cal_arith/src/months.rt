@@ -1,8 +1,8 @@
 //! The sequence of all months.
 
 ghost use Rattle.std.specs.Prelude.{◌≡◌, ◌≤◌, ◌<◌, ◌+◌, ◌*◌, IfSome, IsSome, pos, neg_ℤ, unsigned_abs, ◌+ℤ◌, ◌-ℤ◌, ◌*ℤ◌, ◌≤ℤ◌};
-ghost use Rattle.cal_model.specs.CalendarList.{IsMonthsAfter, month_count, month_number};
-ghost use Rattle.cal_model.specs.Difference.{toward};
+ghost use Rattle.cal_types.specs.CalendarList.{IsMonthsAfter, month_count, month_number};
+ghost use Rattle.cal_types.specs.Difference.{toward};
 ghost use Rattle.cal_arith.specs.Counting.{IsCountable, IsMonthsFrom};
 ghost use Rattle.cal_arith.specs.Given.{IsGiven};
 ghost use Rattle.cal_arith.specs.Directions.{is_backward};

@@ -2,9 +2,9 @@
 
 ghost use Rattle.std.specs.Prelude.{◌≡◌, ◌≤◌, ◌+◌, ◌+ℤ◌, ◌-ℤ◌, ◌≤ℤ◌, pos, unsigned_abs, IsTrue, false};
 ghost use Rattle.cal_days.specs.Day.{IsFieldYear};
-ghost use Rattle.cal_model.specs.CalendarList.{month_number};
-ghost use Rattle.cal_model.specs.Difference.{toward, IsBeyond, MonthsSurpass, Reaches, IsGreatest, IsGreatestIf, admits_months};
-ghost use Rattle.cal_model.proofs.DifferenceLemmas.{IsMonthOrder};
+ghost use Rattle.cal_types.specs.CalendarList.{month_number};
+ghost use Rattle.cal_types.specs.Difference.{toward, IsBeyond, MonthsSurpass, Reaches, IsGreatest, IsGreatestIf, admits_months};
+ghost use Rattle.cal_types.proofs.DifferenceLemmas.{IsMonthOrder};
 ghost use Rattle.cal_arith.specs.Counting.{IsYearsFrom};
 ghost use Rattle.cal_arith.specs.Given.{HasMonth, IsGiven};
 ghost use Rattle.cal_arith.specs.Dates.{date_of, IsGivenDate};

@@ -3,7 +3,7 @@
 ghost use Rattle.std.specs.Prelude.{◌≡◌, ◌↔◌, IsTrue};
 ghost use Rattle.cal_types.specs.Month.{month_rank};
 ghost use Rattle.cal_types.specs.MonthParts.{month_parts};
-ghost use Rattle.cal_model.specs.WithinYear.{IsPast, IsPastDay, SurpassesInYear};
+ghost use Rattle.cal_types.specs.WithinYear.{IsPast, IsPastDay, SurpassesInYear};
 ghost use Rattle.cal_arith.specs.Given.{HasMonth};
 ghost use Rattle.cal_arith.specs.Dates.{date_of};
 ghost use Rattle.cal_arith.specs.Directions.{is_backward};

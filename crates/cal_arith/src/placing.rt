@@ -7,8 +7,8 @@ ghost use Rattle.cal_days.specs.Day.{IsConstructorYear, IsCoveredYear, is_constr
 ghost use Rattle.cal_types.specs.MonthParts.{month_parts};
 ghost use Rattle.cal_errors.specs.RangeParts.{range_parts, date_fault};
 ghost use Rattle.cal_types.specs.declared.year.YearInput.TheVariants.{Extended};
-ghost use Rattle.cal_model.specs.Constructing.{made_date};
-ghost use Rattle.cal_model.specs.Placing.{lunisolar_answer, lunisolar_fault, out_of_range, placed_date, placed_day, placed_in_era, placed_in_year, placed_of_era, year_out_of_range};
+ghost use Rattle.cal_types.specs.Constructing.{made_date};
+ghost use Rattle.cal_types.specs.Placing.{lunisolar_answer, lunisolar_fault, out_of_range, placed_date, placed_day, placed_in_era, placed_in_year, placed_of_era, year_out_of_range};
 ghost use Rattle.cal_arith.specs.Dates.{answer_by, date_of, Belongs};
 ghost use Rattle.cal_arith.specs.Given.{HasMonth, IsGiven};
 
@@ -116,7 +116,7 @@ fn placed_in_extended_year<C: DateFieldsResolver>(
 }
 
 /// The date of a year, an ordinal month and a day, or the first of them that is out of its range.
-#[tactic(auto, unfolding(cal_model::specs::Placing::placed_date))]
+#[tactic(auto, unfolding(cal_types::specs::Placing::placed_date))]
 fn placed<C: DateFieldsResolver>(
     year: i32,
     month: u8,
@@ -156,7 +156,7 @@ fn placed_in_era<C: DateFieldsResolver>(
 }
 
 /// The date of an era, a year in it, an ordinal month and a day, or the first fault.
-#[tactic(auto, unfolding(cal_model::specs::Placing::placed_of_era))]
+#[tactic(auto, unfolding(cal_types::specs::Placing::placed_of_era))]
 fn placed_of_era<C: DateFieldsResolver>(
     era: &str,
     year: i32,

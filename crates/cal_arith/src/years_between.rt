@@ -2,9 +2,9 @@
 
 ghost use Rattle.std.specs.Prelude.{◌≡◌, ◌+◌, ◌+ℤ◌, Some};
 ghost use Rattle.cal_days.specs.Day.{IsFieldYear};
-ghost use Rattle.cal_model.specs.CalendarList.{month_at, spot};
-ghost use Rattle.cal_model.specs.WithinYear.{Leads};
-ghost use Rattle.cal_model.specs.Difference.{toward, YearsSurpass, IsGreatest, IsGreatestIf, admits_years};
+ghost use Rattle.cal_types.specs.CalendarList.{month_at, spot};
+ghost use Rattle.cal_types.specs.WithinYear.{Leads};
+ghost use Rattle.cal_types.specs.Difference.{toward, YearsSurpass, IsGreatest, IsGreatestIf, admits_years};
 ghost use Rattle.cal_arith.specs.Counting.{IsYearsFrom};
 ghost use Rattle.cal_arith.specs.Given.{HasMonth, IsGiven};
 ghost use Rattle.cal_arith.specs.Dates.{date_of, IsGivenDate};

@@ -1,8 +1,8 @@
 -- What an ISO year is in a list of Gregorian years that are counted from a year of their own.
 use Rattle.std.proofs.Common.{◌≡◌, ◌↔◌, ℕ, Bool, IsTrue, if◌then◌else◌, sym, ap, subst, ◌∙◌, ℤ, ◌+ℤ◌}
 use Rattle.cal_days.specs.Gregorian.{gregorian_leap, gregorian_start, gregorian_year_length}
-use Rattle.cal_model.specs.CalendarList.{date, month_length, year_length, start_of_year, day_number, IsDate, IsOn}
-use Rattle.cal_model.proofs.RenumberedLemmas.{start_of_year-renumbered, day_number-renumbered, renumbered-date, on-renumbered}
+use Rattle.cal_types.specs.CalendarList.{date, month_length, year_length, start_of_year, day_number, IsDate, IsOn}
+use Rattle.cal_types.proofs.RenumberedLemmas.{start_of_year-renumbered, day_number-renumbered, renumbered-date, on-renumbered}
 use Rattle.cal_base.specs.GregorianList.{gregorian_list, gregorian_month_length}
 use Rattle.cal_base.specs.laws.GregorianMonths.{leap_is, month_length-gregorian, year_length-gregorian}
 use Rattle.cal_base.specs.laws.GregorianLaws.{start_of_year-gregorian}

@@ -3,8 +3,8 @@
 use Rattle.std.specs.Prelude.{◌≡◌, ℕ, ◌+◌, ◌-◌, Bool, true, false, nat_le, if◌then◌else◌, List, [], ◌∷◌, take, sum_by, slice_index_or, ℤ, pos}
 use Rattle.cal_types.specs.Month.{MonthParts}
 use Rattle.cal_days.specs.Gregorian.{gregorian_leap}
-use Rattle.cal_model.specs.CalendarList.{Entry, CalendarList, days_of, no_entry}
-use Rattle.cal_model.specs.PlainMonths.{plain_entry, is_plain_month}
+use Rattle.cal_types.specs.CalendarList.{Entry, CalendarList, days_of, no_entry}
+use Rattle.cal_types.specs.PlainMonths.{plain_entry, is_plain_month}
 
 -- the months of a year, in which February has 28 or 29 days
 abbrev pub gregorian_months : Bool → List Entry

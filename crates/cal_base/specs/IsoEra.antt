@@ -2,7 +2,7 @@
 use Rattle.std.specs.Prelude.{codes, Some}
 use Rattle.cal_types.specs.declared.year.EraYear.{EraYear}
 use Rattle.cal_types.specs.declared.year.YearAmbiguity.TheVariants.{Unambiguous}
-use Rattle.cal_model.specs.CalendarList.{Date}
+use Rattle.cal_types.specs.CalendarList.{Date}
 
 -- the year of the one era is the extended year
 abbrev pub iso_era_year : Date → EraYear

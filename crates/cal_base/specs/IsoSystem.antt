@@ -1,8 +1,8 @@
 -- The ISO calendar: the Gregorian list with one era, whose code is `default`.
 use Rattle.std.specs.Prelude.{Bool, codes, pos}
-use Rattle.cal_model.specs.CalendarList.{CalendarList, Date}
-use Rattle.cal_model.specs.CalendarSystem.{CalendarSystem}
-use Rattle.cal_model.specs.Eras.{only_era_reads}
+use Rattle.cal_types.specs.CalendarList.{CalendarList, Date}
+use Rattle.cal_types.specs.CalendarSystem.{CalendarSystem}
+use Rattle.cal_types.specs.Eras.{only_era_reads}
 use Rattle.cal_base.specs.OffsetList.{offset_list}
 use Rattle.cal_base.specs.OffsetSystem.{offset_system, offset_date, kept_belongs}
 use Rattle.cal_base.specs.declared.iso.IsoDateInner.{IsoDateInner}

@@ -1,5 +1,5 @@
 -- Dates as they are kept, in years that are their numbers.
-use Rattle.cal_model.specs.CalendarList.{Date, date}
+use Rattle.cal_types.specs.CalendarList.{Date, date}
 use Rattle.cal_arith.specs.declared.dates.Ymd.{Ymd}
 use Rattle.cal_base.specs.declared.numbered_year.NumberedYear.{NumberedYear}
 

@@ -1,8 +1,8 @@
 -- The calendars with the months of the proleptic Gregorian calendar, whose years are counted from a year of their own.
 use Rattle.std.specs.Prelude.{ℤ, ◌+ℤ◌, ◌-ℤ◌}
-use Rattle.cal_model.specs.CalendarList.{CalendarList}
-use Rattle.cal_model.specs.Renumbered.{renumbered}
-use Rattle.cal_model.specs.RenumberedBounds.{IsShift}
+use Rattle.cal_types.specs.CalendarList.{CalendarList}
+use Rattle.cal_types.specs.Renumbered.{renumbered}
+use Rattle.cal_types.specs.RenumberedBounds.{IsShift}
 use Rattle.cal_arith.specs.Given.{CalendarYears}
 use Rattle.cal_base.specs.GregorianList.{gregorian_list}
 use Rattle.cal_base.specs.declared.numbered_year.NumberedYear.{NumberedYear}

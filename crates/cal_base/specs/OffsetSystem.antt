@@ -4,10 +4,10 @@ use Rattle.cal_types.specs.declared.month_info.LeapStatus.TheVariants.{Normal}
 use Rattle.cal_types.specs.declared.year.EraYear.{EraYear}
 use Rattle.cal_types.specs.declared.year.YearInfo.TheVariants.{Era}
 use Rattle.cal_days.specs.Gregorian.{gregorian_leap}
-use Rattle.cal_model.specs.CalendarList.{Date, date, month_at, is_valid_date}
-use Rattle.cal_model.specs.CalendarSystem.{CalendarSystem}
-use Rattle.cal_model.specs.PlainMonths.{is_plain_month}
-use Rattle.cal_model.specs.YearNames.{YearNames, reference_of_known}
+use Rattle.cal_types.specs.CalendarList.{Date, date, month_at, is_valid_date}
+use Rattle.cal_types.specs.CalendarSystem.{CalendarSystem}
+use Rattle.cal_types.specs.PlainMonths.{is_plain_month}
+use Rattle.cal_types.specs.YearNames.{YearNames, reference_of_known}
 use Rattle.cal_arith.specs.declared.dates.Ymd.{Ymd}
 use Rattle.cal_base.specs.declared.numbered_year.NumberedYear.{NumberedYear}
 use Rattle.cal_base.specs.GregorianList.{gregorian_list}

@@ -4,9 +4,9 @@ use Rattle.cal_days.specs.Day.{IsFieldYear}
 use Rattle.cal_types.specs.Month.{MonthParts}
 use Rattle.cal_types.specs.declared.month_info.LeapStatus.{LeapStatus}
 use Rattle.cal_types.specs.declared.year.YearInfo.{YearInfo}
-use Rattle.cal_model.specs.CalendarList.{month_at, start_of_year, is_valid_date}
-use Rattle.cal_model.specs.CalendarSystem.{CalendarSystem}
-use Rattle.cal_model.specs.YearNames.{YearNames}
+use Rattle.cal_types.specs.CalendarList.{month_at, start_of_year, is_valid_date}
+use Rattle.cal_types.specs.CalendarSystem.{CalendarSystem}
+use Rattle.cal_types.specs.YearNames.{YearNames}
 use Rattle.cal_arith.specs.declared.dates.Ymd.{Ymd}
 use Rattle.cal_arith.specs.Dates.{date_of}
 use Rattle.cal_arith.specs.Given.{CalendarYears, IsGiven}

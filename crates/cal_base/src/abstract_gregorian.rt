@@ -28,7 +28,7 @@ pub struct AbstractGregorian<Y: GregorianYears>(pub Y);
 
 impl<Y: GregorianYears> YearShapes for AbstractGregorian<Y> {
     ghost use Rattle.std.specs.Prelude.{refl};
-    ghost use Rattle.cal_model.proofs.RenumberedBoundLemmas.{near-renumbered, ranged-renumbered, apart-renumbered, covered-renumbered};
+    ghost use Rattle.cal_types.proofs.RenumberedBoundLemmas.{near-renumbered, ranged-renumbered, apart-renumbered, covered-renumbered};
     ghost use Rattle.cal_base.specs.GregorianList.{gregorian_list};
     ghost use Rattle.cal_base.specs.laws.GregorianLaws.{gregorian_list-bounded};
     ghost use Rattle.cal_base.specs.OffsetList.{offset_years};
@@ -134,8 +134,8 @@ impl<Y: GregorianYears> Years for AbstractGregorian<Y> {
 
 impl<Y: GregorianYears> DateFieldsResolver for AbstractGregorian<Y> {
     ghost use Rattle.std.specs.Prelude.{pos, ◌-ℤ◌};
-    ghost use Rattle.cal_model.specs.PlainMonths.{is_plain_month};
-    ghost use Rattle.cal_model.proofs.YearNameLemmas.{reference_of_known-stands, reference_of_known-tested};
+    ghost use Rattle.cal_types.specs.PlainMonths.{is_plain_month};
+    ghost use Rattle.cal_types.proofs.YearNameLemmas.{reference_of_known-stands, reference_of_known-tested};
     ghost use Rattle.cal_base.specs.OffsetSystem.{offset_names};
     ghost use Rattle.cal_base.specs.laws.OffsetListLaws.{offset_list-plain};
 

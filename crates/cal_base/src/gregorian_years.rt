@@ -3,9 +3,9 @@
 
 ghost use Rattle.std.specs.Prelude.{◌≡◌, ℕ, ℤ, pos, neg_ℤ, List, Option, Some};
 ghost use Rattle.cal_days.specs.Day.{IsFieldYear, IsRuleYear, IsCoveredYear, IsConstructorYear};
-ghost use Rattle.cal_algorithms.specs.declared.algorithm.CalendarAlgorithm.{CalendarAlgorithm};
+ghost use Rattle.cal_errors.specs.declared.algorithm.CalendarAlgorithm.{CalendarAlgorithm};
 ghost use Rattle.cal_types.specs.declared.year.EraYear.{EraYear};
-ghost use Rattle.cal_model.specs.CalendarList.{Date, date, IsValidDate};
+ghost use Rattle.cal_types.specs.CalendarList.{Date, date, IsValidDate};
 ghost use Rattle.cal_arith.specs.FieldNames.{era_read};
 ghost use Rattle.cal_base.specs.OffsetList.{offset_list, IsOffset};
 

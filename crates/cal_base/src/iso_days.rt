@@ -3,7 +3,7 @@
 ghost use Rattle.std.specs.Prelude.{◌≡◌, ◌↔◌, ◌≤◌, IsTrue, pos, neg_ℤ};
 ghost use Rattle.cal_days.specs.Day.{IsShiftedYear, IsBetween, IsValidDay};
 ghost use Rattle.cal_days.specs.Gregorian.{gregorian_leap};
-ghost use Rattle.cal_model.specs.CalendarList.{date, day_number, IsDate, IsOn};
+ghost use Rattle.cal_types.specs.CalendarList.{date, day_number, IsDate, IsOn};
 ghost use Rattle.cal_base.specs.GregorianList.{gregorian_list, gregorian_month_length};
 
 use crate::gregorian_months::{

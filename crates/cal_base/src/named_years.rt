@@ -9,7 +9,7 @@ ghost use Rattle.cal_types.specs.MonthParts.{month_parts};
 ghost use Rattle.cal_types.specs.declared.month_info.LeapStatus.{LeapStatus};
 ghost use Rattle.cal_types.specs.declared.month_info.LeapStatus.TheVariants.{Normal};
 ghost use Rattle.cal_types.specs.declared.year.YearInfo.{YearInfo};
-ghost use Rattle.cal_model.specs.CalendarList.{month_at};
+ghost use Rattle.cal_types.specs.CalendarList.{month_at};
 ghost use Rattle.cal_arith.specs.Given.{HasMonth, IsGiven};
 ghost use Rattle.cal_base.specs.OwnYears.{IsOwnYear, IsSharedYear};
 

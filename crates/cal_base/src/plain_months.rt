@@ -2,7 +2,7 @@
 
 ghost use Rattle.std.specs.Prelude.{◌≡◌};
 ghost use Rattle.cal_types.specs.MonthParts.{month_parts};
-ghost use Rattle.cal_model.specs.PlainMonths.{is_plain_month};
+ghost use Rattle.cal_types.specs.PlainMonths.{is_plain_month};
 ghost use Rattle.cal_base.specs.PlainPlaces.{plain_place};
 
 use cal_types::{Month, MonthError};

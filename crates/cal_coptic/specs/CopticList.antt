@@ -2,8 +2,8 @@
 -- Source: Reingold and Dershowitz, Calendrical Calculations, chapter 4.
 use Rattle.std.specs.Prelude.{ℕ, ◌-◌, Bool, if◌then◌else◌, List, [], ◌∷◌, slice_index_or, ℤ, pos}
 use Rattle.cal_days.specs.Coptic.{coptic_leap}
-use Rattle.cal_model.specs.CalendarList.{CalendarList, Entry, no_entry}
-use Rattle.cal_model.specs.PlainMonths.{plain_entry, is_plain_month}
+use Rattle.cal_types.specs.CalendarList.{CalendarList, Entry, no_entry}
+use Rattle.cal_types.specs.PlainMonths.{plain_entry, is_plain_month}
 use Rattle.cal_arith.specs.Given.{CalendarYears}
 use Rattle.cal_base.specs.declared.numbered_year.NumberedYear.{NumberedYear}
 

@@ -3,9 +3,9 @@
 -- of the ISO calendar, as ECMAScript Temporal's NonISOMonthDayToISOReferenceDate has it;
 -- that day is the 22nd of the fourth month of the Coptic year 1689.
 use Rattle.std.specs.Prelude.{ℕ, ℤ, pos, codes, ◌&&◌, ◌||◌, nat_eq, nat_le, if◌then◌else◌}
-use Rattle.cal_model.specs.Eras.{only_era_reads}
-use Rattle.cal_model.specs.PlainMonths.{is_plain_month}
-use Rattle.cal_model.specs.YearNames.{YearNames, reference_of_known}
+use Rattle.cal_types.specs.Eras.{only_era_reads}
+use Rattle.cal_types.specs.PlainMonths.{is_plain_month}
+use Rattle.cal_types.specs.YearNames.{YearNames, reference_of_known}
 
 -- 1689 up to that day, and 1688 after it; but of the years before, 1687 is the last one with a sixth epagomenal day
 abbrev pub coptic_reference_year : ℕ → ℕ → ℤ

@@ -3,8 +3,8 @@ use Rattle.std.specs.Prelude.{Bool}
 use Rattle.cal_types.specs.declared.month_info.LeapStatus.TheVariants.{Normal}
 use Rattle.cal_types.specs.declared.year.YearInfo.TheVariants.{Era}
 use Rattle.cal_days.specs.Coptic.{coptic_leap}
-use Rattle.cal_model.specs.CalendarList.{Date, is_valid_date}
-use Rattle.cal_model.specs.CalendarSystem.{CalendarSystem}
+use Rattle.cal_types.specs.CalendarList.{Date, is_valid_date}
+use Rattle.cal_types.specs.CalendarSystem.{CalendarSystem}
 use Rattle.cal_base.specs.OwnYears.{own_system}
 use Rattle.cal_base.specs.KeptDates.{kept_date}
 use Rattle.cal_coptic.specs.CopticEra.{coptic_era_year}

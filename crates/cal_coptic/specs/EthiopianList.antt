@@ -1,8 +1,8 @@
 -- The Ethiopian calendar as a list of years: those of the Coptic calendar, counted from another year in each era style.
 -- Source: Reingold and Dershowitz, Calendrical Calculations, chapter 4; the era codes of CLDR (UTS 35).
 use Rattle.std.specs.Prelude.{Bool, true, false, ℤ, pos, neg_ℤ, ◌+ℤ◌, ◌-ℤ◌}
-use Rattle.cal_model.specs.CalendarList.{CalendarList}
-use Rattle.cal_model.specs.Renumbered.{renumbered}
+use Rattle.cal_types.specs.CalendarList.{CalendarList}
+use Rattle.cal_types.specs.Renumbered.{renumbered}
 use Rattle.cal_arith.specs.Given.{CalendarYears}
 use Rattle.cal_coptic.specs.CopticList.{coptic_list, coptic_year}
 use Rattle.cal_base.specs.declared.numbered_year.NumberedYear.{NumberedYear}

@@ -1,9 +1,9 @@
 -- What the eras of the Ethiopian calendar read as, and its reference years.
 -- Source: the era codes of CLDR (UTS 35).
 use Rattle.std.specs.Prelude.{ℕ, List, Option, None, codes, ℤ, pos, ◌-ℤ◌}
-use Rattle.cal_model.specs.Eras.{only_era_reads}
-use Rattle.cal_model.specs.PlainMonths.{is_plain_month}
-use Rattle.cal_model.specs.YearNames.{YearNames, is_code, year_in_era, reference_of_known}
+use Rattle.cal_types.specs.Eras.{only_era_reads}
+use Rattle.cal_types.specs.PlainMonths.{is_plain_month}
+use Rattle.cal_types.specs.YearNames.{YearNames, is_code, year_in_era, reference_of_known}
 use Rattle.cal_coptic.specs.CopticNames.{coptic_reference_year}
 use Rattle.cal_coptic.specs.EthiopianList.{coptic_offset}
 use Rattle.cal_coptic.specs.declared.ethiopian.EthiopianEraStyle.{EthiopianEraStyle}

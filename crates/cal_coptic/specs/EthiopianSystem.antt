@@ -1,15 +1,15 @@
 -- The Ethiopian calendar in one of its era styles.
 use Rattle.std.specs.Prelude.{Bool, ℕ, List, codes, ◌+ℤ◌}
-use Rattle.cal_algorithms.specs.declared.algorithm.CalendarAlgorithm.{CalendarAlgorithm}
-use Rattle.cal_algorithms.specs.declared.algorithm.CalendarAlgorithm.TheVariants.{Ethioaa, Ethiopic}
+use Rattle.cal_errors.specs.declared.algorithm.CalendarAlgorithm.{CalendarAlgorithm}
+use Rattle.cal_errors.specs.declared.algorithm.CalendarAlgorithm.TheVariants.{Ethioaa, Ethiopic}
 use Rattle.cal_types.specs.declared.month_info.LeapStatus.TheVariants.{Normal}
 use Rattle.cal_types.specs.declared.year.YearInfo.TheVariants.{Era}
 use Rattle.cal_days.specs.Coptic.{coptic_leap}
-use Rattle.cal_model.specs.CalendarList.{Date, is_valid_date}
-use Rattle.cal_model.specs.CalendarSystem.{CalendarSystem}
+use Rattle.cal_types.specs.CalendarList.{Date, is_valid_date}
+use Rattle.cal_types.specs.CalendarSystem.{CalendarSystem}
 use Rattle.cal_base.specs.OwnYears.{own_system}
 use Rattle.cal_base.specs.KeptDates.{kept_date as in_numbered_years}
-use Rattle.cal_model.specs.Renumbered.{counted_date}
+use Rattle.cal_types.specs.Renumbered.{counted_date}
 use Rattle.cal_coptic.specs.EthiopianEra.{ethiopian_era_year}
 use Rattle.cal_coptic.specs.EthiopianList.{coptic_offset, ethiopian_list, ethiopian_years}
 use Rattle.cal_coptic.specs.EthiopianNames.{ethiopian_names}

@@ -131,9 +131,9 @@ impl Years for Coptic {
 
 impl DateFieldsResolver for Coptic {
     ghost use Rattle.std.specs.Prelude.{codes};
-    ghost use Rattle.cal_model.specs.PlainMonths.{is_plain_month};
-    ghost use Rattle.cal_model.proofs.EraLemmas.{only_era_reads-in_range, only_era_reads-covered};
-    ghost use Rattle.cal_model.proofs.YearNameLemmas.{reference_of_known-stands, reference_of_known-tested};
+    ghost use Rattle.cal_types.specs.PlainMonths.{is_plain_month};
+    ghost use Rattle.cal_types.proofs.EraLemmas.{only_era_reads-in_range, only_era_reads-covered};
+    ghost use Rattle.cal_types.proofs.YearNameLemmas.{reference_of_known-stands, reference_of_known-tested};
     ghost use Rattle.cal_coptic.specs.laws.CopticLaws.{coptic_list-plain};
     ghost use Rattle.cal_coptic.specs.CopticNames.{coptic_names, coptic_reference_year};
 
@@ -231,7 +231,7 @@ impl UnstableSealed for Coptic {}
 
 impl Calendar for Coptic {
     ghost use Rattle.std.specs.Prelude.{true, false, refl, codes, Some};
-    ghost use Rattle.cal_algorithms.specs.declared.algorithm.CalendarAlgorithm.TheVariants.{Coptic as coptic};
+    ghost use Rattle.cal_errors.specs.declared.algorithm.CalendarAlgorithm.TheVariants.{Coptic as coptic};
     ghost use Rattle.cal_base.specs.laws.Compatibility.{never_refused};
     ghost use Rattle.cal_base.specs.laws.NumberedYears.{numbered_equal, numbered_ordered};
     ghost use Rattle.cal_coptic.specs.CopticList.{coptic_list};

@@ -3,7 +3,7 @@
 ghost use Rattle.std.specs.Prelude.{◌≡◌, ◌+◌, ◌/◌, ◌%◌, ◌<◌, ◌≤◌, ◌↔◌, IsTrue, neg_ℤ, pos, ◌-ℤ◌};
 ghost use Rattle.cal_days.specs.Coptic.{coptic_leap};
 ghost use Rattle.cal_days.specs.Day.{IsBetween, IsShiftedYear, IsValidDay, is_field_year};
-ghost use Rattle.cal_model.specs.CalendarList.{IsDate, IsOn, date, day_number, month_length};
+ghost use Rattle.cal_types.specs.CalendarList.{IsDate, IsOn, date, day_number, month_length};
 ghost use Rattle.cal_coptic.specs.CopticList.{coptic_list};
 ghost use Rattle.cal_coptic.specs.CopticNames.{coptic_reference_year};
 

@@ -2,7 +2,7 @@
 
 ghost use Rattle.std.specs.Prelude.{◌≡◌};
 ghost use Rattle.cal_days.specs.Day.{IsFieldYear};
-ghost use Rattle.cal_model.specs.RenumberedBounds.{IsShift};
+ghost use Rattle.cal_types.specs.RenumberedBounds.{IsShift};
 ghost use Rattle.cal_arith.specs.FieldNames.{era_read};
 ghost use Rattle.cal_coptic.specs.EthiopianEra.{ethiopian_era_year, world_era_year};
 ghost use Rattle.cal_coptic.specs.EthiopianList.{coptic_offset, is_same_style};
@@ -124,10 +124,10 @@ impl Default for Ethiopian {
 
 impl YearShapes for Ethiopian {
     ghost use Rattle.std.specs.Prelude.{refl};
-    ghost use Rattle.cal_model.proofs.RenumberedBoundLemmas.{near-renumbered, ranged-renumbered, apart-renumbered, covered-renumbered};
+    ghost use Rattle.cal_types.proofs.RenumberedBoundLemmas.{near-renumbered, ranged-renumbered, apart-renumbered, covered-renumbered};
     ghost use Rattle.cal_coptic.specs.CopticList.{coptic_list};
     ghost use Rattle.cal_coptic.specs.laws.CopticLaws.{coptic_list-bounded};
-    ghost use Rattle.cal_model.proofs.CountedDateLemmas.{counted_year, stored_year};
+    ghost use Rattle.cal_types.proofs.CountedDateLemmas.{counted_year, stored_year};
     ghost use Rattle.cal_coptic.specs.EthiopianList.{coptic_offset, ethiopian_years};
     ghost use Rattle.cal_coptic.specs.laws.EthiopianLaws.{coptic_offset-small, ethiopian_list-lawful};
 
@@ -244,8 +244,8 @@ fn year_from_incarnation(era: &[u8], year: i32) -> Result<i32, UnknownEraError>
 
 impl DateFieldsResolver for Ethiopian {
     ghost use Rattle.std.specs.Prelude.{◌-ℤ◌};
-    ghost use Rattle.cal_model.specs.PlainMonths.{is_plain_month};
-    ghost use Rattle.cal_model.proofs.YearNameLemmas.{reference_of_known-stands, reference_of_known-tested};
+    ghost use Rattle.cal_types.specs.PlainMonths.{is_plain_month};
+    ghost use Rattle.cal_types.proofs.YearNameLemmas.{reference_of_known-stands, reference_of_known-tested};
     ghost use Rattle.cal_coptic.specs.CopticNames.{coptic_reference_year};
     ghost use Rattle.cal_coptic.specs.EthiopianList.{coptic_offset};
     ghost use Rattle.cal_coptic.specs.EthiopianNames.{ethiopian_names};
@@ -383,7 +383,7 @@ impl Calendar for Ethiopian {
     ghost use Rattle.cal_coptic.specs.laws.EthiopianLaws.{ethiopian_list-lawful, ethiopian_year-named, coptic_offset-small};
     ghost use Rattle.cal_coptic.specs.EthiopianSystem.{ethiopian_algorithm, ethiopian_belongs, ethiopian_date, ethiopian_name, ethiopian_system};
     ghost use Rattle.cal_coptic.specs.laws.EthiopianSystemLaws.{ethiopian_belongs-dated, ethiopian_belongs-shared, ethiopian_dates-equal, ethiopian_dates-ordered, ethiopian_day-shared};
-    ghost use Rattle.cal_model.proofs.RenumberedBoundLemmas.{ranged-renumbered, covered-renumbered};
+    ghost use Rattle.cal_types.proofs.RenumberedBoundLemmas.{ranged-renumbered, covered-renumbered};
     ghost use Rattle.cal_coptic.specs.CopticList.{coptic_list};
     ghost use Rattle.cal_coptic.specs.laws.CopticLaws.{coptic_list-bounded};
 

@@ -8,10 +8,10 @@ use Rattle.cal_days.specs.Day.{IsBetween, IsRuleYear}
 use Rattle.cal_days.proofs.Signed.{signed, by_bool}
 use Rattle.cal_errors.specs.declared.errors.TablePart.TheVariants.{Year}
 use native.Mathlib.Nat.{div-add-mod, mul_assoc, mul_comm, mul-add-mod_self_left, pow-suc}
-use Rattle.cal_model.specs.CalendarList.{Entry, start_of_year}
-use Rattle.cal_model.proofs.DateTests.{and-left, and-right}
-use Rattle.cal_model.proofs.SameYearLemmas.{same-year}
-use Rattle.cal_rows.specs.laws.LengtheningLaws.{chosen-kept, not_added-above, not_added-below, number-range}
+use Rattle.cal_types.specs.CalendarList.{Entry, start_of_year}
+use Rattle.cal_types.proofs.DateTests.{and-left, and-right}
+use Rattle.cal_types.proofs.SameYearLemmas.{same-year}
+use Rattle.cal_types.specs.laws.LengtheningLaws.{chosen-kept, not_added-above, not_added-below, number-range}
 use Rattle.cal_east_asian.specs.EastAsianList.{east_asian_list, entries_of}
 use Rattle.cal_east_asian.specs.EastAsianMonths.{entries_by, month_in_place, year_entries}
 use Rattle.cal_east_asian.specs.EastAsianRows.{row_year, years_of}

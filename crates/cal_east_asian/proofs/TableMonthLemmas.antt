@@ -8,11 +8,11 @@ use Rattle.cal_days.specs.Day.{IsRuleYear}
 use Rattle.cal_days.specs.Sums.{years_up, total, span}
 use Rattle.cal_days.proofs.Signed.{signed, by_bool}
 use Rattle.cal_days.proofs.SumLemmas.{span-up}
-use Rattle.cal_model.specs.CalendarList.{month_number}
-use Rattle.cal_model.proofs.ListLemmas.{month_number-next}
-use Rattle.cal_rows.specs.Rows.{AreConsecutive}
-use Rattle.cal_rows.specs.laws.RowLaws.{number-at, row_below}
-use Rattle.cal_rows.specs.laws.RowPlaces.{by_year, chosen-row}
+use Rattle.cal_types.specs.CalendarList.{month_number}
+use Rattle.cal_types.proofs.ListLemmas.{month_number-next}
+use Rattle.cal_types.specs.Rows.{AreConsecutive}
+use Rattle.cal_types.specs.laws.RowLaws.{number-at, row_below}
+use Rattle.cal_types.specs.laws.RowPlaces.{by_year, chosen-row}
 use Rattle.cal_east_asian.specs.EastAsianYear.{months_of_year}
 use Rattle.cal_east_asian.specs.laws.RuleYearLaws.{rule_year-same}
 use Rattle.cal_east_asian.specs.laws.EastAsianListLaws.{count-small}

@@ -1,8 +1,8 @@
 -- A Chinese or Korean calendar as a list of years, from the years that its rules give.
 -- Source: the month codes are those of ECMAScript Temporal.
 use Rattle.std.specs.Prelude.{List, ℤ, pos}
-use Rattle.cal_model.specs.CalendarList.{Entry, CalendarList}
-use Rattle.cal_model.specs.PlainMonths.{numbered_month}
+use Rattle.cal_types.specs.CalendarList.{Entry, CalendarList}
+use Rattle.cal_types.specs.PlainMonths.{numbered_month}
 use Rattle.cal_arith.specs.Given.{CalendarYears}
 use Rattle.cal_east_asian.specs.EastAsianMonths.{year_entries}
 use Rattle.cal_east_asian.specs.RuleYears.{rule_year}

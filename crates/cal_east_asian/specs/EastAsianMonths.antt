@@ -2,7 +2,7 @@
 -- by the place of its leap month and a bit for each month of 30 days.
 use Rattle.std.specs.Prelude.{ℕ, zero, suc, ◌+◌, ◌-◌, ◌/◌, ◌%◌, ◌||◌, nat_eq, nat_lt, if◌then◌else◌, List, [], ◌∷◌}
 use Rattle.cal_types.specs.Month.{MonthParts}
-use Rattle.cal_model.specs.CalendarList.{Entry}
+use Rattle.cal_types.specs.CalendarList.{Entry}
 use Rattle.cal_east_asian.specs.EastAsianYear.{months_of_year}
 
 -- the month in a place from 1: the leap month, which has the number of the month before it, or a plain month

@@ -9,9 +9,9 @@ use Rattle.cal_errors.specs.declared.errors.EcmaReferenceYearError.TheVariants.{
 use Rattle.cal_types.specs.declared.month_info.LeapStatus.{LeapStatus}
 use Rattle.cal_types.specs.declared.year.CyclicYear.{CyclicYear}
 use Rattle.cal_types.specs.declared.year.YearInfo.TheVariants.{Cyclic}
-use Rattle.cal_model.specs.CalendarList.{Date, date, month_count, is_valid_date}
-use Rattle.cal_model.specs.CalendarSystem.{CalendarSystem}
-use Rattle.cal_model.specs.YearNames.{YearNames}
+use Rattle.cal_types.specs.CalendarList.{Date, date, month_count, is_valid_date}
+use Rattle.cal_types.specs.CalendarSystem.{CalendarSystem}
+use Rattle.cal_types.specs.YearNames.{YearNames}
 use Rattle.cal_base.specs.OwnYears.{own_system}
 use Rattle.cal_east_asian.specs.RuleYears.{rule_year}
 use Rattle.cal_east_asian.specs.EastAsianPlaces.{is_east_asian_month, leap_status_of_place}

@@ -2,7 +2,7 @@
 use Rattle.std.proofs.Common.{◌≡◌, ◌<◌, ◌^◌, ℕ, Bool, not, ◌||◌, nat_eq, ℤ, pos, ◌+ℤ◌, ◌-ℤ◌}
 use Rattle.std.specs.Prelude.{IsTrue, sum_by}
 use Rattle.cal_days.specs.Day.{IsRuleYear}
-use Rattle.cal_model.specs.CalendarList.{days_of}
+use Rattle.cal_types.specs.CalendarList.{days_of}
 use Rattle.cal_east_asian.specs.EastAsianYear.{IsEastAsianYear, months_of_year}
 use Rattle.cal_east_asian.specs.EastAsianMonths.{year_entries}
 use Rattle.cal_east_asian.specs.declared.east_asian_traditional_year.EastAsianTraditionalYear.{EastAsianTraditionalYear}

@@ -2,9 +2,9 @@
 use Rattle.std.specs.Prelude.{ℕ, ◌%◌, Bool, ◌&&◌, nat_eq, if◌then◌else◌, List, ℤ}
 use Rattle.std.specs.Ordering.{int_eq}
 use Rattle.cal_errors.specs.declared.errors.LengthenFault.{LengthenFault}
-use Rattle.cal_model.specs.CalendarList.{CalendarList}
-use Rattle.cal_model.specs.SameYear.{HaveSameYear}
-use Rattle.cal_rows.specs.Lengthening as rows
+use Rattle.cal_types.specs.CalendarList.{CalendarList}
+use Rattle.cal_types.specs.SameYear.{HaveSameYear}
+use Rattle.cal_types.specs.Lengthening as rows
 use Rattle.cal_east_asian.specs.EastAsianList.{east_asian_list}
 use Rattle.cal_east_asian.specs.EastAsianRows.{row_year, years_of}
 use Rattle.cal_east_asian.specs.TableAccepted.{IsAccepted, IsFirstFault}

@@ -3,7 +3,7 @@
 use Rattle.std.specs.Prelude.{◌≡◌, ℕ, zero, suc, ◌+◌, ◌-◌, ◌*◌, ◌<◌, ◌≤◌, ◌⊎◌, ◌↔◌, Bool, false, if◌then◌else◌, List, [], ◌∷◌, length, slice_index_or, nat_eq, nat_lt, nat_le, int_le, unsigned_abs, Option, Some, None, ℤ, pos, neg_ℤ, ◌+ℤ◌, ◌-ℤ◌, ◌*ℤ◌, ◌≤ℤ◌}
 use Rattle.cal_days.specs.Division.{floor_div}
 use Rattle.cal_types.specs.Month.{MonthParts}
-use Rattle.cal_model.specs.CalendarList.{Entry, no_entry}
+use Rattle.cal_types.specs.CalendarList.{Entry, no_entry}
 
 -- the day of a moment
 abbrev pub day : ℤ → ℤ

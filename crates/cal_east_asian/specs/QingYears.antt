@@ -1,7 +1,7 @@
 -- The years 1900 to 1911 of the Qing calendar, which China and Korea share.
 use Rattle.std.specs.Prelude.{◌≡◌, ℕ, ◌+◌, ◌-◌, ◌*◌, List, [], ◌∷◌, map, get_or, slice_get, unsigned_abs, Some, ℤ, pos, ◌-ℤ◌}
 use Rattle.cal_days.specs.Day.{IsBetween}
-use Rattle.cal_model.specs.CalendarList.{days_of}
+use Rattle.cal_types.specs.CalendarList.{days_of}
 use Rattle.cal_east_asian.specs.EastAsianMonths.{year_entries}
 use Rattle.cal_east_asian.specs.EastAsianYears.{YearParts, parts_of}
 use Rattle.cal_east_asian.specs.declared.east_asian_traditional_year.EastAsianTraditionalYear.{EastAsianTraditionalYear}

@@ -1,8 +1,8 @@
 -- Which tables are accepted, and which fault any other one has.
 use Rattle.std.specs.Prelude.{ℕ, ◌+◌, Bool, true, ◌&&◌, ◌||◌, nat_lt, int_le, List, length, Option, ℤ, pos, ◌+ℤ◌}
 use Rattle.cal_days.specs.Day.{IsBetween}
-use Rattle.cal_rows.specs.Rows as rows
-use Rattle.cal_rows.specs.Faults as faults
+use Rattle.cal_types.specs.Rows as rows
+use Rattle.cal_types.specs.Faults as faults
 use Rattle.cal_east_asian.specs.EastAsianYears.{parts_of, end_day, leap_in_three}
 use Rattle.cal_east_asian.specs.TableYears.{number_of, chosen_year}
 use Rattle.cal_east_asian.specs.declared.east_asian_traditional_year.EastAsianTraditionalYear.{EastAsianTraditionalYear}

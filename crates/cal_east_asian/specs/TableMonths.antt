@@ -1,6 +1,6 @@
 -- The months of the years that a table chooses.
 use Rattle.std.specs.Prelude.{◌≡◌, ℤ, ◌≤ℤ◌, ◌<ℤ◌}
-use Rattle.cal_model.specs.CalendarList.{CalendarList}
+use Rattle.cal_types.specs.CalendarList.{CalendarList}
 use Rattle.cal_east_asian.specs.EastAsianList.{east_asian_list}
 use Rattle.cal_east_asian.specs.laws.ComputedLaws.{computed_year}
 use Rattle.cal_east_asian.specs.TableYears.{IsRow}

@@ -1,6 +1,6 @@
 -- The years that a table of rows chooses beside computed years.
 use Rattle.std.specs.Prelude.{ℕ, List, Option, ℤ}
-use Rattle.cal_rows.specs.Rows as rows
+use Rattle.cal_types.specs.Rows as rows
 use Rattle.cal_east_asian.specs.declared.east_asian_traditional_year.EastAsianTraditionalYear.{EastAsianTraditionalYear}
 
 abbrev pub number_of : EastAsianTraditionalYear → ℤ

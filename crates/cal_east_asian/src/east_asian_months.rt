@@ -3,7 +3,7 @@
 
 ghost use Rattle.std.specs.Prelude.{◌≡◌, ◌-◌, ◌*◌, ◌≤◌, sum_by};
 ghost use Rattle.cal_types.specs.MonthParts.{month_parts};
-ghost use Rattle.cal_model.specs.CalendarList.{days_of};
+ghost use Rattle.cal_types.specs.CalendarList.{days_of};
 ghost use Rattle.cal_east_asian.specs.EastAsianYear.{months_of_year};
 ghost use Rattle.cal_east_asian.specs.EastAsianMonths.{month_in_place as month_placed, year_entries};
 ghost use Rattle.cal_east_asian.specs.EastAsianPlaces.{days_of_months, east_asian_place, is_east_asian_month, leap_status_of_place, month_days, plain_month_place};

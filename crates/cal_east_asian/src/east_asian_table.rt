@@ -17,8 +17,7 @@ use crate::east_asian_traditional_year::EastAsianTraditionalYear;
 use crate::leap_rows::count_leap_rows;
 use crate::sides::Side;
 use crate::table_check::check;
-use cal_rows::first_difference;
-use cal_types::{LengthenFault, TableFault};
+use cal_types::{LengthenFault, TableFault, first_difference};
 
 /// Rows of years for China or for Korea, which stand in place of the computed years of their numbers.
 ///

@@ -134,7 +134,7 @@ impl<R: Rules> Years for EastAsianTraditional<R> {
 }
 
 impl<R: Rules> DateFieldsResolver for EastAsianTraditional<R> {
-    ghost use Rattle.cal_model.proofs.YearNameLemmas.{no_era-some};
+    ghost use Rattle.cal_types.proofs.YearNameLemmas.{no_era-some};
     ghost use Rattle.cal_days.specs.Day.{IsCoveredYear, IsRuleYear};
     ghost use Rattle.cal_east_asian.specs.EastAsianSystem.{east_asian_names};
     ghost use Rattle.cal_east_asian.specs.laws.EastAsianNameLaws.{reference-of_kind, reference-of_leap_month};

@@ -8,7 +8,7 @@ ghost use Rattle.cal_east_asian.specs.SameYears.{same_year};
 
 use crate::east_asian_row::EastAsianRow;
 use crate::east_asian_traditional_year::EastAsianTraditionalYear;
-use cal_rows::Row;
+use cal_types::Row;
 
 /// Whether two years have the same number, first day, month lengths and leap month.
 pub(crate) fn is_same_year(one: EastAsianTraditionalYear, other: EastAsianTraditionalYear) -> bool

@@ -3,7 +3,7 @@
 
 ghost use Rattle.std.specs.Prelude.{◌≡◌, ◌≤◌, ◌-◌, ◌≤ℤ◌, ◌<ℤ◌, ◌+ℤ◌, ℤ, pos, length, take, drop};
 ghost use Rattle.cal_days.specs.Day.{IsBetween, IsRuleYear};
-ghost use Rattle.cal_model.specs.CalendarList.{month_number};
+ghost use Rattle.cal_types.specs.CalendarList.{month_number};
 ghost use Rattle.cal_east_asian.specs.LeapRows.{leap_rows};
 ghost use Rattle.cal_east_asian.specs.TableMonths.{AreComputed, IsFirstNumber, table_list};
 

@@ -1,7 +1,7 @@
 //! China and Korea as type parameters.
 
 ghost use Rattle.std.specs.Prelude.{◌≡◌, ℕ, List};
-ghost use Rattle.cal_algorithms.specs.declared.algorithm.CalendarAlgorithm.{CalendarAlgorithm};
+ghost use Rattle.cal_errors.specs.declared.algorithm.CalendarAlgorithm.{CalendarAlgorithm};
 ghost use Rattle.cal_east_asian.specs.declared.sides.Side.{Side};
 
 use crate::sides::Side;
@@ -47,7 +47,7 @@ impl UnstableSealed for OfKorea {}
 
 impl TableSide for OfChina {
     ghost use Rattle.std.specs.Prelude.{codes};
-    ghost use Rattle.cal_algorithms.specs.declared.algorithm.CalendarAlgorithm.TheVariants as algorithms;
+    ghost use Rattle.cal_errors.specs.declared.algorithm.CalendarAlgorithm.TheVariants as algorithms;
     ghost use Rattle.cal_east_asian.specs.declared.sides.Side.TheVariants as sides;
 
     ghost side = { sides.China };
@@ -71,7 +71,7 @@ impl TableSide for OfChina {
 
 impl TableSide for OfKorea {
     ghost use Rattle.std.specs.Prelude.{codes};
-    ghost use Rattle.cal_algorithms.specs.declared.algorithm.CalendarAlgorithm.TheVariants as algorithms;
+    ghost use Rattle.cal_errors.specs.declared.algorithm.CalendarAlgorithm.TheVariants as algorithms;
     ghost use Rattle.cal_east_asian.specs.declared.sides.Side.TheVariants as sides;
 
     ghost side = { sides.Korea };

@@ -1,8 +1,8 @@
 -- The Buddhist calendar: the Gregorian list, counted from ISO year -543, with the one era `be`.
 use Rattle.std.specs.Prelude.{Bool, codes}
-use Rattle.cal_model.specs.CalendarList.{Date}
-use Rattle.cal_model.specs.CalendarSystem.{CalendarSystem}
-use Rattle.cal_model.specs.Eras.{only_era_reads}
+use Rattle.cal_types.specs.CalendarList.{Date}
+use Rattle.cal_types.specs.CalendarSystem.{CalendarSystem}
+use Rattle.cal_types.specs.Eras.{only_era_reads}
 use Rattle.cal_base.specs.OffsetSystem.{offset_system, offset_date, kept_belongs}
 use Rattle.cal_gregory.specs.BuddhistEra.{buddhist_offset, buddhist_era_year}
 use Rattle.cal_gregory.specs.declared.buddhist.BuddhistDateInner.{BuddhistDateInner}

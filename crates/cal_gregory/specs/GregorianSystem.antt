@@ -1,8 +1,8 @@
 -- The Gregorian calendar: the Gregorian list with the eras `ce` and `bce`.
 use Rattle.std.specs.Prelude.{Bool, pos}
-use Rattle.cal_model.specs.CalendarList.{Date}
-use Rattle.cal_model.specs.CalendarSystem.{CalendarSystem}
-use Rattle.cal_model.specs.Eras.{common_era_reads}
+use Rattle.cal_types.specs.CalendarList.{Date}
+use Rattle.cal_types.specs.CalendarSystem.{CalendarSystem}
+use Rattle.cal_types.specs.Eras.{common_era_reads}
 use Rattle.cal_base.specs.OffsetSystem.{offset_system, offset_date, kept_belongs}
 use Rattle.cal_gregory.specs.CommonEra.{common_era_year}
 use Rattle.cal_gregory.specs.declared.gregorian.GregorianDateInner.{GregorianDateInner}

@@ -7,10 +7,10 @@ use Rattle.std.specs.Option.{option_or}
 use Rattle.cal_days.specs.Day.{IsBetween}
 use Rattle.cal_types.specs.declared.year.EraYear.{EraYear}
 use Rattle.cal_types.specs.declared.year.YearAmbiguity.TheVariants.{CenturyRequired}
-use Rattle.cal_model.specs.CalendarList.{Date, date}
-use Rattle.cal_model.specs.DateOrder.{date_cmp}
-use Rattle.cal_model.specs.Eras.{common_era_reads}
-use Rattle.cal_model.specs.YearNames.{is_code}
+use Rattle.cal_types.specs.CalendarList.{Date, date}
+use Rattle.cal_types.specs.DateOrder.{date_cmp}
+use Rattle.cal_types.specs.Eras.{common_era_reads}
+use Rattle.cal_types.specs.YearNames.{is_code}
 use Rattle.cal_gregory.specs.CommonEra.{common_era_year}
 use Rattle.cal_gregory.specs.declared.era_start_date.EraStartDate.{EraStartDate}
 

@@ -1,7 +1,7 @@
 -- The Japanese calendar: the Gregorian list with the eras of Japan.
 use Rattle.std.specs.Prelude.{Bool, pos}
-use Rattle.cal_model.specs.CalendarList.{Date}
-use Rattle.cal_model.specs.CalendarSystem.{CalendarSystem}
+use Rattle.cal_types.specs.CalendarList.{Date}
+use Rattle.cal_types.specs.CalendarSystem.{CalendarSystem}
 use Rattle.cal_base.specs.OffsetSystem.{offset_system, offset_date, kept_belongs}
 use Rattle.cal_gregory.specs.JapaneseEraList.{japanese_era_year, japanese_reads}
 use Rattle.cal_gregory.specs.JapaneseEras.{listed_eras, no_later_era}

@@ -3,7 +3,7 @@
 use Rattle.std.specs.Prelude.{ℕ, List, codes, Option, Some, None, if◌then◌else◌, ℤ, pos, ◌-ℤ◌, int_lt}
 use Rattle.cal_types.specs.declared.year.EraYear.{EraYear}
 use Rattle.cal_types.specs.declared.year.YearAmbiguity.TheVariants.{CenturyRequired, EraAndCenturyRequired}
-use Rattle.cal_model.specs.YearNames.{is_code, year_in_era}
+use Rattle.cal_types.specs.YearNames.{is_code, year_in_era}
 
 -- the ISO year less the extended year
 abbrev pub roc_offset : ℤ

@@ -1,8 +1,8 @@
 -- The calendar of the Republic of China: the Gregorian list, counted from ISO year 1911,
 -- with the eras `roc` and `broc`.
 use Rattle.std.specs.Prelude.{Bool}
-use Rattle.cal_model.specs.CalendarList.{Date}
-use Rattle.cal_model.specs.CalendarSystem.{CalendarSystem}
+use Rattle.cal_types.specs.CalendarList.{Date}
+use Rattle.cal_types.specs.CalendarSystem.{CalendarSystem}
 use Rattle.cal_base.specs.OffsetSystem.{offset_system, offset_date, kept_belongs}
 use Rattle.cal_gregory.specs.RocEra.{roc_offset, roc_era_year, roc_reads}
 use Rattle.cal_gregory.specs.declared.roc.RocDateInner.{RocDateInner}

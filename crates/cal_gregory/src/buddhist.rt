@@ -31,9 +31,9 @@ pub struct BuddhistEraYears;
 
 impl GregorianYears for BuddhistEraYears {
     ghost use Rattle.std.specs.Prelude.{codes, refl, Some};
-    ghost use Rattle.cal_algorithms.specs.declared.algorithm.CalendarAlgorithm.TheVariants as algorithms;
-    ghost use Rattle.cal_model.specs.Eras.{only_era_reads};
-    ghost use Rattle.cal_model.proofs.EraLemmas.{only_era_reads-in_range, only_era_reads-covered};
+    ghost use Rattle.cal_errors.specs.declared.algorithm.CalendarAlgorithm.TheVariants as algorithms;
+    ghost use Rattle.cal_types.specs.Eras.{only_era_reads};
+    ghost use Rattle.cal_types.proofs.EraLemmas.{only_era_reads-in_range, only_era_reads-covered};
     ghost use Rattle.cal_base.specs.laws.OffsetListLaws.{true-offset};
     ghost use Rattle.cal_gregory.specs.BuddhistEra.{buddhist_offset, buddhist_era_year};
 
@@ -87,7 +87,7 @@ impl UnstableSealed for Buddhist {}
 impl Calendar for Buddhist {
     ghost use Rattle.std.specs.Prelude.{true, refl, codes, Some};
     ghost use Rattle.std.proofs.Common.{ap};
-    ghost use Rattle.cal_algorithms.specs.declared.algorithm.CalendarAlgorithm.TheVariants as algorithms;
+    ghost use Rattle.cal_errors.specs.declared.algorithm.CalendarAlgorithm.TheVariants as algorithms;
     ghost use Rattle.cal_base.specs.laws.Compatibility.{never_refused};
     ghost use Rattle.cal_base.specs.laws.OffsetListLaws.{offset_list-lawful, offset_list-ranged, offset_list-shifted, offset_list-covered, true-offset};
     ghost use Rattle.cal_base.specs.laws.OffsetSystemLaws.{kept-dated, kept-equal, kept-ordered};

@@ -69,9 +69,9 @@ pub struct CommonEraYears;
 
 impl GregorianYears for CommonEraYears {
     ghost use Rattle.std.specs.Prelude.{codes, pos, refl, Some};
-    ghost use Rattle.cal_algorithms.specs.declared.algorithm.CalendarAlgorithm.TheVariants.{Gregory};
-    ghost use Rattle.cal_model.specs.Eras.{common_era_reads};
-    ghost use Rattle.cal_model.proofs.EraLemmas.{common_era_reads-in_range, common_era_reads-covered};
+    ghost use Rattle.cal_errors.specs.declared.algorithm.CalendarAlgorithm.TheVariants.{Gregory};
+    ghost use Rattle.cal_types.specs.Eras.{common_era_reads};
+    ghost use Rattle.cal_types.proofs.EraLemmas.{common_era_reads-in_range, common_era_reads-covered};
     ghost use Rattle.cal_base.specs.laws.OffsetListLaws.{true-offset};
     ghost use Rattle.cal_gregory.specs.laws.CommonEraLaws.{common_era-named};
 
@@ -119,7 +119,7 @@ impl UnstableSealed for Gregorian {}
 impl Calendar for Gregorian {
     ghost use Rattle.std.specs.Prelude.{pos, true, refl, codes, Some};
     ghost use Rattle.std.proofs.Common.{ap};
-    ghost use Rattle.cal_algorithms.specs.declared.algorithm.CalendarAlgorithm.TheVariants.{Gregory};
+    ghost use Rattle.cal_errors.specs.declared.algorithm.CalendarAlgorithm.TheVariants.{Gregory};
     ghost use Rattle.cal_base.specs.laws.Compatibility.{never_refused};
     ghost use Rattle.cal_base.specs.laws.OffsetListLaws.{offset_list-lawful, offset_list-ranged, offset_list-shifted, offset_list-covered, true-offset};
     ghost use Rattle.cal_base.specs.laws.OffsetSystemLaws.{kept-dated, kept-equal, kept-ordered};

@@ -2,7 +2,7 @@
 
 ghost use Rattle.std.specs.Prelude.{◌≡◌, ◌&&◌, [], Some, codes, int_lt, pos};
 ghost use Rattle.cal_days.specs.Day.{IsFieldYear};
-ghost use Rattle.cal_model.specs.YearNames.{is_code};
+ghost use Rattle.cal_types.specs.YearNames.{is_code};
 ghost use Rattle.cal_gregory.specs.JapaneseEraList.{IsStartYear, eras_up_to_reiwa, year_printed};
 ghost use Rattle.cal_gregory.specs.JapaneseEras.{listed_eras};
 ghost use Rattle.cal_gregory.specs.JapaneseSystem.{japanese_up_to_reiwa};
@@ -98,7 +98,7 @@ fn year_in_era(era: ListedEra, year: i32) -> EraYear
 /// The ISO years, in the eras of the Gregorian calendar and those that are listed.
 impl GregorianYears for JapaneseEras {
     ghost use Rattle.std.specs.Prelude.{codes, pos, refl, Some};
-    ghost use Rattle.cal_algorithms.specs.declared.algorithm.CalendarAlgorithm.TheVariants as algorithms;
+    ghost use Rattle.cal_errors.specs.declared.algorithm.CalendarAlgorithm.TheVariants as algorithms;
     ghost use Rattle.cal_base.specs.laws.OffsetListLaws.{true-offset};
     ghost use Rattle.cal_gregory.specs.JapaneseEraList.{japanese_era_year, japanese_reads};
     ghost use Rattle.cal_gregory.specs.JapaneseEras.{listed_eras};
@@ -162,7 +162,7 @@ impl UnstableSealed for Japanese {}
 impl Calendar for Japanese {
     ghost use Rattle.std.specs.Prelude.{pos, true, refl, codes, Some};
     ghost use Rattle.std.proofs.Common.{ap};
-    ghost use Rattle.cal_algorithms.specs.declared.algorithm.CalendarAlgorithm.TheVariants as algorithms;
+    ghost use Rattle.cal_errors.specs.declared.algorithm.CalendarAlgorithm.TheVariants as algorithms;
     ghost use Rattle.cal_base.specs.laws.Compatibility.{never_refused};
     ghost use Rattle.cal_base.specs.laws.OffsetListLaws.{offset_list-lawful, offset_list-ranged, offset_list-shifted, offset_list-covered, true-offset};
     ghost use Rattle.cal_base.specs.laws.OffsetSystemLaws.{kept-dated, kept-equal, kept-ordered};

@@ -1,8 +1,8 @@
 //! The eras of the Japanese calendar.
 
 ghost use Rattle.std.specs.Prelude.{◌≡◌, ◌<◌, ◌≤◌, length, IfSome, Some, slice_get};
-ghost use Rattle.cal_model.specs.CalendarList.{date};
-ghost use Rattle.cal_model.specs.YearNames.{is_code};
+ghost use Rattle.cal_types.specs.CalendarList.{date};
+ghost use Rattle.cal_types.specs.YearNames.{is_code};
 ghost use Rattle.cal_types.specs.Text.{IsText};
 ghost use Rattle.cal_gregory.specs.JapaneseEraList.{IsStartYear, last_era, has_started, listed_era};
 

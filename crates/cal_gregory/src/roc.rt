@@ -76,7 +76,7 @@ pub struct MinguoYears;
 
 impl GregorianYears for MinguoYears {
     ghost use Rattle.std.specs.Prelude.{codes, refl, Some};
-    ghost use Rattle.cal_algorithms.specs.declared.algorithm.CalendarAlgorithm.TheVariants as algorithms;
+    ghost use Rattle.cal_errors.specs.declared.algorithm.CalendarAlgorithm.TheVariants as algorithms;
     ghost use Rattle.cal_base.specs.laws.OffsetListLaws.{true-offset};
     ghost use Rattle.cal_gregory.specs.RocEra.{roc_offset, roc_era_year, roc_reads};
     ghost use Rattle.cal_gregory.specs.laws.RocEraLaws.{roc_era-named, roc_reads-in_range, roc_reads-covered};
@@ -125,7 +125,7 @@ impl UnstableSealed for Roc {}
 impl Calendar for Roc {
     ghost use Rattle.std.specs.Prelude.{true, refl, codes, Some};
     ghost use Rattle.std.proofs.Common.{ap};
-    ghost use Rattle.cal_algorithms.specs.declared.algorithm.CalendarAlgorithm.TheVariants as algorithms;
+    ghost use Rattle.cal_errors.specs.declared.algorithm.CalendarAlgorithm.TheVariants as algorithms;
     ghost use Rattle.cal_base.specs.laws.Compatibility.{never_refused};
     ghost use Rattle.cal_base.specs.laws.OffsetListLaws.{offset_list-lawful, offset_list-ranged, offset_list-shifted, offset_list-covered, true-offset};
     ghost use Rattle.cal_base.specs.laws.OffsetSystemLaws.{kept-dated, kept-equal, kept-ordered};

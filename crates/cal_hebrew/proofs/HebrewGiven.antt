@@ -3,7 +3,7 @@ use Rattle.std.proofs.Common.{◌≡◌, ℕ, ◌+◌, ◌≤◌, Bool, ap, subs
 use Rattle.cal_days.specs.Hebrew.{IsHebrewLength, hebrew_leap, hebrew_year_length}
 use Rattle.cal_days.proofs.Signed.{signed}
 use Rattle.cal_days.proofs.HebrewLemmas.{hebrew_year_length-is}
-use Rattle.cal_model.specs.CalendarList.{HasPlace, IsOn, date, start_of_year}
+use Rattle.cal_types.specs.CalendarList.{HasPlace, IsOn, date, start_of_year}
 use Rattle.cal_arith.specs.Given.{IsGiven}
 use Rattle.cal_hebrew.specs.HebrewList.{hebrew_list, hebrew_years}
 use Rattle.cal_hebrew.specs.laws.HebrewMonths.{days_before-hebrew, hebrew_leap-length, month_count-hebrew, month_length-hebrew}

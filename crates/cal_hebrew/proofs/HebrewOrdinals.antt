@@ -8,8 +8,8 @@ use Rattle.cal_errors.specs.declared.errors.MonthError.{MonthError}
 use Rattle.cal_errors.specs.declared.errors.MonthError.TheVariants.{NotInYear}
 use Rattle.cal_types.specs.declared.options.Overflow.{Overflow}
 use Rattle.cal_types.specs.declared.options.Overflow.TheVariants.{Constrain, Reject}
-use Rattle.cal_model.specs.CalendarList.{spot, place_of, first_of_two}
-use Rattle.cal_model.proofs.MonthCases.{by_month}
+use Rattle.cal_types.specs.CalendarList.{spot, place_of, first_of_two}
+use Rattle.cal_types.proofs.MonthCases.{by_month}
 use Rattle.cal_arith.specs.Places.{ordinal_month}
 use Rattle.cal_hebrew.specs.HebrewList.{hebrew_months, hebrew_list, hebrew_stand_in, is_hebrew_month, fifth_leap_month}
 use Rattle.cal_hebrew.specs.laws.HebrewMonths.{month_of, place_in, is_of_kind-hebrew}

@@ -4,8 +4,8 @@
 use Rattle.std.specs.Prelude.{ℕ, Bool, true, ◌&&◌, ◌||◌, ◌==◌, nat_le, if◌then◌else◌, List, [], ◌∷◌, ◌++◌, pos, neg_ℤ}
 use Rattle.cal_days.specs.Hebrew.{hebrew_leap, hebrew_year_length}
 use Rattle.cal_types.specs.Month.{MonthParts}
-use Rattle.cal_model.specs.CalendarList.{Entry, CalendarList}
-use Rattle.cal_model.specs.PlainMonths.{numbered_month, plain_entry}
+use Rattle.cal_types.specs.CalendarList.{Entry, CalendarList}
+use Rattle.cal_types.specs.PlainMonths.{numbered_month, plain_entry}
 use Rattle.cal_arith.specs.Given.{CalendarYears}
 use Rattle.cal_hebrew.specs.laws.YearLengths.{length-known}
 use Rattle.cal_hebrew.specs.declared.hebrew_year.HebrewYear.{HebrewYear}

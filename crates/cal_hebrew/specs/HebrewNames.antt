@@ -4,8 +4,8 @@
 -- that day is the 26th of the month 4 of 5733.
 use Rattle.std.specs.Prelude.{ℕ, ℤ, pos, codes, ◌||◌, nat_eq, nat_lt, if◌then◌else◌}
 use Rattle.cal_types.specs.Month.{MonthParts}
-use Rattle.cal_model.specs.Eras.{only_era_reads}
-use Rattle.cal_model.specs.YearNames.{YearNames, reference_of_known}
+use Rattle.cal_types.specs.Eras.{only_era_reads}
+use Rattle.cal_types.specs.YearNames.{YearNames, reference_of_known}
 use Rattle.cal_hebrew.specs.HebrewList.{is_hebrew_month}
 
 -- the leap month: 5730, the last leap year that far; the first month: 5733;

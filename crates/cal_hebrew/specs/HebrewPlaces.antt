@@ -8,7 +8,7 @@ use Rattle.cal_types.specs.declared.month_info.LeapStatus.{LeapStatus}
 use Rattle.cal_types.specs.declared.month_info.LeapStatus.TheVariants.{Normal, Leap, Base}
 use Rattle.cal_types.specs.declared.options.Overflow.{Overflow}
 use Rattle.cal_types.specs.declared.options.Overflow.TheVariants.{Constrain, Reject}
-use Rattle.cal_model.specs.PlainMonths.{numbered_month}
+use Rattle.cal_types.specs.PlainMonths.{numbered_month}
 use Rattle.cal_hebrew.specs.HebrewList.{is_hebrew_month, fifth_leap_month}
 
 -- leap years have 383 days or more

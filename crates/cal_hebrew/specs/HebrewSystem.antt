@@ -4,8 +4,8 @@ use Rattle.cal_days.specs.Hebrew.{hebrew_leap, hebrew_year_length}
 use Rattle.cal_types.specs.Month.{MonthParts}
 use Rattle.cal_types.specs.declared.month_info.LeapStatus.{LeapStatus}
 use Rattle.cal_types.specs.declared.year.YearInfo.TheVariants.{Era}
-use Rattle.cal_model.specs.CalendarList.{Date, date, is_valid_date}
-use Rattle.cal_model.specs.CalendarSystem.{CalendarSystem}
+use Rattle.cal_types.specs.CalendarList.{Date, date, is_valid_date}
+use Rattle.cal_types.specs.CalendarSystem.{CalendarSystem}
 use Rattle.cal_base.specs.OwnYears.{own_system}
 use Rattle.cal_hebrew.specs.HebrewEra.{hebrew_era_year}
 use Rattle.cal_hebrew.specs.HebrewNames.{hebrew_names}

@@ -201,8 +201,8 @@ fn reference_year(month: Month, day: u8) -> i32
 
 impl DateFieldsResolver for Hebrew {
     ghost use Rattle.std.specs.Prelude.{codes};
-    ghost use Rattle.cal_model.proofs.EraLemmas.{only_era_reads-in_range, only_era_reads-covered};
-    ghost use Rattle.cal_model.proofs.YearNameLemmas.{reference_of_known-stands, reference_of_known-tested};
+    ghost use Rattle.cal_types.proofs.EraLemmas.{only_era_reads-in_range, only_era_reads-covered};
+    ghost use Rattle.cal_types.proofs.YearNameLemmas.{reference_of_known-stands, reference_of_known-tested};
     ghost use Rattle.cal_hebrew.specs.HebrewList.{is_hebrew_month};
     ghost use Rattle.cal_hebrew.specs.laws.HebrewMonths.{is_of_kind-hebrew};
     ghost use Rattle.cal_hebrew.specs.HebrewNames.{hebrew_names, hebrew_reference_year};
@@ -319,7 +319,7 @@ impl UnstableSealed for Hebrew {}
 
 impl Calendar for Hebrew {
     ghost use Rattle.std.specs.Prelude.{true, false, refl, codes, Some};
-    ghost use Rattle.cal_algorithms.specs.declared.algorithm.CalendarAlgorithm.TheVariants.{Hebrew as hebrew_algorithm};
+    ghost use Rattle.cal_errors.specs.declared.algorithm.CalendarAlgorithm.TheVariants.{Hebrew as hebrew_algorithm};
     ghost use Rattle.cal_base.specs.laws.Compatibility.{never_refused};
     ghost use Rattle.cal_base.specs.laws.NumberedYears.{numbered_equal, numbered_ordered};
     ghost use Rattle.cal_hebrew.specs.HebrewList.{hebrew_list};

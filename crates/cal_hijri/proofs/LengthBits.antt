@@ -3,7 +3,7 @@ use Rattle.std.proofs.Common.{◌≡◌, ◌∙◌, ℕ, suc, ◌+◌, ◌-◌, 
 use native.Mathlib.Numerals.{unary_clauses}
 use Rattle.std.proofs.Math.Nat.{div-div-eq-div-mul}
 use Rattle.cal_days.proofs.Signed.{by_lt}
-use Rattle.cal_model.proofs.MonthCases.{by_month}
+use Rattle.cal_types.proofs.MonthCases.{by_month}
 use Rattle.cal_hijri.specs.HijriMonths.{month_days}
 use Rattle.cal_hijri.specs.MonthStarts.{days_between}
 

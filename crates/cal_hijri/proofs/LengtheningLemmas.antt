@@ -7,10 +7,10 @@ use Rattle.std.proofs.lemmas.Bool.Decides.{nat_tests}
 use Rattle.cal_days.specs.Day.{IsRuleYear, is_between}
 use Rattle.cal_days.proofs.Signed.{by_bool}
 use Rattle.cal_errors.specs.declared.errors.TablePart.TheVariants.{Year}
-use Rattle.cal_model.specs.CalendarList.{start_of_year}
-use Rattle.cal_model.proofs.DateTests.{and-left, and-right}
-use Rattle.cal_model.proofs.SameYearLemmas.{same-year}
-use Rattle.cal_rows.specs.laws.LengtheningLaws.{chosen-kept, not_added-above, not_added-below, number-range}
+use Rattle.cal_types.specs.CalendarList.{start_of_year}
+use Rattle.cal_types.proofs.DateTests.{and-left, and-right}
+use Rattle.cal_types.proofs.SameYearLemmas.{same-year}
+use Rattle.cal_types.specs.laws.LengtheningLaws.{chosen-kept, not_added-above, not_added-below, number-range}
 use Rattle.cal_hijri.specs.HijriMonths.{months_of}
 use Rattle.cal_hijri.specs.HijriList.{hijri_list, long_months_of}
 use Rattle.cal_hijri.specs.HijriRows.{row_year, years_of}

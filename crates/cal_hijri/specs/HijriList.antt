@@ -3,8 +3,8 @@ use Rattle.std.specs.Prelude.{◌≡◌, ◌&&◌, ℕ, Bool, nat_eq, if◌then�
 use Rattle.std.specs.Ordering.{int_eq}
 use Rattle.cal_days.specs.Day.{IsRuleYear, is_between}
 use Rattle.cal_days.specs.Islamic.{islamic_leap}
-use Rattle.cal_model.specs.CalendarList.{CalendarList}
-use Rattle.cal_model.specs.PlainMonths.{is_plain_month}
+use Rattle.cal_types.specs.CalendarList.{CalendarList}
+use Rattle.cal_types.specs.PlainMonths.{is_plain_month}
 use Rattle.cal_arith.specs.Given.{CalendarYears}
 use Rattle.cal_hijri.specs.HijriMonths.{months_of, days_of_months}
 use Rattle.cal_hijri.specs.declared.hijri_year.HijriYear.{HijriYear}

@@ -3,8 +3,8 @@ use Rattle.std.proofs.Common.{ℕ, ◌+◌, ◌-◌, ◌/◌, ◌%◌, List, [],
 use Rattle.std.specs.Prelude.{slice_index_or, sum_by, take}
 use Rattle.cal_days.specs.Day.{IsBetween}
 use Rattle.cal_days.specs.Islamic.{islamic_mean_start}
-use Rattle.cal_model.specs.CalendarList.{Entry, no_entry, days_of}
-use Rattle.cal_model.specs.PlainMonths.{plain_entry}
+use Rattle.cal_types.specs.CalendarList.{Entry, no_entry, days_of}
+use Rattle.cal_types.specs.PlainMonths.{plain_entry}
 
 -- a first day at most 5 days from the start of the mean year
 abbrev pub IsNearMean : ℤ → ℤ → Type 0

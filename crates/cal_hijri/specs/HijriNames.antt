@@ -7,8 +7,8 @@ use Rattle.cal_errors.specs.declared.errors.EcmaReferenceYearError.{EcmaReferenc
 use Rattle.cal_errors.specs.declared.errors.EcmaReferenceYearError.TheVariants.{MonthNotInCalendar, UseRegularIfConstrain}
 use Rattle.cal_types.specs.declared.year.EraYear.{EraYear}
 use Rattle.cal_types.specs.declared.year.YearAmbiguity.TheVariants.{CenturyRequired}
-use Rattle.cal_model.specs.PlainMonths.{is_plain_month}
-use Rattle.cal_model.specs.YearNames.{YearNames, is_code, year_in_era}
+use Rattle.cal_types.specs.PlainMonths.{is_plain_month}
+use Rattle.cal_types.specs.YearNames.{YearNames, is_code, year_in_era}
 
 -- the years of the Hijra, and the years before it, which are counted back from 1
 abbrev pub hijri_reads : List ℕ → ℤ → Option ℤ

@@ -1,8 +1,8 @@
 -- Which tables are accepted, and which fault any other one has.
 use Rattle.std.specs.Prelude.{ℕ, ◌+◌, Bool, true, ◌&&◌, ◌||◌, nat_lt, int_le, List, length, Option, ℤ, pos, ◌+ℤ◌}
 use Rattle.cal_days.specs.Day.{IsBetween}
-use Rattle.cal_rows.specs.Rows as rows
-use Rattle.cal_rows.specs.Faults as faults
+use Rattle.cal_types.specs.Rows as rows
+use Rattle.cal_types.specs.Faults as faults
 use Rattle.cal_hijri.specs.HijriList.{hijri_days}
 use Rattle.cal_hijri.specs.TableYears.{number_of}
 use Rattle.cal_hijri.specs.declared.hijri_year.HijriYear.{HijriYear}

@@ -7,9 +7,9 @@ use Rattle.std.proofs.Common.{ℕ, if◌then◌else◌, ℤ, pos, Result, List}
 use Rattle.std.specs.Prelude.{nat_eq, nat_lt}
 use Rattle.cal_types.specs.Month.{MonthParts}
 use Rattle.cal_errors.specs.declared.errors.EcmaReferenceYearError.{EcmaReferenceYearError}
-use Rattle.cal_model.specs.PlainMonths.{is_plain_month}
-use Rattle.cal_model.specs.YearNames.{reference_of_known}
-use Rattle.cal_model.specs.CalendarSystem.{CalendarSystem}
+use Rattle.cal_types.specs.PlainMonths.{is_plain_month}
+use Rattle.cal_types.specs.YearNames.{reference_of_known}
+use Rattle.cal_types.specs.CalendarSystem.{CalendarSystem}
 use Rattle.cal_hijri.specs.HijriSystem.{hijri_system}
 use Rattle.cal_hijri.specs.TabularRules.{tabular_reference_year}
 use Rattle.cal_hijri.specs.TableFriday.{friday_year}

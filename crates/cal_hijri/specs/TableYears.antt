@@ -1,6 +1,6 @@
 -- The years that a table of rows gives.
 use Rattle.std.specs.Prelude.{List, Option, ℤ}
-use Rattle.cal_rows.specs.Rows as rows
+use Rattle.cal_types.specs.Rows as rows
 use Rattle.cal_hijri.specs.declared.hijri_year.HijriYear.{HijriYear}
 
 abbrev pub number_of : HijriYear → ℤ

@@ -5,13 +5,13 @@
 -- on a Thursday.
 use Rattle.std.specs.Prelude.{ℕ, ◌+◌, ◌*◌, Bool, if◌then◌else◌, nat_eq, nat_le, ℤ, pos, Some, None, Option, Result, List, codes}
 use Rattle.cal_types.specs.Month.{MonthParts}
-use Rattle.cal_algorithms.specs.declared.algorithm.CalendarAlgorithm.{CalendarAlgorithm}
-use Rattle.cal_algorithms.specs.declared.algorithm.CalendarAlgorithm.TheVariants.{Hijri}
-use Rattle.cal_algorithms.specs.declared.algorithm.HijriCalendarAlgorithm.TheVariants.{Civil, Tbla}
+use Rattle.cal_errors.specs.declared.algorithm.CalendarAlgorithm.{CalendarAlgorithm}
+use Rattle.cal_errors.specs.declared.algorithm.CalendarAlgorithm.TheVariants.{Hijri}
+use Rattle.cal_errors.specs.declared.algorithm.HijriCalendarAlgorithm.TheVariants.{Civil, Tbla}
 use Rattle.cal_errors.specs.declared.errors.EcmaReferenceYearError.{EcmaReferenceYearError}
-use Rattle.cal_model.specs.PlainMonths.{is_plain_month}
-use Rattle.cal_model.specs.YearNames.{reference_of_known}
-use Rattle.cal_model.specs.CalendarSystem.{CalendarSystem}
+use Rattle.cal_types.specs.PlainMonths.{is_plain_month}
+use Rattle.cal_types.specs.YearNames.{reference_of_known}
+use Rattle.cal_types.specs.CalendarSystem.{CalendarSystem}
 use Rattle.cal_hijri.specs.HijriSystem.{hijri_system}
 use Rattle.cal_hijri.specs.RuleOrder.{epoch_place, leap_years_place}
 use Rattle.cal_hijri.specs.TabularYears.{is_leap, long_by, tabular_start}

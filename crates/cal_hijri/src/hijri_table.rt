@@ -17,8 +17,7 @@ use crate::hijri_year::{HijriYear, days_before_month};
 use crate::tabular_algorithm::{
     TabularAlgorithm, TabularAlgorithmEpoch, TabularAlgorithmLeapYears, tabular_year,
 };
-use cal_rows::{Row, first_difference};
-use cal_types::{LengthenFault, TableFault, TablePart};
+use cal_types::{LengthenFault, Row, TableFault, TablePart, first_difference};
 
 /// Years in a row, each of which takes the place of the tabular year from Friday on.
 ///

@@ -5,7 +5,7 @@ ghost use Rattle.std.specs.Cmp.{IsEquivalence};
 ghost use Rattle.cal_days.specs.Day.{IsRuleYear, IsValidDay, IsFieldYear};
 ghost use Rattle.cal_types.specs.Month.{MonthParts};
 ghost use Rattle.cal_types.specs.MonthParts.{month_parts};
-ghost use Rattle.cal_algorithms.specs.declared.algorithm.CalendarAlgorithm.{CalendarAlgorithm};
+ghost use Rattle.cal_errors.specs.declared.algorithm.CalendarAlgorithm.{CalendarAlgorithm};
 ghost use Rattle.cal_errors.specs.declared.errors.EcmaReferenceYearError.{EcmaReferenceYearError};
 ghost use Rattle.cal_errors.specs.declared.errors.EcmaReferenceYearError.TheVariants.{Unimplemented};
 ghost use Rattle.cal_hijri.specs.declared.hijri_year.HijriYear.{HijriYear};

@@ -1,7 +1,7 @@
 //! The rules over a table of years, and the calendars that have such rules.
 
 ghost use Rattle.std.specs.Prelude.{◌≡◌, ℕ, List, Option};
-ghost use Rattle.cal_algorithms.specs.declared.algorithm.CalendarAlgorithm.{CalendarAlgorithm};
+ghost use Rattle.cal_errors.specs.declared.algorithm.CalendarAlgorithm.{CalendarAlgorithm};
 
 use crate::hijri_table::HijriTable;
 use crate::hijri_year::HijriYear;
@@ -45,8 +45,8 @@ impl UnstableSealed for OfMecca {}
 
 impl TablePurpose for OfSaudiArabia {
     ghost use Rattle.std.specs.Prelude.{codes, Some};
-    ghost use Rattle.cal_algorithms.specs.declared.algorithm.CalendarAlgorithm.TheVariants.{Hijri};
-    ghost use Rattle.cal_algorithms.specs.declared.algorithm.HijriCalendarAlgorithm.TheVariants.{Umalqura};
+    ghost use Rattle.cal_errors.specs.declared.algorithm.CalendarAlgorithm.TheVariants.{Hijri};
+    ghost use Rattle.cal_errors.specs.declared.algorithm.HijriCalendarAlgorithm.TheVariants.{Umalqura};
 
     ghost algorithm = { Some (Hijri (Some Umalqura)) };
 

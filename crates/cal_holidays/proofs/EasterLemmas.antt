@@ -14,14 +14,14 @@ use Rattle.cal_days.proofs.GregorianLemmas.{gregorian_start-next, gregorian_year
 use Rattle.cal_days.proofs.JulianLemmas.{julian_start-next, julian_year_length-parts}
 use Rattle.cal_days.proofs.Signed.{by_bool, signed}
 use Rattle.cal_julian.specs.laws.JulianLaws.{julian_list-lawful, start_of_year-julian}
-use Rattle.cal_model.specs.CalendarList.{IsLawful, start_of_year}
-use Rattle.cal_model.proofs.DateTests.{and-left, and-right, true-and, not_true}
-use Rattle.cal_model.proofs.ListLemmas.{date-in_year, start_of_year-later, start_of_year-next}
-use Rattle.cal_model.specs.DayDates.{date_on}
+use Rattle.cal_types.specs.CalendarList.{IsLawful, start_of_year}
+use Rattle.cal_types.proofs.DateTests.{and-left, and-right, true-and, not_true}
+use Rattle.cal_types.proofs.ListLemmas.{date-in_year, start_of_year-later, start_of_year-next}
+use Rattle.cal_types.specs.DayDates.{date_on}
 use Rattle.cal_holidays.specs.EasterYears.{IsLeft}
 use Rattle.cal_holidays.specs.Naming.{easter_list, easter_moon, is_easter, is_sunday_behind, year_start}
 use Rattle.cal_holidays.specs.Merging.{IsFirstDay}
-use Rattle.cal_model.proofs.DayDateLemmas.{date_on-on}
+use Rattle.cal_types.proofs.DayDateLemmas.{date_on-on}
 
 listed_start : (j : Bool) (y : ℤ) → start_of_year (easter_list j) y ≡ year_start j y
 listed_start false y =

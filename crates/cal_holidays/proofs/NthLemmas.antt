@@ -8,18 +8,18 @@ use Rattle.cal_days.specs.Division.{floor_mod}
 use Rattle.cal_days.specs.Sums.{years_up}
 use Rattle.cal_days.proofs.DivisionLemmas.{floor_parts}
 use Rattle.cal_days.proofs.Signed.{signed}
-use Rattle.cal_model.specs.CalendarList.{CalendarList, Date, date, IsLawful, IsOn, month_at, month_length}
-use Rattle.cal_model.proofs.DateTests.{and-left, and-right, true-and, not_true}
-use Rattle.cal_model.proofs.ListLemmas.{on-unique}
+use Rattle.cal_types.specs.CalendarList.{CalendarList, Date, date, IsLawful, IsOn, month_at, month_length}
+use Rattle.cal_types.proofs.DateTests.{and-left, and-right, true-and, not_true}
+use Rattle.cal_types.proofs.ListLemmas.{on-unique}
 use Rattle.cal_types.specs.Month.{MonthParts}
 use Rattle.cal_types.specs.Weekday.{days_since_sunday}
 use Rattle.cal_types.specs.declared.weekday.Weekday.{Weekday}
 use Rattle.cal_types.specs.declared.weekday.Weekday.TheVariants.{Monday, Tuesday, Wednesday, Thursday, Friday, Saturday, Sunday}
-use Rattle.cal_model.specs.DayDates.{date_on}
+use Rattle.cal_types.specs.DayDates.{date_on}
 use Rattle.cal_holidays.specs.MonthDays.{IsFirstInMonth, IsMonthOn, IsNthNumber, IsOnly}
 use Rattle.cal_holidays.specs.Naming.{has_weekday, is_month, is_nth, is_nth_day}
 use Rattle.cal_holidays.specs.Merging.{IsFirstDay}
-use Rattle.cal_model.proofs.DayDateLemmas.{date_on-on}
+use Rattle.cal_types.proofs.DayDateLemmas.{date_on-on}
 
 seven : (w : Weekday) → days_since_sunday w < 7
 seven Monday = omega arith

@@ -1,6 +1,6 @@
 -- In which years the Easters lie from which the days of a rule are counted.
 use Rattle.std.specs.Prelude.{◌≡◌, Bool, true, ℤ, ◌-ℤ◌, ◌≤ℤ◌}
-use Rattle.cal_model.specs.DayDates.{date_on}
+use Rattle.cal_types.specs.DayDates.{date_on}
 use Rattle.cal_holidays.specs.Naming.{easter_list, is_easter}
 
 -- each day from a first one on that is so many days from Easter is counted from an Easter of a year from this one on

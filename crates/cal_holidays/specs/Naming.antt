@@ -7,13 +7,13 @@ use Rattle.cal_days.specs.Easter.{gregorian_april_19, gregorian_epact, julian_ap
 use Rattle.cal_days.specs.Gregorian.{gregorian_start}
 use Rattle.cal_days.specs.Julian.{julian_start}
 use Rattle.cal_julian.specs.JulianList.{julian_list}
-use Rattle.cal_model.specs.Anniversary.{is_anniversary}
-use Rattle.cal_model.specs.CalendarList.{CalendarList, month_at, month_length}
+use Rattle.cal_types.specs.Anniversary.{is_anniversary}
+use Rattle.cal_types.specs.CalendarList.{CalendarList, month_at, month_length}
 use Rattle.cal_tables.specs.Kinds.{TableContents, kind_system}
 use Rattle.cal_types.specs.Month.{MonthParts, month_rank}
 use Rattle.cal_types.specs.Weekday.{days_since_sunday}
 use Rattle.cal_types.specs.declared.weekday.Weekday.{Weekday}
-use Rattle.cal_model.specs.DayDates.{date_on}
+use Rattle.cal_types.specs.DayDates.{date_on}
 use Rattle.cal_holidays.specs.Rules.{Rule, Fixed, Easter, Nth}
 
 -- whether two months are the same

@@ -1,7 +1,7 @@
 //! The first anniversary of a window.
 
 ghost use Rattle.std.specs.Prelude.{◌≡◌, ◌&&◌, nat_le, true};
-ghost use Rattle.cal_model.specs.Anniversary.{is_anniversary};
+ghost use Rattle.cal_types.specs.Anniversary.{is_anniversary};
 ghost use Rattle.cal_types.specs.MonthParts.{month_parts};
 ghost use Rattle.cal_holidays.specs.Merging.{IsFirstDay};
 

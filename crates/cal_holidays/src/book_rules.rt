@@ -2,7 +2,7 @@
 
 ghost use Rattle.std.specs.Prelude.{◌≡◌, ◌&&◌, nat_le, true};
 ghost use Rattle.cal_days.specs.Day.{IsValidDay};
-ghost use Rattle.cal_model.specs.Anniversary.{is_anniversary};
+ghost use Rattle.cal_types.specs.Anniversary.{is_anniversary};
 ghost use Rattle.cal_tables.specs.Kinds.{kind_system, table_contents};
 ghost use Rattle.cal_types.specs.MonthParts.{month_parts};
 ghost use Rattle.cal_holidays.specs.KindMonths.{knows_month};

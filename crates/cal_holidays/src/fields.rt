@@ -3,7 +3,7 @@
 ghost use Rattle.std.specs.Prelude.{◌≡◌, option_map, [], get_or, length, nat_le, int_le, pos, neg_ℤ, true, IfOk, IfSome, ◌&&◌};
 ghost use Rattle.std.specs.List.{list_all};
 ghost use Rattle.std.specs.Result.{result_map_both};
-ghost use Rattle.cal_model.specs.YearNames.{is_code};
+ghost use Rattle.cal_types.specs.YearNames.{is_code};
 ghost use Rattle.cal_types.specs.MonthParts.{month_parts};
 ghost use Rattle.cal_holidays.specs.KindMonths.{knows_month};
 ghost use Rattle.cal_holidays.specs.Rules.{day_read, is_julian, is_nth_number, is_proper, is_name, leaping_named, month_of, nothing, nth_named, offset_read, rule_kind, rule_read, rule_said, six_fields, weekday_named, weekday_word};

@@ -7,8 +7,8 @@ use Rattle.std.proofs.lemmas.Option.{slice_get-get_or, slice_get_within, get_or_
 use Rattle.cal_days.specs.Day.{is_between}
 use Rattle.cal_days.specs.Persian.{persian_leap}
 use Rattle.cal_days.proofs.Signed.{signed, by_bool, by_lt}
-use Rattle.cal_model.proofs.DateTests.{and-left, and-right, true-and}
-use Rattle.cal_rows.specs.laws.RowLaws.{row_before-next}
+use Rattle.cal_types.proofs.DateTests.{and-left, and-right, true-and}
+use Rattle.cal_types.specs.laws.RowLaws.{row_before-next}
 use Rattle.cal_julian.specs.PersianAccepted.{IsListed, year_before, is_above, AreCorrections}
 use Rattle.cal_julian.specs.PersianRule.{AreCorrectable, IsRising, is_correctable}
 use Rattle.cal_errors.specs.declared.errors.TablePart.TheVariants.{Year, Join, End, Leap, Rule}

@@ -5,9 +5,9 @@ use Rattle.std.proofs.lemmas.Bool.Decides.{nat_tests}
 use Rattle.cal_days.specs.Gregorian.{first_of_march, gregorian_start}
 use Rattle.cal_days.proofs.Signed.{signed, by_lt}
 use Rattle.cal_days.proofs.GregorianLemmas.{gregorian_start-next, gregorian_year_length-parts, leap_day}
-use Rattle.cal_model.specs.CalendarList.{date, day_number, start_of_year, HasPlace, IsOn}
-use Rattle.cal_model.proofs.ListLemmas.{days_before-first}
-use Rattle.cal_model.proofs.MonthCases.{by_month, by_thirteen}
+use Rattle.cal_types.specs.CalendarList.{date, day_number, start_of_year, HasPlace, IsOn}
+use Rattle.cal_types.proofs.ListLemmas.{days_before-first}
+use Rattle.cal_types.proofs.MonthCases.{by_month, by_thirteen}
 use Rattle.cal_julian.specs.IndianList.{indian_days_before, indian_leap, indian_list, indian_month_length, vaisakha_days_before, vaisakha_month}
 use Rattle.cal_julian.specs.laws.IndianLaws.{days_before-indian, indian_list-plain, month_length-indian, start_of_year-indian}
 

@@ -3,8 +3,8 @@
 -- and is a leap year with it.
 use Rattle.std.specs.Prelude.{ℕ, ◌-◌, Bool, true, nat_le, if◌then◌else◌, List, [], ◌∷◌, take, sum_by, slice_index_or, ℤ, pos, ◌+ℤ◌}
 use Rattle.cal_days.specs.Gregorian.{gregorian_leap, gregorian_start}
-use Rattle.cal_model.specs.CalendarList.{CalendarList, Entry, days_of, no_entry}
-use Rattle.cal_model.specs.PlainMonths.{plain_entry, is_plain_month}
+use Rattle.cal_types.specs.CalendarList.{CalendarList, Entry, days_of, no_entry}
+use Rattle.cal_types.specs.PlainMonths.{plain_entry, is_plain_month}
 use Rattle.cal_arith.specs.Given.{CalendarYears}
 use Rattle.cal_base.specs.declared.numbered_year.NumberedYear.{NumberedYear}
 

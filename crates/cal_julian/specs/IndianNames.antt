@@ -3,9 +3,9 @@
 -- of the ISO calendar, as ECMAScript Temporal's NonISOMonthDayToISOReferenceDate has it;
 -- that day is the 10th of the tenth month of the Indian year 1894.
 use Rattle.std.specs.Prelude.{ℕ, ℤ, pos, codes, ◌&&◌, ◌||◌, nat_eq, nat_le, if◌then◌else◌}
-use Rattle.cal_model.specs.Eras.{only_era_reads}
-use Rattle.cal_model.specs.PlainMonths.{is_plain_month}
-use Rattle.cal_model.specs.YearNames.{YearNames, reference_of_known}
+use Rattle.cal_types.specs.Eras.{only_era_reads}
+use Rattle.cal_types.specs.PlainMonths.{is_plain_month}
+use Rattle.cal_types.specs.YearNames.{YearNames, reference_of_known}
 
 -- 1893 after that day, and 1894 up to it
 abbrev pub indian_reference_year : ℕ → ℕ → ℤ

@@ -3,9 +3,9 @@
 -- of the ISO calendar, as ECMAScript Temporal's NonISOMonthDayToISOReferenceDate has it;
 -- that day is December 18 of the Julian year 1972.
 use Rattle.std.specs.Prelude.{ℕ, ℤ, pos, ◌&&◌, nat_eq, nat_le, if◌then◌else◌}
-use Rattle.cal_model.specs.Eras.{common_era_reads}
-use Rattle.cal_model.specs.PlainMonths.{is_plain_month}
-use Rattle.cal_model.specs.YearNames.{YearNames, reference_of_known}
+use Rattle.cal_types.specs.Eras.{common_era_reads}
+use Rattle.cal_types.specs.PlainMonths.{is_plain_month}
+use Rattle.cal_types.specs.YearNames.{YearNames, reference_of_known}
 
 -- 1972, and from December 19 on 1971
 abbrev pub julian_reference_year : ℕ → ℕ → ℤ

@@ -2,8 +2,8 @@
 use Rattle.std.specs.Prelude.{ℕ, Bool, true, ◌&&◌, int_lt, List, Option, Some, None, ℤ, pos}
 use Rattle.cal_days.specs.Day.{is_between}
 use Rattle.cal_days.specs.Persian.{persian_leap}
-use Rattle.cal_rows.specs.Rows as rows
-use Rattle.cal_rows.specs.Faults as faults
+use Rattle.cal_types.specs.Rows as rows
+use Rattle.cal_types.specs.Faults as faults
 use Rattle.cal_errors.specs.declared.errors.TablePart.{TablePart}
 use Rattle.cal_errors.specs.declared.errors.TablePart.TheVariants.{Year, Join, End, Leap, Rule}
 use Rattle.cal_errors.specs.declared.errors.TableFault.{TableFault}

@@ -1,8 +1,8 @@
 -- The Persian calendar as a list of years.
 -- Source: the months of the calendar of Iran's law of 1925, and the rule of 33 years with its corrections.
 use Rattle.std.specs.Prelude.{ℕ, ◌-◌, Bool, if◌then◌else◌, List, [], ◌∷◌, take, sum_by, slice_index_or, ℤ, pos}
-use Rattle.cal_model.specs.CalendarList.{CalendarList, Entry, days_of, no_entry}
-use Rattle.cal_model.specs.PlainMonths.{plain_entry, is_plain_month}
+use Rattle.cal_types.specs.CalendarList.{CalendarList, Entry, days_of, no_entry}
+use Rattle.cal_types.specs.PlainMonths.{plain_entry, is_plain_month}
 use Rattle.cal_arith.specs.Given.{CalendarYears}
 use Rattle.cal_julian.specs.PersianRule.{is_persian_leap}
 use Rattle.cal_base.specs.declared.numbered_year.NumberedYear.{NumberedYear}

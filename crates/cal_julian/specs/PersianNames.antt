@@ -5,9 +5,9 @@
 use Rattle.std.specs.Prelude.{ℕ, ℤ, pos, ◌&&◌, ◌||◌, nat_eq, nat_le, if◌then◌else◌, codes, Some}
 use Rattle.cal_types.specs.declared.year.EraYear.{EraYear}
 use Rattle.cal_types.specs.declared.year.YearAmbiguity.TheVariants.{CenturyRequired}
-use Rattle.cal_model.specs.Eras.{only_era_reads}
-use Rattle.cal_model.specs.PlainMonths.{is_plain_month}
-use Rattle.cal_model.specs.YearNames.{YearNames, reference_of_known}
+use Rattle.cal_types.specs.Eras.{only_era_reads}
+use Rattle.cal_types.specs.PlainMonths.{is_plain_month}
+use Rattle.cal_types.specs.YearNames.{YearNames, reference_of_known}
 
 -- 1351, and from month 10, day 11 on 1350
 abbrev pub persian_reference_year : ℕ → ℕ → ℤ

@@ -5,7 +5,7 @@
 ghost use Rattle.std.specs.Prelude.{◌≡◌, ◌+◌, ◌-◌, ◌<◌, ◌≤◌, ◌↔◌, IsTrue, true, if◌then◌else◌, nat_le, neg_ℤ, pos, ◌+ℤ◌, ◌-ℤ◌};
 ghost use Rattle.cal_days.specs.Day.{IsBetween, IsRuleYear, IsValidDay, is_field_year};
 ghost use Rattle.cal_days.specs.Gregorian.{first_of_march, gregorian_leap};
-ghost use Rattle.cal_model.specs.CalendarList.{date, day_number, IsDate, IsOn};
+ghost use Rattle.cal_types.specs.CalendarList.{date, day_number, IsDate, IsOn};
 ghost use Rattle.cal_julian.specs.IndianList.{indian_leap, indian_list, indian_month_length, vaisakha_days_before, vaisakha_month};
 ghost use Rattle.cal_julian.specs.IndianNames.{indian_reference_year};
 
@@ -309,9 +309,9 @@ fn reference_year(month: u8, day: u8) -> i32
 
 impl DateFieldsResolver for Indian {
     ghost use Rattle.std.specs.Prelude.{codes};
-    ghost use Rattle.cal_model.specs.PlainMonths.{is_plain_month};
-    ghost use Rattle.cal_model.proofs.EraLemmas.{only_era_reads-in_range, only_era_reads-covered};
-    ghost use Rattle.cal_model.proofs.YearNameLemmas.{reference_of_known-stands, reference_of_known-tested};
+    ghost use Rattle.cal_types.specs.PlainMonths.{is_plain_month};
+    ghost use Rattle.cal_types.proofs.EraLemmas.{only_era_reads-in_range, only_era_reads-covered};
+    ghost use Rattle.cal_types.proofs.YearNameLemmas.{reference_of_known-stands, reference_of_known-tested};
     ghost use Rattle.cal_julian.specs.laws.IndianLaws.{indian_list-plain};
     ghost use Rattle.cal_julian.specs.IndianNames.{indian_names, indian_reference_year};
 
@@ -411,7 +411,7 @@ impl UnstableSealed for Indian {}
 
 impl Calendar for Indian {
     ghost use Rattle.std.specs.Prelude.{true, false, refl, codes, Some};
-    ghost use Rattle.cal_algorithms.specs.declared.algorithm.CalendarAlgorithm.TheVariants.{Indian as indian};
+    ghost use Rattle.cal_errors.specs.declared.algorithm.CalendarAlgorithm.TheVariants.{Indian as indian};
     ghost use Rattle.cal_base.specs.laws.Compatibility.{never_refused};
     ghost use Rattle.cal_base.specs.laws.NumberedYears.{numbered_equal, numbered_ordered};
     ghost use Rattle.cal_julian.specs.IndianList.{indian_list};

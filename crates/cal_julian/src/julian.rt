@@ -3,7 +3,7 @@
 ghost use Rattle.std.specs.Prelude.{◌≡◌, ◌↔◌, ◌≤◌, IsTrue, neg_ℤ, pos};
 ghost use Rattle.cal_days.specs.Day.{IsBetween, IsFieldYear, IsRuleYear, IsValidDay, is_field_year};
 ghost use Rattle.cal_days.specs.Julian.{julian_leap};
-ghost use Rattle.cal_model.specs.CalendarList.{date, day_number, IsDate, IsOn};
+ghost use Rattle.cal_types.specs.CalendarList.{date, day_number, IsDate, IsOn};
 ghost use Rattle.cal_base.specs.GregorianList.{gregorian_month_length};
 ghost use Rattle.cal_julian.specs.JulianEra.{julian_era_year};
 ghost use Rattle.cal_julian.specs.JulianList.{julian_list};
@@ -213,9 +213,9 @@ fn reference_year(month: u8, day: u8) -> i32
 }
 
 impl DateFieldsResolver for Julian {
-    ghost use Rattle.cal_model.specs.PlainMonths.{is_plain_month};
-    ghost use Rattle.cal_model.proofs.EraLemmas.{common_era_reads-in_range, common_era_reads-covered};
-    ghost use Rattle.cal_model.proofs.YearNameLemmas.{reference_of_known-stands, reference_of_known-tested};
+    ghost use Rattle.cal_types.specs.PlainMonths.{is_plain_month};
+    ghost use Rattle.cal_types.proofs.EraLemmas.{common_era_reads-in_range, common_era_reads-covered};
+    ghost use Rattle.cal_types.proofs.YearNameLemmas.{reference_of_known-stands, reference_of_known-tested};
     ghost use Rattle.cal_julian.specs.laws.JulianLaws.{julian_list-plain};
     ghost use Rattle.cal_julian.specs.JulianNames.{julian_names, julian_reference_year};
 

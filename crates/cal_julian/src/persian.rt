@@ -181,10 +181,10 @@ fn reference_year(month: u8, day: u8) -> i32
 }
 
 impl<'t> DateFieldsResolver for Persian<'t> {
-    ghost use Rattle.cal_model.specs.PlainMonths.{is_plain_month};
+    ghost use Rattle.cal_types.specs.PlainMonths.{is_plain_month};
     ghost use Rattle.std.specs.Prelude.{codes};
-    ghost use Rattle.cal_model.proofs.EraLemmas.{only_era_reads-in_range, only_era_reads-covered};
-    ghost use Rattle.cal_model.proofs.YearNameLemmas.{reference_of_known-stands, reference_of_known-tested};
+    ghost use Rattle.cal_types.proofs.EraLemmas.{only_era_reads-in_range, only_era_reads-covered};
+    ghost use Rattle.cal_types.proofs.YearNameLemmas.{reference_of_known-stands, reference_of_known-tested};
     ghost use Rattle.cal_julian.specs.PersianCorrected.{corrected_years};
     ghost use Rattle.cal_julian.specs.laws.PersianLaws.{persian_list-plain};
     ghost use Rattle.cal_julian.specs.PersianNames.{persian_names, persian_reference_year};
@@ -292,7 +292,7 @@ impl<'t> Calendar for Persian<'t> {
     ghost use Rattle.std.specs.Prelude.{false, refl, codes, Some};
     ghost use Rattle.std.specs.Cmp.{int_eq_equiv};
     ghost use Rattle.std.specs.Cmp.Lexicographic.{lists_equiv};
-    ghost use Rattle.cal_algorithms.specs.declared.algorithm.CalendarAlgorithm.TheVariants as algorithms;
+    ghost use Rattle.cal_errors.specs.declared.algorithm.CalendarAlgorithm.TheVariants as algorithms;
     ghost use Rattle.cal_base.specs.laws.NumberedYears.{numbered_equal, numbered_ordered};
     ghost use Rattle.cal_julian.specs.PersianCorrected.{are_corrected_alike, corrected_years};
     ghost use Rattle.cal_julian.specs.PersianList.{persian_list};

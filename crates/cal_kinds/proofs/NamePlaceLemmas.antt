@@ -3,7 +3,7 @@ use Rattle.std.proofs.Common.{◌≡◌, ◌==◌, ℕ, Bool, true, false, cond,
 use Rattle.std.specs.List.{find}
 use Rattle.std.proofs.lemmas.Bool.Decides.{Decides-eqb}
 use Rattle.std.specs.Cmp.Lexicographic.{pointwise_decides}
-use Rattle.cal_model.specs.YearNames.{is_code}
+use Rattle.cal_types.specs.YearNames.{is_code}
 use Rattle.cal_kinds.specs.KindNames.{kind_among, kind_named, program_names}
 use Rattle.cal_kinds.specs.NamePlaces.{kind_if, named_at, place_of}
 use Rattle.cal_kinds.specs.declared.any_calendar_kind.AnyCalendarKind.{AnyCalendarKind}

@@ -1,9 +1,9 @@
 -- The kinds of calendars by their names: the program's, those of the variants, and CLDR's (the key `ca` of UTS 35).
 use Rattle.std.specs.Prelude.{ℕ, List, [], ◌∷◌, Option, Some, None, if◌then◌else◌, codes}
-use Rattle.cal_algorithms.specs.declared.algorithm.CalendarAlgorithm.{CalendarAlgorithm}
-use Rattle.cal_algorithms.specs.declared.algorithm.CalendarAlgorithm.TheVariants as algorithm
-use Rattle.cal_algorithms.specs.declared.algorithm.HijriCalendarAlgorithm.TheVariants.{Civil, Rgsa, Tbla, Umalqura}
-use Rattle.cal_model.specs.YearNames.{is_code}
+use Rattle.cal_errors.specs.declared.algorithm.CalendarAlgorithm.{CalendarAlgorithm}
+use Rattle.cal_errors.specs.declared.algorithm.CalendarAlgorithm.TheVariants as algorithm
+use Rattle.cal_errors.specs.declared.algorithm.HijriCalendarAlgorithm.TheVariants.{Civil, Rgsa, Tbla, Umalqura}
+use Rattle.cal_types.specs.YearNames.{is_code}
 use Rattle.cal_kinds.specs.declared.any_calendar_kind.AnyCalendarKind.{AnyCalendarKind}
 use Rattle.cal_kinds.specs.declared.any_calendar_kind.AnyCalendarKind.TheVariants as kind
 

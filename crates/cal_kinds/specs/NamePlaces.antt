@@ -1,6 +1,6 @@
 -- The table of the program's names, in which each has a place of its own.
 use Rattle.std.specs.Prelude.{ℕ, ◌+◌, ◌*◌, ◌-◌, ◌%◌, ◌==◌, List, length, get_or, Option, Some, None, if◌then◌else◌}
-use Rattle.cal_model.specs.YearNames.{is_code}
+use Rattle.cal_types.specs.YearNames.{is_code}
 use Rattle.std.specs.List.{find}
 use Rattle.cal_kinds.specs.KindNames.{program_names}
 use Rattle.cal_kinds.specs.declared.any_calendar_kind.AnyCalendarKind.{AnyCalendarKind}

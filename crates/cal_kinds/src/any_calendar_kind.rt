@@ -2,8 +2,8 @@
 
 ghost use Rattle.std.specs.Prelude.{◌≡◌, ◌<◌, length, ok_or, Some};
 ghost use Rattle.std.specs.Option.{option_map};
-ghost use Rattle.cal_model.specs.YearNames.{is_code};
-ghost use Rattle.cal_algorithms.specs.declared.algorithm.CalendarAlgorithm.TheVariants.{Hijri};
+ghost use Rattle.cal_types.specs.YearNames.{is_code};
+ghost use Rattle.cal_errors.specs.declared.algorithm.CalendarAlgorithm.TheVariants.{Hijri};
 ghost use Rattle.cal_kinds.specs.KindNames.{kind_named, kind_of_algorithm};
 ghost use Rattle.cal_kinds.specs.NamePlaces.{kind_if, named_at, place_of};
 

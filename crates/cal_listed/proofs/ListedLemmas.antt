@@ -9,10 +9,10 @@ use Rattle.cal_days.specs.Sums.{years_up}
 use Rattle.cal_days.proofs.Signed.{signed, by_bool}
 use Rattle.cal_listed.specs.declared.listed_years.ListedMonth.{ListedMonth}
 use Rattle.cal_listed.specs.declared.listed_years.ListedYears.{ListedYears}
-use Rattle.cal_model.specs.CalendarList.{CalendarList, Date, date, days_of, month_count, year_length, start_of_year, days_before, day_number, HasPlace, IsDate}
+use Rattle.cal_types.specs.CalendarList.{CalendarList, Date, date, days_of, month_count, year_length, start_of_year, days_before, day_number, HasPlace, IsDate}
 use Rattle.cal_listed.specs.YearList.{YearList, are_short, days_in, days_in_years}
 use Rattle.cal_listed.specs.ListedYears.{entry_of, IsListOf, IsListed}
-use Rattle.cal_model.proofs.ListLemmas.{start_of_year-next, days_before-next}
+use Rattle.cal_types.proofs.ListLemmas.{start_of_year-next, days_before-next}
 
 -- the days of listed months are those of their entries
 sum_by-entry_of : (months : List ListedMonth) → sum_by days_of (map entry_of months) ≡ days_in months

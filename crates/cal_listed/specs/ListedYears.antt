@@ -7,8 +7,8 @@ use Rattle.cal_listed.specs.declared.listed_years.ListedYears.{ListedYears}
 use Rattle.cal_listed.specs.YearList.{YearList}
 use Rattle.cal_types.specs.declared.duration.DateDuration.{DateDuration}
 use Rattle.cal_types.specs.declared.duration.DateDurationUnit.{DateDurationUnit}
-use Rattle.cal_model.specs.CalendarList.{CalendarList, Date, date, Entry, IsDate, IsLawful, IsOn, start_of_year}
-use Rattle.cal_model.specs.Difference.{IsDifference}
+use Rattle.cal_types.specs.CalendarList.{CalendarList, Date, date, Entry, IsDate, IsLawful, IsOn, start_of_year}
+use Rattle.cal_types.specs.Difference.{IsDifference}
 
 -- a listed month as an entry of a calendar
 abbrev pub entry_of : ListedMonth → Entry

@@ -8,8 +8,8 @@ use Rattle.std.specs.Option.{option_and_then, option_to_list}
 use Rattle.std.proofs.lemmas.Int.{ints}
 use Rattle.cal_types.specs.declared.options.Overflow.TheVariants.{Constrain}
 use Rattle.cal_days.specs.Day.{IsBetween, IsFieldYear, is_between}
-use Rattle.cal_model.specs.CalendarList.{Date, IsLawful, IsValidDate}
-use Rattle.cal_model.specs.CalendarSystem.{CalendarSystem}
+use Rattle.cal_types.specs.CalendarList.{Date, IsLawful, IsValidDate}
+use Rattle.cal_types.specs.CalendarSystem.{CalendarSystem}
 use Rattle.cal_days.proofs.Signed.{signed, by_lt}
 use Rattle.cal_days.proofs.RangeLemmas.{is_between-true, true-is_between}
 use Rattle.cal_recur.specs.declared.recurrence.Occurrence.{Occurrence}

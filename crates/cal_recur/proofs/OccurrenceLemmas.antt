@@ -12,14 +12,14 @@ use Rattle.cal_types.specs.declared.duration.DateDurationUnit.TheVariants.{Years
 use Rattle.cal_errors.specs.declared.errors.DateAddError.{DateAddError}
 use Rattle.cal_errors.specs.declared.errors.DateAddError.TheVariants as fault
 use Rattle.cal_days.specs.Day.{IsFieldYear, is_valid_day, is_field_year}
-use Rattle.cal_model.specs.CalendarList.{CalendarList, Date, date, month_at, month_count, month_length, month_number, place_of, spot, day_number, HasPlace, IsDate, IsLawful, IsMonthsAfter, IsOn, IsValidDate, IsBefore}
-use Rattle.cal_model.specs.Adding.{is_addable, is_reject, IsSum, IsSumFromMonth, IsValidOn}
-use Rattle.cal_model.specs.Difference.{Reaches, toward}
+use Rattle.cal_types.specs.CalendarList.{CalendarList, Date, date, month_at, month_count, month_length, month_number, place_of, spot, day_number, HasPlace, IsDate, IsLawful, IsMonthsAfter, IsOn, IsValidDate, IsBefore}
+use Rattle.cal_types.specs.Adding.{is_addable, is_reject, IsSum, IsSumFromMonth, IsValidOn}
+use Rattle.cal_types.specs.Difference.{Reaches, toward}
 use Rattle.cal_days.proofs.Signed.{signed, by_lt}
 use Rattle.cal_days.proofs.RangeLemmas.{true-is_between, is_between-true}
-use Rattle.cal_model.proofs.ListLemmas.{by_place_order, day_number-rises, month_number-injective, month_number-next, month_number-order, month_number-place, on-finds, spot-own, spot-place}
-use Rattle.cal_model.proofs.DifferenceLemmas.{base, base-date, reach-unique, toward-zero}
-use Rattle.cal_model.proofs.DifferenceLaws.{base-own, reaches-own}
+use Rattle.cal_types.proofs.ListLemmas.{by_place_order, day_number-rises, month_number-injective, month_number-next, month_number-order, month_number-place, on-finds, spot-own, spot-place}
+use Rattle.cal_types.proofs.DifferenceLemmas.{base, base-date, reach-unique, toward-zero}
+use Rattle.cal_types.proofs.DifferenceLaws.{base-own, reaches-own}
 use Rattle.cal_recur.specs.Occurrence.{day_after, day_from_month, day_in, forward, months_on, next_month, occurrence, units, valid_only}
 
 -- what the next month is, by whether the year has one

@@ -2,9 +2,9 @@
 use Rattle.std.specs.Prelude.{◌≡◌, ◌<◌, ◌<ℤ◌, ◌↔◌, AllPairs, Contains, Ok, ℕ, zero, suc, ◌*◌, cond, List, [], ◌++◌, Option, Some, None, option_to_list, ℤ}
 use Rattle.std.specs.Option.{option_and_then}
 use Rattle.cal_days.specs.Day.{IsBetween, is_between}
-use Rattle.cal_model.specs.CalendarList.{Date, day_number}
-use Rattle.cal_model.specs.CalendarSystem.{CalendarSystem}
-use Rattle.cal_model.specs.Adding.{IsSum}
+use Rattle.cal_types.specs.CalendarList.{Date, day_number}
+use Rattle.cal_types.specs.CalendarSystem.{CalendarSystem}
+use Rattle.cal_types.specs.Adding.{IsSum}
 use Rattle.cal_types.specs.declared.options.Overflow.{Overflow}
 use Rattle.cal_recur.specs.declared.recurrence.Occurrence.{Occurrence}
 use Rattle.cal_recur.specs.declared.rule.Rule.{Rule}

@@ -2,8 +2,8 @@
 use Rattle.std.specs.Prelude.{◌≡◌, ℕ, ◌<◌, Some, ℤ, ◌<ℤ◌}
 use Rattle.cal_types.specs.declared.options.Overflow.TheVariants.{Constrain}
 use Rattle.cal_types.specs.declared.duration.DateDurationUnit.{DateDurationUnit}
-use Rattle.cal_model.specs.CalendarList.{Date}
-use Rattle.cal_model.specs.CalendarSystem.{CalendarSystem}
+use Rattle.cal_types.specs.CalendarList.{Date}
+use Rattle.cal_types.specs.CalendarSystem.{CalendarSystem}
 use Rattle.cal_recur.specs.Occurrence.{occurrence}
 
 -- fewer of a unit than m, added to a start, lead before a day, and more of it lead after it

@@ -1,6 +1,6 @@
 -- The list of each kind of calendar is lawful.
 use Rattle.std.proofs.Common.{[], pos}
-use Rattle.cal_model.specs.CalendarList.{IsLawful}
+use Rattle.cal_types.specs.CalendarList.{IsLawful}
 use Rattle.cal_base.specs.laws.OffsetListLaws.{offset_list-lawful}
 use Rattle.cal_coptic.specs.laws.CopticLaws.{coptic_list-lawful}
 use Rattle.cal_coptic.specs.EthiopianList.{coptic_offset}

@@ -1,6 +1,6 @@
 -- The calendar of each kind, over tables.
 use Rattle.std.specs.Prelude.{ℤ, pos, List, []}
-use Rattle.cal_model.specs.CalendarSystem.{CalendarSystem}
+use Rattle.cal_types.specs.CalendarSystem.{CalendarSystem}
 use Rattle.cal_base.specs.IsoSystem.{iso_system}
 use Rattle.cal_base.specs.OffsetSystem.{offset_system}
 use Rattle.cal_coptic.specs.CopticSystem.{coptic_system}

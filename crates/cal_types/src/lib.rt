@@ -1,5 +1,6 @@
-//! The plain types of the calendars: small texts, months, years, bags of fields, options, durations and
-//! errors.
+//! The plain types of the calendars: small texts, months, years, bags of fields, options and durations; and, over
+//! them, what a calendar is, what dates, fields and differences mean in any calendar, what the rows of a table of years
+//! are, and what two bags of fields ask for: definitions, in `specs/`, and the lemmas on them.
 //!
 //! Names and shapes follow `icu_calendar`; month codes and options are those of ECMAScript Temporal.
 #![tactic(auto)]
@@ -9,10 +10,13 @@ pub mod duration;
 mod duration_text;
 pub mod fields;
 pub mod leaping;
+mod lengthening;
 pub mod month;
 pub mod month_code;
 pub mod month_info;
 pub mod options;
+mod span_error;
+pub mod span_laws;
 pub mod tiny;
 pub mod week_information;
 pub mod weekday;
@@ -20,25 +24,24 @@ pub mod weekday_set;
 pub mod window;
 pub mod year;
 
-pub use cal_algorithms::{
-    CalendarAlgorithm, CalendarPreference, HijriCalendarAlgorithm, ParseError,
-};
 pub use cal_errors::{
-    DateAddError, DateDurationParseError, DateError, DateFromFieldsError, DateNewError,
-    EcmaReferenceYearError, LengthenFault, LunisolarDateError, MismatchedCalendarError,
-    MonthCodeParseError, MonthError, RangeError, TableFault, TablePart, TinyStrError,
-    UnknownEraError,
+    CalendarAlgorithm, CalendarPreference, DateAddError, DateDurationParseError, DateError,
+    DateFromFieldsError, DateNewError, EcmaReferenceYearError, HijriCalendarAlgorithm,
+    LengthenFault, LunisolarDateError, MismatchedCalendarError, MonthCodeParseError, MonthError,
+    ParseError, RangeError, TableFault, TablePart, TinyStrError, UnknownEraError,
 };
 pub use day::{DayOfMonth, DayOfWeekInMonth, DayOfYear, IsoWeekOfYear};
 pub use duration::{DateDuration, DateDurationUnit};
 pub use fields::DateFields;
 pub use leaping::Leaping;
+pub use lengthening::{Row, first_difference};
 pub use month::Month;
 pub use month_code::MonthCode;
 pub use month_info::{LeapStatus, MonthInfo};
 pub use options::{
     DateAddOptions, DateDifferenceOptions, DateFromFieldsOptions, MissingFieldsStrategy, Overflow,
 };
+pub use span_error::{BagSide, SpanError};
 pub use tiny::TinyAsciiStr;
 pub use week_information::{WeekInformation, WeekdaySetIterator};
 pub use weekday::Weekday;

@@ -3,8 +3,8 @@ use Rattle.std.proofs.Common.{◌≡◌, ℕ, ◌+◌, Bool, true, false, cond, 
 use Rattle.std.proofs.lemmas.List.{append-nil, append_assoc}
 use Rattle.cal_tables.specs.Kinds.{TableContents, kind_system}
 use Rattle.cal_tables.proofs.KindLemmas.{kind_lawful}
-use Rattle.cal_model.specs.Difference.{largest_unit_of}
-use Rattle.cal_spans.proofs.SpanLemmas.{span-exists, span-unique}
+use Rattle.cal_types.specs.Difference.{largest_unit_of}
+use Rattle.cal_types.proofs.SpanLemmas.{span-exists, span-unique}
 use Rattle.request_lines.specs.Lines.{Line, Nothing, GivesRow, Requests, RequestLine, Long, Asks, Malformed, line_of}
 use Rattle.request_lines.proofs.LineLemmas.{line_says, line_is}
 use Rattle.reply_texts.specs.DateTexts.{reply_text, is_refusal}

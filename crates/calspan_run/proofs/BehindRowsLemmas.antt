@@ -3,7 +3,7 @@ use Rattle.std.proofs.Common.{◌≡◌, ℕ, Bool, true, false, List, [], ◌++
 use Rattle.std.proofs.lemmas.List.{append-nil}
 use Rattle.cal_errors.specs.declared.errors.TableFault.{TableFault}
 use Rattle.cal_tables.specs.Kinds.{TableContents}
-use Rattle.line_reader.specs.Lines.{lines_in}
+use Rattle.byte_io.specs.Lines.{lines_in}
 use Rattle.request_lines.specs.Lines.{RequestLine}
 use Rattle.calspan_run.specs.BehindRows.{Behind, OverTables, RefusesTables, SaysAt, SaysBehindRows}
 use Rattle.calspan_run.specs.Laws.{EveryInputHas, IsUnique, PrefixesHavePrefixes}

@@ -1,11 +1,11 @@
 -- The lines of days, and windows.
 use Rattle.std.proofs.Common.{◌≡◌, ℕ, ℤ, List, [], ◌∷◌, ◌++◌, ap, ◌∙◌}
 use Rattle.std.proofs.lemmas.List.{append_assoc}
-use Rattle.cal_model.specs.CalendarList.{Date, IsLawful, IsOn}
-use Rattle.cal_model.specs.CalendarSystem.{CalendarSystem}
-use Rattle.cal_model.specs.DayDates.{date_on}
-use Rattle.cal_model.proofs.DayDateLemmas.{date_on-on}
-use Rattle.cal_model.proofs.ListLemmas.{on-unique}
+use Rattle.cal_types.specs.CalendarList.{Date, IsLawful, IsOn}
+use Rattle.cal_types.specs.CalendarSystem.{CalendarSystem}
+use Rattle.cal_types.specs.DayDates.{date_on}
+use Rattle.cal_types.proofs.DayDateLemmas.{date_on-on}
+use Rattle.cal_types.proofs.ListLemmas.{on-unique}
 use Rattle.reply_texts.specs.DateTexts.{day_text}
 use Rattle.calspan_run.specs.DayLines.{day_line}
 

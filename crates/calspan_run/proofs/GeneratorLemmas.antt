@@ -1,11 +1,11 @@
 -- Requests that a number asks for, and the totals over them.
 use Rattle.std.proofs.Common.{◌≡◌, ℕ, zero, suc, false, Ok, Err, List, [], Option, refl, sym, ap, subst, ◌∙◌, ℤ}
-use Rattle.cal_model.specs.CalendarList.{day_number}
-use Rattle.cal_model.proofs.ListLemmas.{on-finds}
-use Rattle.cal_model.specs.Difference.{largest_unit_of}
-use Rattle.cal_spans.specs.Spans.{SpanDates}
-use Rattle.cal_spans.specs.declared.span_error.SpanError.{SpanError}
-use Rattle.cal_spans.proofs.SpanLemmas.{span-exists, span-unique}
+use Rattle.cal_types.specs.CalendarList.{day_number}
+use Rattle.cal_types.proofs.ListLemmas.{on-finds}
+use Rattle.cal_types.specs.Difference.{largest_unit_of}
+use Rattle.cal_types.specs.Spans.{SpanDates}
+use Rattle.cal_types.specs.declared.span_error.SpanError.{SpanError}
+use Rattle.cal_types.proofs.SpanLemmas.{span-exists, span-unique}
 use Rattle.cal_tables.specs.Kinds.{TableContents, kind_system, no_contents}
 use Rattle.date_parts.specs.Parts.{AreNamed, AreRefused}
 use Rattle.date_parts.specs.declared.span_parts.SpanParts.{SpanParts}

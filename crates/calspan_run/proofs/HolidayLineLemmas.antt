@@ -9,11 +9,11 @@ use Rattle.std.proofs.lemmas.Option.{slice_get_cases}
 use Rattle.cal_base.specs.IsoSystem.{iso_list, iso_system}
 use Rattle.cal_base.specs.laws.OffsetListLaws.{offset_list-lawful}
 use Rattle.cal_holidays.specs.Rules.{NamedRule, is_name}
-use Rattle.cal_model.specs.CalendarList.{Date, IsOn}
-use Rattle.cal_model.specs.DayDates.{date_on}
-use Rattle.cal_model.proofs.DateTests.{and-left, and-right}
-use Rattle.cal_model.proofs.DayDateLemmas.{date_on-on}
-use Rattle.cal_model.proofs.ListLemmas.{on-unique}
+use Rattle.cal_types.specs.CalendarList.{Date, IsOn}
+use Rattle.cal_types.specs.DayDates.{date_on}
+use Rattle.cal_types.proofs.DateTests.{and-left, and-right}
+use Rattle.cal_types.proofs.DayDateLemmas.{date_on-on}
+use Rattle.cal_types.proofs.ListLemmas.{on-unique}
 use Rattle.reply_texts.specs.DateTexts.{date_text}
 use Rattle.calspan_run.specs.DayLines.{list_text}
 use Rattle.calspan_run.specs.HolidayLines.{holiday_line, name_of, record_fault}

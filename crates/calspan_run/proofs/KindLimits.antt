@@ -39,9 +39,9 @@ use Rattle.cal_julian.specs.laws.JulianLaws as julian_bounds
 use Rattle.cal_julian.specs.laws.PersianLaws as persian_bounds
 use Rattle.cal_kinds.specs.declared.any_calendar_kind.AnyCalendarKind.{AnyCalendarKind}
 use Rattle.cal_kinds.specs.declared.any_calendar_kind.AnyCalendarKind.TheVariants as kind
-use Rattle.cal_model.proofs.RenumberedBoundLemmas.{ranged-renumbered, apart-renumbered}
-use Rattle.cal_rows.specs.Rows.{IsRow}
-use Rattle.cal_spans.specs.Laws.{IsWithinLimits}
+use Rattle.cal_types.proofs.RenumberedBoundLemmas.{ranged-renumbered, apart-renumbered}
+use Rattle.cal_types.specs.Rows.{IsRow}
+use Rattle.cal_types.specs.SpanLaws.{IsWithinLimits}
 use Rattle.cal_tables.specs.Kinds.{kind_system, no_contents, side_system}
 use Rattle.table_rows.specs.TableRows.{TableRows, no_rows, contents_of, AreAccepted}
 use Rattle.table_rows.specs.declared.table.Table.TheVariants as table

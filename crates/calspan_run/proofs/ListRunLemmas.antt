@@ -2,8 +2,8 @@
 use Rattle.std.proofs.Common.{◌≡◌, ℕ, Bool, true, false, cond, codes, List, [], Option, inl, inr, refl, ◌∙◌, sym, ap, subst}
 use Rattle.std.proofs.lemmas.List.{take_all}
 use Rattle.cal_tables.specs.Kinds.{TableContents}
-use Rattle.line_reader.specs.Buffer.{Holds}
-use Rattle.line_reader.specs.declared.buffer.LineBuffer.{LineBuffer}
+use Rattle.byte_io.specs.Buffer.{Holds}
+use Rattle.byte_io.specs.declared.buffer.LineBuffer.{LineBuffer}
 use Rattle.request_lines.specs.Lines.{Requests, RequestLine, Long, Asks, Malformed, IsLine}
 use Rattle.table_rows.specs.Reading.{is_long}
 use Rattle.table_rows.proofs.ReadingLemmas.{long_is}

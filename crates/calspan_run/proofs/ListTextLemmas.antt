@@ -4,8 +4,8 @@ use Rattle.std.proofs.lemmas.Bool.{false≢true}
 use Rattle.std.specs.Option.{option_and_then}
 use Rattle.cal_days.specs.Day.{is_between}
 use Rattle.cal_errors.specs.declared.errors.DateFromFieldsError.{DateFromFieldsError}
-use Rattle.cal_model.specs.CalendarList.{Date}
-use Rattle.cal_model.specs.CalendarSystem.{CalendarSystem, resolve_fields}
+use Rattle.cal_types.specs.CalendarList.{Date}
+use Rattle.cal_types.specs.CalendarSystem.{CalendarSystem, resolve_fields}
 use Rattle.cal_recur.specs.Listing.{gathered, index_count, occurrences}
 use Rattle.cal_recur.specs.Occurrence.{occurrence}
 use Rattle.cal_recur.specs.Rule.{IsRule, overflow_of}

@@ -6,9 +6,9 @@ use Rattle.cal_days.proofs.Signed.{signed}
 use Rattle.cal_types.specs.MonthParts.{month_parts}
 use Rattle.cal_types.specs.Windows.{days_from}
 use Rattle.cal_types.specs.declared.window.Window.{Window}
-use Rattle.cal_model.specs.Anniversary.{is_anniversary}
-use Rattle.cal_model.specs.CalendarList.{CalendarList, Date}
-use Rattle.cal_model.specs.CalendarSystem.{CalendarSystem}
+use Rattle.cal_types.specs.Anniversary.{is_anniversary}
+use Rattle.cal_types.specs.CalendarList.{CalendarList, Date}
+use Rattle.cal_types.specs.CalendarSystem.{CalendarSystem}
 use Rattle.cal_anniversary.specs.Listing.{days_left}
 use Rattle.cal_anniversary.specs.declared.yearly_day.YearlyDay.{YearlyDay}
 use Rattle.std.specs.Option.{option_to_list}

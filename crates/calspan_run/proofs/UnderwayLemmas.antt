@@ -3,12 +3,12 @@ use Rattle.std.proofs.Common.{◌≡◌, ℕ, ◌+◌, ◌≤◌, Bool, true, fa
 use Rattle.std.proofs.lemmas.List.{append-nil, append_assoc, length_push, length-append, take_all}
 use Rattle.std.specs.Io.KnownBytes.{Consumes, IsAtEnd, Keeps}
 use Rattle.byte_io.specs.Faults.{Rose}
-use Rattle.line_reader.specs.Buffer.{Holds}
-use Rattle.line_reader.specs.Lines.{lines_in, open_line}
-use Rattle.line_reader.specs.Reader.{IsAt, GivesLine, GivesAll, GivesTooLong, lines_given}
-use Rattle.line_reader.specs.declared.buffer.LineBuffer.{LineBuffer}
-use Rattle.line_reader.specs.declared.reader.Reader.{Reader}
-use Rattle.line_reader.proofs.PrefixLemmas.{given_in_all, given_within}
+use Rattle.byte_io.specs.Buffer.{Holds}
+use Rattle.byte_io.specs.Lines.{lines_in, open_line}
+use Rattle.byte_io.specs.Reader.{IsAt, GivesLine, GivesAll, GivesTooLong, lines_given}
+use Rattle.byte_io.specs.declared.buffer.LineBuffer.{LineBuffer}
+use Rattle.byte_io.specs.declared.reader.Reader.{Reader}
+use Rattle.byte_io.proofs.PrefixLemmas.{given_in_all, given_within}
 use Rattle.request_lines.specs.Lines.{Requests, RequestLine, IsLine, line_of}
 use Rattle.request_lines.proofs.LineLemmas.{line_says}
 use Rattle.calspan_run.specs.Underway.{AnswersBehind, IsUnderway}

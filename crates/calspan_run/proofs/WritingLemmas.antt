@@ -4,8 +4,8 @@ use Rattle.std.proofs.lemmas.Bool.Decides.{eqb_tells}
 use Rattle.byte_io.specs.declared.Failed.{Failed}
 use Rattle.cal_errors.specs.declared.errors.DateFromFieldsError.{DateFromFieldsError}
 use Rattle.cal_types.specs.Bag.{Bag}
-use Rattle.cal_model.specs.CalendarList.{Date}
-use Rattle.cal_model.specs.CalendarSystem.{CalendarSystem}
+use Rattle.cal_types.specs.CalendarList.{Date}
+use Rattle.cal_types.specs.CalendarSystem.{CalendarSystem}
 use Rattle.cal_anniversary.specs.declared.errors.AnniversaryError.{AnniversaryError}
 use Rattle.cal_recur.specs.Listing.{occurrences}
 use Rattle.cal_recur.specs.Rule.{IsRule}

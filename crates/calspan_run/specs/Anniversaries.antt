@@ -3,8 +3,8 @@ use Rattle.std.specs.Prelude.{ℕ, List, Option, Some, None, Result, Ok, Err, co
 use Rattle.cal_anniversary.specs.Asking.{anniversary_fault}
 use Rattle.cal_anniversary.specs.declared.errors.AnniversaryError.{AnniversaryError}
 use Rattle.cal_anniversary.specs.declared.errors.AnniversaryError.TheVariants.{MonthNotInCalendar, InvalidDay}
-use Rattle.cal_model.specs.Anniversary.{anniversaries_between}
-use Rattle.cal_model.specs.CalendarSystem.{CalendarSystem}
+use Rattle.cal_types.specs.Anniversary.{anniversaries_between}
+use Rattle.cal_types.specs.CalendarSystem.{CalendarSystem}
 use Rattle.cal_tables.specs.Kinds.{TableContents, kind_system}
 use Rattle.calspan_run.specs.Asked.{AnniversaryAsked}
 use Rattle.calspan_run.specs.DayLines.{day_line, is_window}

@@ -2,7 +2,7 @@
 use Rattle.std.specs.Prelude.{◌≡◌, ℕ, Bool, true, false, List, [], ◌⊎◌}
 use Rattle.cal_errors.specs.declared.errors.TableFault.{TableFault}
 use Rattle.cal_tables.specs.Kinds.{TableContents}
-use Rattle.line_reader.specs.Lines.{lines_in}
+use Rattle.byte_io.specs.Lines.{lines_in}
 use Rattle.request_lines.specs.Lines.{RequestLine}
 use Rattle.table_rows.specs.RowLines.{RowsEnd, WithLines, AtFaultyRow, AtRequest, EndRows}
 use Rattle.table_rows.specs.TableRows.{TableRows, contents_of, AreAccepted, IsFirstRefused}

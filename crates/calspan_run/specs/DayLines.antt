@@ -2,8 +2,8 @@
 use Rattle.std.specs.Prelude.{◌≡◌, ℕ, ℤ, Bool, true, false, ◌&&◌, int_le, List, [], ◌∷◌, ◌++◌, Result, Ok, Err, codes}
 use Rattle.std.specs.Fmt.{decimal}
 use Rattle.cal_days.specs.Day.{is_valid_day}
-use Rattle.cal_model.specs.CalendarSystem.{CalendarSystem}
-use Rattle.cal_model.specs.DayDates.{date_on}
+use Rattle.cal_types.specs.CalendarSystem.{CalendarSystem}
+use Rattle.cal_types.specs.DayDates.{date_on}
 use Rattle.cal_recur.specs.declared.recurrence.Occurrence.{Occurrence}
 use Rattle.reply_texts.specs.DateTexts.{day_text}
 

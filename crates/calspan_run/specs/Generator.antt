@@ -7,11 +7,11 @@ use Rattle.cal_types.specs.declared.options.MissingFieldsStrategy.TheVariants as
 use Rattle.cal_types.specs.declared.duration.DateDuration.{DateDuration}
 use Rattle.cal_types.specs.declared.duration.DateDurationUnit.{DateDurationUnit}
 use Rattle.cal_types.specs.declared.duration.DateDurationUnit.TheVariants.{Years, Months, Weeks, Days}
-use Rattle.cal_model.specs.CalendarList.{day_number}
-use Rattle.cal_model.specs.CalendarSystem.{CalendarSystem}
-use Rattle.cal_model.specs.Difference.{largest_unit_of}
-use Rattle.cal_spans.specs.Spans.{SpanDates, IsSpan}
-use Rattle.cal_spans.specs.declared.span_error.SpanError.{SpanError}
+use Rattle.cal_types.specs.CalendarList.{day_number}
+use Rattle.cal_types.specs.CalendarSystem.{CalendarSystem}
+use Rattle.cal_types.specs.Difference.{largest_unit_of}
+use Rattle.cal_types.specs.Spans.{SpanDates, IsSpan}
+use Rattle.cal_types.specs.declared.span_error.SpanError.{SpanError}
 use Rattle.cal_tables.specs.Kinds.{kind_system, no_contents}
 use Rattle.calspan_run.specs.Replies.{options_of}
 use Rattle.request_lines.specs.Requests.{Request}

@@ -5,7 +5,7 @@ use Rattle.cal_base.specs.IsoSystem.{iso_system}
 use Rattle.cal_holidays.specs.BookNames.{holidays_in}
 use Rattle.cal_holidays.specs.Books.{book_records}
 use Rattle.cal_holidays.specs.Rules.{NamedRule, record_read}
-use Rattle.cal_model.specs.DayDates.{date_on}
+use Rattle.cal_types.specs.DayDates.{date_on}
 use Rattle.cal_tables.specs.Kinds.{no_contents}
 use Rattle.reply_texts.specs.DateTexts.{date_text}
 use Rattle.calspan_run.specs.Asked.{HolidaysAsked}

@@ -3,7 +3,7 @@ use Rattle.std.specs.Prelude.{◌≡◌, ℕ, ◌<◌, ◌≤◌, Bool, true, fa
 use Rattle.std.specs.Io.KnownBytes.{IsAtEnd}
 use Rattle.byte_io.specs.Faults.{Rose}
 use Rattle.cal_tables.specs.Kinds.{TableContents}
-use Rattle.line_reader.specs.Lines.{lines_in}
+use Rattle.byte_io.specs.Lines.{lines_in}
 use Rattle.request_lines.specs.Lines.{RequestLine}
 use Rattle.calspan_run.specs.BehindRows.{RefusesTables}
 use Rattle.calspan_run.specs.ListAnswers.{line_refusal}

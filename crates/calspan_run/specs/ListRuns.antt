@@ -1,7 +1,7 @@
 -- What is so where a run of a list ends.
 use Rattle.std.specs.Prelude.{◌≢◌, ◌≤◌, ℕ, Bool, true, List, IfSome, length}
 use Rattle.cal_tables.specs.Kinds.{TableContents}
-use Rattle.line_reader.specs.Lines.{lines_in}
+use Rattle.byte_io.specs.Lines.{lines_in}
 use Rattle.calspan_run.specs.Rules.{list_rules}
 use Rattle.calspan_run.specs.Run.{Outside, NoFault, limit}
 use Rattle.table_rows.specs.RowLines.{RowComesFirst}

@@ -2,8 +2,8 @@
 use Rattle.std.specs.Prelude.{◌≡◌, ℕ, ◌==◌, List, MatchBool, None, Result, Ok, Err, codes}
 use Rattle.cal_errors.specs.declared.errors.DateFromFieldsError.{DateFromFieldsError}
 use Rattle.cal_types.specs.declared.options.DateFromFieldsOptions.{DateFromFieldsOptions}
-use Rattle.cal_model.specs.CalendarList.{Date}
-use Rattle.cal_model.specs.CalendarSystem.{CalendarSystem, resolve_fields}
+use Rattle.cal_types.specs.CalendarList.{Date}
+use Rattle.cal_types.specs.CalendarSystem.{CalendarSystem, resolve_fields}
 use Rattle.cal_recur.specs.Listing.{occurrences}
 use Rattle.cal_recur.specs.Rule.{IsRule}
 use Rattle.cal_recur.specs.declared.rule.Rule.{Rule}

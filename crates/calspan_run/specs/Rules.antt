@@ -1,7 +1,7 @@
 -- What the runs of the commands are held to.
 use Rattle.std.specs.Prelude.{◌≡◌, ℕ, ◌<◌, Bool, true, false, List, [], ◌⊎◌, length}
 use Rattle.cal_tables.specs.Kinds.{TableContents}
-use Rattle.line_reader.specs.Lines.{lines_in}
+use Rattle.byte_io.specs.Lines.{lines_in}
 use Rattle.calspan_run.specs.Asked.{HolidaysAsked}
 use Rattle.calspan_run.specs.BehindRows.{SaysBehindRows}
 use Rattle.calspan_run.specs.DayLines.{is_refused, list_text}

@@ -2,10 +2,10 @@
 use Rattle.std.specs.Prelude.{◌≡◌, ℕ, ◌≤◌, Bool, false, List, ◌∷◌, ◌++◌, length, Option, Result, Ok, Err}
 use Rattle.std.specs.Io.KnownBytes.{Consumes}
 use Rattle.byte_io.specs.declared.Failed.{Failed}
-use Rattle.line_reader.specs.Buffer.{Holds}
-use Rattle.line_reader.specs.Reader.{IsAt, lines_given}
-use Rattle.line_reader.specs.declared.buffer.LineBuffer.{LineBuffer}
-use Rattle.line_reader.specs.declared.reader.Reader.{Reader}
+use Rattle.byte_io.specs.Buffer.{Holds}
+use Rattle.byte_io.specs.Reader.{IsAt, lines_given}
+use Rattle.byte_io.specs.declared.buffer.LineBuffer.{LineBuffer}
+use Rattle.byte_io.specs.declared.reader.Reader.{Reader}
 use Rattle.request_lines.specs.Lines.{RequestLine, Requests, IsLine, line_of}
 use Rattle.calspan_run.specs.Progress.{standing_of}
 use Rattle.table_rows.specs.RowLines.{EndBefore}

@@ -1,7 +1,7 @@
 //! A run of a command that lists something over tables.
 ghost use Rattle.std.specs.Prelude.{◌≡◌, ◌+◌, ◌≤◌, ℕ, List, Bool, Option, if◌then◌else◌, codes};
 ghost use Rattle.byte_io.specs.Faults.{HasCause};
-ghost use Rattle.cal_model.specs.CalendarSystem.{CalendarSystem};
+ghost use Rattle.cal_types.specs.CalendarSystem.{CalendarSystem};
 ghost use Rattle.cal_tables.specs.Kinds.{TableContents, table_contents};
 ghost use Rattle.calspan_run.specs.Refusals.{refusal};
 ghost use Rattle.calspan_run.specs.BehindRows.{OverTables};
@@ -15,10 +15,9 @@ ghost use Rattle.calspan_run.specs.declared.status.Status.{Status};
 
 use crate::endings::{end_with, refuse_row, refuse_table};
 use crate::status::{Status, status_of_stop};
-use byte_io::{Failed, Sink, Source};
+use byte_io::{Failed, LineBuffer, Reader, Sink, Source};
 use cal_base::Calendar;
 use cal_tables::Tables;
-use line_reader::{LineBuffer, Reader};
 use reply_texts::{Pending, push_about};
 use std::alloc::Global;
 use table_rows::{Gathered, TableRows, gather};

@@ -1,7 +1,7 @@
 -- The calendar that two codes stand for.
 use Rattle.std.specs.Prelude.{ℕ, Option, Some, None, Result, Ok, Err}
 use Rattle.cal_kinds.specs.declared.any_calendar_kind.AnyCalendarKind.{AnyCalendarKind}
-use Rattle.cal_model.specs.CalendarSystem.{CalendarSystem}
+use Rattle.cal_types.specs.CalendarSystem.{CalendarSystem}
 use Rattle.cal_tables.specs.Kinds.{TableContents, kind_system, table_contents}
 use Rattle.date_calls.specs.Codes.{contents_of_code, kind_of_code}
 use Rattle.date_calls.specs.declared.calendars.Chosen.{Chosen}

@@ -9,9 +9,9 @@ use Rattle.cal_types.specs.declared.options.MissingFieldsStrategy.{MissingFields
 use Rattle.cal_types.specs.declared.options.Overflow.{Overflow}
 use Rattle.cal_errors.specs.declared.errors.DateAddError.{DateAddError}
 use Rattle.cal_errors.specs.declared.errors.DateFromFieldsError.{DateFromFieldsError}
-use Rattle.cal_model.specs.Adding.{add_overflow_of}
-use Rattle.cal_model.specs.CalendarSystem.{CalendarSystem}
-use Rattle.cal_model.specs.Difference.{largest_unit_of}
+use Rattle.cal_types.specs.Adding.{add_overflow_of}
+use Rattle.cal_types.specs.CalendarSystem.{CalendarSystem}
+use Rattle.cal_types.specs.Difference.{largest_unit_of}
 use Rattle.date_calls.specs.Dates.{IsShown}
 use Rattle.date_calls.specs.Durations.{IsAdded, IsApart, duration_told}
 use Rattle.date_calls.specs.Eras.{IsEraOf}

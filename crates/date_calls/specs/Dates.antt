@@ -3,8 +3,8 @@ use Rattle.std.specs.Prelude.{◌≡◌, ℕ, ℤ, Bool, if◌then◌else◌}
 use Rattle.cal_types.specs.Year.{era_year_or_related_iso_of}
 use Rattle.cal_types.specs.declared.year.YearInfo.{YearInfo}
 use Rattle.cal_types.specs.declared.year.YearInfo.TheVariants.{Era, Cyclic}
-use Rattle.cal_model.specs.CalendarList.{Date, IsOn, day_number, month_at}
-use Rattle.cal_model.specs.CalendarSystem.{CalendarSystem}
+use Rattle.cal_types.specs.CalendarList.{Date, IsOn, day_number, month_at}
+use Rattle.cal_types.specs.CalendarSystem.{CalendarSystem}
 use Rattle.date_calls.specs.declared.dates.CalendarDate.{CalendarDate}
 
 -- 1 for what is so, 0 for what isn't

@@ -4,10 +4,10 @@ use Rattle.cal_types.specs.declared.duration.DateDuration.{DateDuration}
 use Rattle.cal_types.specs.declared.duration.DateDurationUnit.{DateDurationUnit}
 use Rattle.cal_types.specs.declared.options.Overflow.{Overflow}
 use Rattle.cal_errors.specs.declared.errors.DateAddError.{DateAddError}
-use Rattle.cal_model.specs.Adding.{IsSum}
-use Rattle.cal_model.specs.CalendarList.{Date, IsOn}
-use Rattle.cal_model.specs.CalendarSystem.{CalendarSystem}
-use Rattle.cal_model.specs.Until.{IsUntil}
+use Rattle.cal_types.specs.Adding.{IsSum}
+use Rattle.cal_types.specs.CalendarList.{Date, IsOn}
+use Rattle.cal_types.specs.CalendarSystem.{CalendarSystem}
+use Rattle.cal_types.specs.Until.{IsUntil}
 use Rattle.date_calls.specs.Dates.{AreParts, flag}
 use Rattle.date_calls.specs.declared.dates.CalendarDate.{CalendarDate}
 use Rattle.date_calls.specs.declared.durations.CalendarDuration.{CalendarDuration}

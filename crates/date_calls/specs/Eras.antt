@@ -2,8 +2,8 @@
 use Rattle.std.specs.Prelude.{◌≡◌, ℕ, ℤ, List, []}
 use Rattle.cal_types.specs.declared.year.YearInfo.{YearInfo}
 use Rattle.cal_types.specs.declared.year.YearInfo.TheVariants.{Era, Cyclic}
-use Rattle.cal_model.specs.CalendarList.{Date, IsOn}
-use Rattle.cal_model.specs.CalendarSystem.{CalendarSystem}
+use Rattle.cal_types.specs.CalendarList.{Date, IsOn}
+use Rattle.cal_types.specs.CalendarSystem.{CalendarSystem}
 
 -- the code of a year's era, without a byte where the year is one of a cycle
 abbrev pub era_text : YearInfo → List ℕ

@@ -4,8 +4,8 @@ use Rattle.cal_types.specs.Bag.{Bag}
 use Rattle.cal_types.specs.Month.{MonthParts, leap_month, plain_month}
 use Rattle.cal_types.specs.declared.options.DateFromFieldsOptions.{DateFromFieldsOptions}
 use Rattle.cal_errors.specs.declared.errors.DateFromFieldsError.{DateFromFieldsError}
-use Rattle.cal_model.specs.CalendarList.{Date}
-use Rattle.cal_model.specs.CalendarSystem.{CalendarSystem, resolve_fields}
+use Rattle.cal_types.specs.CalendarList.{Date}
+use Rattle.cal_types.specs.CalendarSystem.{CalendarSystem, resolve_fields}
 use Rattle.date_calls.specs.Dates.{AreParts}
 use Rattle.date_calls.specs.declared.dates.CalendarDate.{CalendarDate}
 use Rattle.date_calls.specs.declared.fields.CalendarFields.{CalendarFields}

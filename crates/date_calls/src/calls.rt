@@ -2,7 +2,7 @@
 
 ghost use Rattle.std.specs.Prelude.{◌≡◌, MatchResult};
 ghost use Rattle.cal_types.specs.Bag.{bag_of};
-ghost use Rattle.cal_model.specs.Adding.{add_overflow_of};
+ghost use Rattle.cal_types.specs.Adding.{add_overflow_of};
 ghost use Rattle.date_calls.specs.Calendars.{calendar_of, choice_system};
 ghost use Rattle.date_calls.specs.Calls.{AddsIn, AddsTo, DiffersIn, IsLeft, IsLeftWith, IsTold, NamesDate, NamesIn, ShowsDay, ShowsEra, fields_options};
 ghost use Rattle.date_calls.specs.Codes.{overflow_of_code, strategy_of_code, unit_of_code};

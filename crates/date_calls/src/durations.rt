@@ -61,7 +61,7 @@ pub(crate) struct Sum {
 }
 
 impl Question for Sum {
-    ghost use Rattle.cal_model.specs.Adding.{add_overflow_of};
+    ghost use Rattle.cal_types.specs.Adding.{add_overflow_of};
     ghost use Rattle.date_calls.specs.Durations.{IsAdded};
 
     type Answer = Result<CalendarDate, DateAddError>;
@@ -89,7 +89,7 @@ pub(crate) struct Difference {
 }
 
 impl Question for Difference {
-    ghost use Rattle.cal_model.specs.Difference.{largest_unit_of};
+    ghost use Rattle.cal_types.specs.Difference.{largest_unit_of};
     ghost use Rattle.date_calls.specs.Durations.{IsApart};
 
     type Answer = DateDuration;

@@ -6,11 +6,11 @@ use Rattle.cal_types.specs.MonthParts.{month_parts}
 use Rattle.cal_types.specs.Year.{extended_year_of}
 use Rattle.cal_types.specs.declared.options.DateFromFieldsOptions.{DateFromFieldsOptions}
 use Rattle.cal_types.specs.declared.duration.DateDurationUnit.{DateDurationUnit}
-use Rattle.cal_model.specs.CalendarList.{Date, IsOn, day_number, month_at}
-use Rattle.cal_model.specs.CalendarSystem.{CalendarSystem, resolve_fields}
-use Rattle.cal_model.specs.Until.{IsUntil}
-use Rattle.cal_spans.specs.Spans.{RefusesBag}
-use Rattle.cal_spans.specs.declared.span_error.SpanError.{SpanError}
+use Rattle.cal_types.specs.CalendarList.{Date, IsOn, day_number, month_at}
+use Rattle.cal_types.specs.CalendarSystem.{CalendarSystem, resolve_fields}
+use Rattle.cal_types.specs.Until.{IsUntil}
+use Rattle.cal_types.specs.Spans.{RefusesBag}
+use Rattle.cal_types.specs.declared.span_error.SpanError.{SpanError}
 use Rattle.date_parts.specs.declared.day_parts.DayParts.{DayParts}
 use Rattle.date_parts.specs.declared.span_parts.SpanParts.{SpanParts}
 

@@ -1,7 +1,7 @@
 //! What is printed of a date.
 
 ghost use Rattle.std.specs.Prelude.{◌≡◌, IsTrue};
-ghost use Rattle.cal_model.specs.CalendarList.{day_number};
+ghost use Rattle.cal_types.specs.CalendarList.{day_number};
 ghost use Rattle.date_parts.specs.Parts.{IsDayParts};
 
 use cal_base::Calendar;

@@ -3,14 +3,13 @@
 ghost use Rattle.std.specs.Prelude.{◌≡◌, IfOk, IfErr};
 ghost use Rattle.cal_days.specs.Day.{IsValidDay};
 ghost use Rattle.cal_types.specs.Bag.{bag_of};
-ghost use Rattle.cal_model.specs.Difference.{largest_unit_of};
+ghost use Rattle.cal_types.specs.Difference.{largest_unit_of};
 ghost use Rattle.date_parts.specs.Parts.{AreNamed, AreRefused, IsShown};
 
 use crate::day_parts::{DayParts, parts_of};
 use cal_base::Calendar;
 use cal_days::RataDie;
-use cal_spans::{BagSide, SpanError};
-use cal_types::{DateDifferenceOptions, DateDuration, DateFields, DateFromFieldsOptions};
+use cal_types::{BagSide, DateDifferenceOptions, DateDuration, DateFields, DateFromFieldsOptions, SpanError};
 
 /// Two dates and the difference from the first to the second.
 #[derive(Clone, Copy, Debug)]

@@ -2,7 +2,7 @@
 
 ghost use Rattle.std.specs.Prelude.{◌≡◌};
 ghost use Rattle.cal_days.specs.Day.{IsValidDay};
-ghost use Rattle.cal_model.specs.CalendarList.{IsOn};
+ghost use Rattle.cal_types.specs.CalendarList.{IsOn};
 
 use crate::days::{day_of_turn, far_after, far_before, other_day, published_day_of_turn};
 use crate::lists::{

@@ -2,8 +2,8 @@
 use Rattle.std.proofs.Common.{◌≡◌, ℕ, ◌<◌, ◌++◌, Bool, true, false, cond, List, ◌∷◌, Option, Some, None, Result, Err, refl, sym, ap, ◌∙◌, subst, arith, ℤ, pos}
 use Rattle.std.specs.Prelude.{is_ok}
 use Rattle.std.specs.Option.{option_map, option_and_then}
-use Rattle.cal_algorithms.specs.declared.algorithm.CalendarAlgorithm.{CalendarAlgorithm}
-use Rattle.cal_model.specs.CalendarList.{CalendarList, Date, IsDate, date}
+use Rattle.cal_errors.specs.declared.algorithm.CalendarAlgorithm.{CalendarAlgorithm}
+use Rattle.cal_types.specs.CalendarList.{CalendarList, Date, IsDate, date}
 use Rattle.cal_base.specs.IsoSystem.{iso_list}
 use Rattle.cal_base.specs.laws.OffsetListLaws.{offset_list-lawful}
 use Rattle.icu_calendar.specs.DateText.{two_digits, year_text, annotation, IsDateText}

@@ -7,10 +7,10 @@ use Rattle.cal_types.specs.Bag.{Bag, year_month_day}
 use Rattle.cal_types.specs.declared.options.Overflow.TheVariants.{Reject}
 use Rattle.cal_types.specs.declared.options.MissingFieldsStrategy.TheVariants as missing
 use Rattle.cal_errors.specs.declared.errors.DateFromFieldsError.{DateFromFieldsError}
-use Rattle.cal_model.specs.CalendarList.{CalendarList, Date, IsLawful, IsValidDate, day_number, month_at, month_length, place_of, spot}
-use Rattle.cal_model.specs.YearNames.{YearNames}
-use Rattle.cal_model.specs.Resolving.{Resolved, resolve}
-use Rattle.cal_model.proofs.ListLemmas.{place_of-own}
+use Rattle.cal_types.specs.CalendarList.{CalendarList, Date, IsLawful, IsValidDate, day_number, month_at, month_length, place_of, spot}
+use Rattle.cal_types.specs.YearNames.{YearNames}
+use Rattle.cal_types.specs.Resolving.{Resolved, resolve}
+use Rattle.cal_types.proofs.ListLemmas.{place_of-own}
 
 module _ (c : CalendarList) (law : IsLawful c) (names : YearNames) (t : Date) (h : IsValidDate c t) (ranged : IsFieldYear t.year) where
   fields_resolve : resolve c names (year_month_day t.year (month_at c t.year t.month) t.day) Reject missing.Reject ≡ Ok t

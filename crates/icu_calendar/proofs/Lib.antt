@@ -10,4 +10,4 @@ pub mod RecordLemmas
 pub mod DateTextLemmas
 pub mod WeekLemmas
 pub use Rattle.cal_days.proofs.Signed
-pub use Rattle.cal_spans.proofs.SpanLemmas
+pub use Rattle.cal_types.proofs.SpanLemmas

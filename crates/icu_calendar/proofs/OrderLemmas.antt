@@ -4,8 +4,8 @@ use Rattle.std.specs.Ordering.{int_eq}
 use Rattle.std.specs.Cmp.{int_eq_equiv}
 use Rattle.std.proofs.lemmas.Int.{ints}
 use Rattle.cal_days.specs.Day.{IsValidDay}
-use Rattle.cal_model.specs.CalendarList.{CalendarList, Date, day_number, IsDate, IsOn, IsValidDate}
-use Rattle.cal_model.proofs.ListLemmas.{day_number-injective, on-unique}
+use Rattle.cal_types.specs.CalendarList.{CalendarList, Date, day_number, IsDate, IsOn, IsValidDate}
+use Rattle.cal_types.proofs.ListLemmas.{day_number-injective, on-unique}
 use Rattle.icu_calendar.specs.Clamping.{clamped_day}
 
 same_number : (y z : ℤ) → int_eq y z ≡ true → y ≡ z

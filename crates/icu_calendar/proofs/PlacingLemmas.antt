@@ -9,10 +9,10 @@ use Rattle.cal_errors.specs.RangeParts.{RangeParts, DateFault, OutOfRange, NoEra
 use Rattle.cal_types.specs.declared.options.Overflow.TheVariants.{Reject}
 use Rattle.cal_types.specs.declared.options.MissingFieldsStrategy.TheVariants as missing
 use Rattle.cal_errors.specs.declared.errors.DateFromFieldsError.TheVariants.{Overflow as PastTheRange, InvalidEra, InvalidOrdinalMonth, InvalidDay}
-use Rattle.cal_model.specs.CalendarList.{CalendarList, Date, date, month_count, month_length, day_number, HasPlace, IsDate}
-use Rattle.cal_model.specs.YearNames.{YearNames}
-use Rattle.cal_model.specs.Resolving.{Resolved, ByOrdinal, YearAndMonth, year_and_month, after, or_fault, in_year, some_year, valid_date, resolve, resolved_in_month, resolved_in_year}
-use Rattle.cal_model.specs.Placing.{out_of_range, year_out_of_range, placed_day, placed_in_year, placed_date, placed_in_era, placed_of_era, date_or_fault}
+use Rattle.cal_types.specs.CalendarList.{CalendarList, Date, date, month_count, month_length, day_number, HasPlace, IsDate}
+use Rattle.cal_types.specs.YearNames.{YearNames}
+use Rattle.cal_types.specs.Resolving.{Resolved, ByOrdinal, YearAndMonth, year_and_month, after, or_fault, in_year, some_year, valid_date, resolve, resolved_in_month, resolved_in_year}
+use Rattle.cal_types.specs.Placing.{out_of_range, year_out_of_range, placed_day, placed_in_year, placed_date, placed_in_era, placed_of_era, date_or_fault}
 use Rattle.icu_calendar.specs.PlacedFields.{year_place_day, era_place_day, number_fault, number_or_era, number_or_era_fault}
 
 -- what fields resolve to says the same as a placed date: both are it, or the fault is of the number that is out of its range

@@ -4,10 +4,10 @@ use Rattle.std.specs.Prelude.{not, slice_index_or, sum_by, take}
 use Rattle.std.proofs.lemmas.Int.{ints}
 use Rattle.std.proofs.lemmas.Bool.Decides.{nat_tests}
 use Rattle.cal_days.proofs.Signed.{signed}
-use Rattle.cal_model.specs.CalendarList.{CalendarList, Date, Entry, IsDate, IsOn, day_number, days_before, days_of, no_entry}
-use Rattle.cal_model.specs.DateOrder.{date_eq}
-use Rattle.cal_model.specs.SameYear.{HaveSameYear}
-use Rattle.cal_model.proofs.ListLemmas.{on-unique}
+use Rattle.cal_types.specs.CalendarList.{CalendarList, Date, Entry, IsDate, IsOn, day_number, days_before, days_of, no_entry}
+use Rattle.cal_types.specs.DateOrder.{date_eq}
+use Rattle.cal_types.specs.SameYear.{HaveSameYear}
+use Rattle.cal_types.proofs.ListLemmas.{on-unique}
 
 module _ (c d : CalendarList) (t : Date) (same : HaveSameYear c d t.year) where
   date-there : IsDate c t → IsDate d t

@@ -4,7 +4,7 @@ use Rattle.std.specs.Prelude.{is_ok}
 use Rattle.std.proofs.lemmas.Bool.Decides.{nat_tests}
 use Rattle.cal_days.specs.Day.{IsBetween, IsValidDay, is_between}
 use Rattle.cal_days.proofs.RangeLemmas.{is_between-true, true-is_between}
-use Rattle.cal_model.specs.CalendarList.{Date, IsDate, day_number, month_count, month_length, start_of_year}
+use Rattle.cal_types.specs.CalendarList.{Date, IsDate, day_number, month_count, month_length, start_of_year}
 use Rattle.cal_base.specs.IsoSystem.{iso_list}
 use Rattle.cal_base.specs.GregorianList.{gregorian_list}
 use Rattle.cal_base.specs.laws.GregorianLaws.{start_of_year-gregorian}
@@ -12,11 +12,11 @@ use Rattle.cal_days.specs.Division.{floor_div}
 use Rattle.cal_days.specs.Gregorian.{gregorian_start, leap_days_through}
 use Rattle.cal_days.proofs.Signed.{signed}
 use Rattle.std.proofs.lemmas.Int.{by_lt_z}
-use Rattle.cal_model.proofs.ListLemmas.{start_of_year-later, date-in_year}
-use Rattle.cal_model.proofs.RenumberedLemmas.{start_of_year-renumbered}
+use Rattle.cal_types.proofs.ListLemmas.{start_of_year-later, date-in_year}
+use Rattle.cal_types.proofs.RenumberedLemmas.{start_of_year-renumbered}
 use Rattle.cal_base.specs.laws.OffsetListLaws.{offset_list-plain}
 use Rattle.cal_errors.specs.RangeParts.{RangeParts}
-use Rattle.cal_model.specs.Placing.{out_of_range, placed_day, placed_in_year}
+use Rattle.cal_types.specs.Placing.{out_of_range, placed_day, placed_in_year}
 use Rattle.icu_calendar.specs.RecordDates.{numbered_date}
 
 -- a date that exists in a year that a record may name

@@ -8,10 +8,10 @@ use Rattle.cal_types.specs.declared.duration.DateDuration.{DateDuration}
 use Rattle.cal_errors.specs.declared.errors.DateAddError.{DateAddError}
 use Rattle.cal_errors.specs.declared.errors.DateAddError.TheVariants as fault
 use Rattle.cal_days.specs.Day.{is_field_year, is_valid_day}
-use Rattle.cal_model.specs.CalendarList.{CalendarList, Date, date, month_at, month_length, day_number, spot, IsMonthsAfter, IsOn}
-use Rattle.cal_model.specs.Adding.{is_addable, IsSum, IsSumFromMonth, IsValidOn}
-use Rattle.cal_model.specs.Difference.{toward}
-use Rattle.cal_model.proofs.SumLaws.{sum-unique}
+use Rattle.cal_types.specs.CalendarList.{CalendarList, Date, date, month_at, month_length, day_number, spot, IsMonthsAfter, IsOn}
+use Rattle.cal_types.specs.Adding.{is_addable, IsSum, IsSumFromMonth, IsValidOn}
+use Rattle.cal_types.specs.Difference.{toward}
+use Rattle.cal_types.proofs.SumLaws.{sum-unique}
 
 abbrev Sum : Type 0
 Sum = Result Date DateAddError

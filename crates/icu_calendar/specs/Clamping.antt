@@ -1,6 +1,6 @@
 -- Day numbers of any size, and answers of calls that change a date.
 use Rattle.std.specs.Prelude.{ℤ, pos, neg_ℤ, int_lt, if◌then◌else◌, Result, Ok, Err}
-use Rattle.cal_model.specs.CalendarList.{Date}
+use Rattle.cal_types.specs.CalendarList.{Date}
 
 -- the nearest day number of the valid range, from -999999-01-01 to 999999-12-31 in the proleptic Gregorian calendar
 abbrev pub clamped_day : ℤ → ℤ

@@ -3,7 +3,7 @@
 use Rattle.std.specs.Prelude.{◌≡◌, ℕ, ◌+◌, ◌/◌, ◌%◌, ◌<◌, Bool, true, false, ◌&&◌, ◌||◌, ◌==◌, nat_le, ⊤, List, [], ◌∷◌, ◌++◌, length, codes, Option, Some, None, ℤ, pos, neg_ℤ}
 use Rattle.std.specs.Char.{is_ascii_digit, is_ascii_lowercase}
 use Rattle.std.specs.List.{list_all, slice_split}
-use Rattle.cal_model.specs.CalendarList.{Date, IsDate}
+use Rattle.cal_types.specs.CalendarList.{Date, IsDate}
 use Rattle.cal_base.specs.IsoSystem.{iso_list}
 
 -- decimal numbers with leading zeros (48 is `0`)

@@ -4,7 +4,7 @@ use Rattle.std.specs.Option.{option_map, option_and_then, option_or}
 use Rattle.std.specs.Str.{bytes_eq}
 use Rattle.std.specs.Char.{is_ascii_digit}
 use Rattle.std.specs.Borrow.{Bor}
-use Rattle.cal_model.specs.CalendarList.{Date, date}
+use Rattle.cal_types.specs.CalendarList.{Date, date}
 use Rattle.icu_calendar.specs.DateText.{calendar_key, is_calendar_name}
 use Rattle.icu_calendar.specs.RecordDates.{RecordParts, numbered_date}
 

@@ -1,6 +1,6 @@
 -- The dates of Easter, where the day is past the valid range, the nearest day of the range.
 use Rattle.std.specs.Prelude.{ℤ}
-use Rattle.cal_model.specs.CalendarList.{CalendarList, Date, IsOn}
+use Rattle.cal_types.specs.CalendarList.{CalendarList, Date, IsOn}
 use Rattle.icu_calendar.specs.Clamping.{clamped_day}
 
 -- the date is on the day for which a rule speaks

@@ -1,6 +1,6 @@
 -- Rows of a caller's own: what the lines of a text say, the rows that they give, and which tables are accepted.
-pub use Rattle.line_reader.specs.Lines.{lines_in}
-pub use Rattle.line_reader.specs.Reader.{limit}
+pub use Rattle.byte_io.specs.Lines.{lines_in}
+pub use Rattle.byte_io.specs.Reader.{limit}
 pub use Rattle.request_lines.specs.Lines.{Line, Nothing, GivesRow, Requests, RequestLine, IsLine}
 pub use Rattle.request_lines.specs.Rows.{Row, YearRow, EraRow, row_read}
 pub use Rattle.table_rows.specs.RowLines.{RowOutcome, TakesRow, KeepsLine, AreRows, RowComesFirst, RowsEnd, EndRows}

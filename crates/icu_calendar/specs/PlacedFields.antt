@@ -4,7 +4,7 @@ use Rattle.cal_types.specs.Bag.{Bag}
 use Rattle.cal_errors.specs.RangeParts.{RangeParts, DateFault, OutOfRange, NoEra}
 use Rattle.cal_errors.specs.declared.errors.DateFromFieldsError.{DateFromFieldsError}
 use Rattle.cal_errors.specs.declared.errors.DateFromFieldsError.TheVariants.{InvalidEra, InvalidOrdinalMonth, InvalidDay}
-use Rattle.cal_model.specs.Placing.{out_of_range}
+use Rattle.cal_types.specs.Placing.{out_of_range}
 
 -- an extended year, the place of a month and a day
 abbrev pub year_place_day : ℤ → ℕ → ℕ → Bag

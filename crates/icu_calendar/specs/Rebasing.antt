@@ -1,7 +1,7 @@
 -- A date that is brought over to another calendar.
 use Rattle.std.specs.Prelude.{◌≡◌, Bool, not}
-use Rattle.cal_model.specs.CalendarList.{CalendarList, Date, IsOn, day_number}
-use Rattle.cal_model.specs.DateOrder.{date_eq}
+use Rattle.cal_types.specs.CalendarList.{CalendarList, Date, IsOn, day_number}
+use Rattle.cal_types.specs.DateOrder.{date_eq}
 
 -- it is the date of the same day number there, and it has moved exactly where extended year, ordinal month or day
 -- differs

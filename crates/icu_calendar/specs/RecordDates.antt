@@ -4,14 +4,14 @@ use Rattle.std.specs.Prelude.{◌≡◌, ℕ, List, Option, Some, None, Result, 
 use Rattle.std.specs.Option.{option_map}
 use Rattle.std.specs.Str.{bytes_eq}
 use Rattle.cal_days.specs.Day.{is_between}
-use Rattle.cal_algorithms.specs.declared.algorithm.CalendarAlgorithm.{CalendarAlgorithm}
-use Rattle.cal_algorithms.specs.Algorithm.{algorithm_name, algorithm_named}
+use Rattle.cal_errors.specs.declared.algorithm.CalendarAlgorithm.{CalendarAlgorithm}
+use Rattle.cal_errors.specs.Algorithm.{algorithm_name, algorithm_named}
 use Rattle.cal_errors.specs.RangeParts.{RangeParts, range_parts}
-use Rattle.cal_model.specs.Placing.{out_of_range, placed_in_year}
-use Rattle.cal_model.specs.CalendarList.{CalendarList, Date, IsOn, date, day_number}
+use Rattle.cal_types.specs.Placing.{out_of_range, placed_in_year}
+use Rattle.cal_types.specs.CalendarList.{CalendarList, Date, IsOn, date, day_number}
 use Rattle.cal_base.specs.IsoSystem.{iso_list}
-use Rattle.cal_algorithms.specs.declared.parse_error.ParseError.{ParseError}
-use Rattle.cal_algorithms.specs.declared.parse_error.ParseError.TheVariants as error
+use Rattle.cal_errors.specs.declared.parse_error.ParseError.{ParseError}
+use Rattle.cal_errors.specs.declared.parse_error.ParseError.TheVariants as error
 use Rattle.icu_calendar.specs.declared.ixdtf_record.DateRecord.{DateRecord}
 use Rattle.icu_calendar.specs.declared.ixdtf_record.IxdtfRecord.{IxdtfRecord}
 use Rattle.icu_calendar.specs.DateText.{IsDateText}

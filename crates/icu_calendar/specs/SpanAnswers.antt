@@ -1,10 +1,10 @@
 -- What a difference of two bags, and the dates in it, say.
 use Rattle.std.specs.Prelude.{◌≡◌, Result, Ok, Err}
 use Rattle.icu_calendar.specs.declared.span_answer.Span.{Span}
-use Rattle.cal_spans.specs.declared.span_error.SpanError.{SpanError}
+use Rattle.cal_types.specs.declared.span_error.SpanError.{SpanError}
 use Rattle.cal_any.specs.declared.any_calendar.AnyCalendar.{AnyCalendar}
 use Rattle.cal_any.specs.AnySystem.{any_date}
-use Rattle.cal_spans.specs.Spans.{SpanDates}
+use Rattle.cal_types.specs.Spans.{SpanDates}
 
 -- the dates that a span holds, and its duration
 abbrev pub span_dates : Span → SpanDates

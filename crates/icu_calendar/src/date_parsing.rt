@@ -2,8 +2,8 @@
 
 ghost use Rattle.std.specs.Prelude.{◌≡◌, IfOk, option_map};
 ghost use Rattle.std.specs.Result.{result_map_both};
-ghost use Rattle.cal_model.specs.CalendarList.{day_number};
-ghost use Rattle.cal_algorithms.specs.Algorithm.{algorithm_named};
+ghost use Rattle.cal_types.specs.CalendarList.{day_number};
+ghost use Rattle.cal_errors.specs.Algorithm.{algorithm_named};
 ghost use Rattle.icu_calendar.specs.RecordDates.{AnswersText, IsShownIn, calendar_fault, other_name, parse_fault, record_date, record_parts};
 
 use crate::date::Date;

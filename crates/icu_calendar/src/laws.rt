@@ -2,8 +2,8 @@
 
 ghost use Rattle.std.specs.Prelude.{◌≡◌, ◌↔◌, IsTrue, IsOk, IfOk, false};
 ghost use Rattle.cal_types.specs.Bag.{bag_of, year_month_day};
-ghost use Rattle.cal_model.specs.CalendarList.{month_at};
-ghost use Rattle.cal_model.specs.SameYear.{HaveSameYear};
+ghost use Rattle.cal_types.specs.CalendarList.{month_at};
+ghost use Rattle.cal_types.specs.SameYear.{HaveSameYear};
 ghost use Rattle.cal_hijri.specs.HijriSystem.{kept_date as kept_hijri};
 ghost use Rattle.cal_hijri.specs.LengthenedTables as hijri;
 ghost use Rattle.cal_east_asian.specs.EastAsianSystem.{kept_date as kept_east_asian};

@@ -3,9 +3,9 @@
 ghost use Rattle.std.specs.Prelude.{◌≡◌, Ok, IfOk, is_ok, pos, neg_ℤ};
 ghost use Rattle.std.specs.Result.{result_map_both};
 ghost use Rattle.cal_days.specs.Day.{IsBetween, IsValidDay};
-ghost use Rattle.cal_model.specs.CalendarList.{HasPlace, date, day_number};
+ghost use Rattle.cal_types.specs.CalendarList.{HasPlace, date, day_number};
 ghost use Rattle.cal_base.specs.IsoSystem.{iso_list};
-ghost use Rattle.cal_model.specs.Placing.{out_of_range, placed_day, placed_in_year};
+ghost use Rattle.cal_types.specs.Placing.{out_of_range, placed_day, placed_in_year};
 ghost use Rattle.cal_errors.specs.RangeParts.{range_parts};
 ghost use Rattle.icu_calendar.specs.RecordDates.{date_numbers, numbered_date};
 

@@ -2,20 +2,19 @@
 
 ghost use Rattle.std.specs.Prelude.{◌≡◌, IfOk, IfErr, Ok};
 ghost use Rattle.cal_types.specs.Bag.{bag_of};
-ghost use Rattle.cal_model.specs.CalendarList.{IsOn, day_number};
-ghost use Rattle.cal_model.specs.CalendarSystem.{resolve_fields};
-ghost use Rattle.cal_model.specs.Difference.{largest_unit_of};
-ghost use Rattle.cal_model.specs.Until.{IsUntil};
+ghost use Rattle.cal_types.specs.CalendarList.{IsOn, day_number};
+ghost use Rattle.cal_types.specs.CalendarSystem.{resolve_fields};
+ghost use Rattle.cal_types.specs.Difference.{largest_unit_of};
+ghost use Rattle.cal_types.specs.Until.{IsUntil};
 ghost use Rattle.cal_any.specs.AnySystem.{any_system, any_date};
-ghost use Rattle.cal_spans.specs.Spans.{IsSpan, RefusesBag};
+ghost use Rattle.cal_types.specs.Spans.{IsSpan, RefusesBag};
 ghost use Rattle.icu_calendar.specs.SpanAnswers.{span_answer, HasCalendars};
 
 use crate::date::Date;
 use crate::span_answer::Span;
 use cal_any::AnyCalendar;
 use cal_base::{AsCalendar, Calendar};
-use cal_spans::{BagSide, SpanError};
-use cal_types::{DateDifferenceOptions, DateDuration, DateFields, DateFromFieldsOptions, Overflow};
+use cal_types::{BagSide, DateDifferenceOptions, DateDuration, DateFields, DateFromFieldsOptions, Overflow, SpanError};
 
 /// The dates that two bags of fields name in one calendar.
 #[derive(Drop)]

@@ -1,7 +1,7 @@
 //! Weeks of years, as ISO 8601 counts them.
 
 ghost use Rattle.cal_days.specs.Day.{IsValidDay};
-ghost use Rattle.cal_model.specs.CalendarList.{day_number};
+ghost use Rattle.cal_types.specs.CalendarList.{day_number};
 ghost use Rattle.cal_base.specs.IsoSystem.{iso_date, iso_list};
 ghost use Rattle.icu_calendar.specs.Weeks.{IsInWeek, IsThursdayOf};
 

@@ -8,7 +8,7 @@ ghost use Rattle.icu_calendar_wasm.specs.Line.{IsLineAnswered};
 use cal_tables::Tables;
 use calspan_run::{Progress, answer, code};
 use date_calls::{NO_ROOM, UNKNOWN_YEARS, put, tables_of};
-use line_reader::LineBuffer;
+use byte_io::LineBuffer;
 use reply_texts::Pending;
 
 /// The answer to a line over tables.

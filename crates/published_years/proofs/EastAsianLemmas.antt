@@ -9,8 +9,8 @@ use Rattle.cal_east_asian.specs.TableAccepted.{IsAccepted, meets}
 use Rattle.cal_east_asian.specs.TableYears.{number_of}
 use Rattle.cal_east_asian.specs.declared.sides.Side.TheVariants.{China, Korea}
 use Rattle.cal_east_asian.specs.EastAsianRows.{years_of}
-use Rattle.cal_rows.specs.RowTests.{all_from}
-use Rattle.cal_rows.specs.laws.RowTestLaws.{accepted-by}
+use Rattle.cal_types.specs.RowTests.{all_from}
+use Rattle.cal_types.specs.laws.RowTestLaws.{accepted-by}
 use Rattle.published_years.specs.declared.east_asian_data.TheConstants.{CHINA, FIRST_CHINESE_YEAR, FIRST_KOREAN_YEAR, KOREA, LAST_CHINESE_YEAR, LAST_KOREAN_YEAR}
 use Rattle.published_years.specs.Published.{numbers_through}
 

@@ -7,8 +7,8 @@ use Rattle.cal_hijri.specs.TableAccepted.{IsAccepted, meets}
 use Rattle.cal_hijri.specs.TableFriday.{friday_year}
 use Rattle.cal_hijri.specs.TableYears.{number_of}
 use Rattle.cal_hijri.specs.HijriRows.{years_of}
-use Rattle.cal_rows.specs.RowTests.{all_from}
-use Rattle.cal_rows.specs.laws.RowTestLaws.{accepted-by}
+use Rattle.cal_types.specs.RowTests.{all_from}
+use Rattle.cal_types.specs.laws.RowTestLaws.{accepted-by}
 use Rattle.published_years.specs.declared.hijri_data.TheConstants.{FIRST_UMM_AL_QURA_YEAR, LAST_UMM_AL_QURA_YEAR, UMM_AL_QURA}
 use Rattle.published_years.specs.Published.{numbers_through}
 

@@ -8,12 +8,12 @@ use Rattle.cal_types.specs.declared.year.YearInfo.TheVariants.{Era, Cyclic}
 use Rattle.cal_types.specs.declared.duration.DateDuration.{DateDuration}
 use Rattle.cal_errors.specs.declared.errors.DateFromFieldsError.{DateFromFieldsError}
 use Rattle.cal_errors.specs.declared.errors.DateFromFieldsError.TheVariants as cause
-use Rattle.cal_model.specs.CalendarList.{Date, month_at, day_number}
-use Rattle.cal_model.specs.CalendarSystem.{CalendarSystem}
-use Rattle.cal_spans.specs.Spans.{SpanDates}
-use Rattle.cal_spans.specs.declared.span_error.BagSide.{BagSide}
-use Rattle.cal_spans.specs.declared.span_error.BagSide.TheVariants.{From, To}
-use Rattle.cal_spans.specs.declared.span_error.SpanError.{SpanError}
+use Rattle.cal_types.specs.CalendarList.{Date, month_at, day_number}
+use Rattle.cal_types.specs.CalendarSystem.{CalendarSystem}
+use Rattle.cal_types.specs.Spans.{SpanDates}
+use Rattle.cal_types.specs.declared.span_error.BagSide.{BagSide}
+use Rattle.cal_types.specs.declared.span_error.BagSide.TheVariants.{From, To}
+use Rattle.cal_types.specs.declared.span_error.SpanError.{SpanError}
 use Rattle.reply_texts.specs.Texts.{two_digits}
 
 -- a year of an era, as `ce.2020`, or of a cycle, as `cycle.37`

@@ -1,16 +1,15 @@
 //! The texts of dates, durations and causes.
 ghost use Rattle.std.specs.Prelude.{◌≡◌, ◌+◌, ◌≤◌, ◌<◌, ◌++◌, ◌∷◌, [], ◌↔◌, IsTrue, if◌then◌else◌};
 ghost use Rattle.arrayvec.specs.ArrayVec.{array_vec_len};
-ghost use Rattle.cal_model.specs.CalendarList.{Date};
-ghost use Rattle.cal_model.specs.CalendarSystem.{CalendarSystem};
+ghost use Rattle.cal_types.specs.CalendarList.{Date};
+ghost use Rattle.cal_types.specs.CalendarSystem.{CalendarSystem};
 ghost use Rattle.cal_types.specs.Month.{code_text};
 ghost use Rattle.cal_types.specs.MonthParts.{month_parts};
 ghost use Rattle.reply_texts.specs.DateTexts.{year_text, date_text, day_text, part_text, parts_text, duration_text, cause_text, side_text, error_text};
 ghost use Rattle.date_parts.specs.Parts.{IsDayParts};
 
 use crate::text::{Pending, push_all, push_number, push_signed, push_two_digits};
-use cal_spans::{BagSide, SpanError};
-use cal_types::{DateDuration, DateFromFieldsError, Month, YearInfo};
+use cal_types::{BagSide, DateDuration, DateFromFieldsError, Month, SpanError, YearInfo};
 use date_parts::DayParts;
 
 /// A year of an era, or of a cycle.

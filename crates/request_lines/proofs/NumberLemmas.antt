@@ -6,7 +6,7 @@ use Rattle.std.specs.Char.{is_ascii_digit}
 use Rattle.std.proofs.lemmas.Bool.Decides.{nat_tests}
 use Rattle.std.proofs.lemmas.List.{take-append-drop, append-nil, length-append, length-take, length-drop, take-take, get_or-take, get_or-drop}
 use borrow.Author.Tests.{ltb-true, ltb-false}
-use Rattle.cal_model.proofs.DateTests.{and-left, and-right, true-and}
+use Rattle.cal_types.proofs.DateTests.{and-left, and-right, true-and}
 use Rattle.word_values.specs.Numbers.{number_of, digits_value, AreLeadingDigits}
 use Rattle.request_lines.specs.Words.{words_of}
 use Rattle.request_lines.specs.Reading.{next_word}

@@ -4,7 +4,7 @@ use Rattle.std.specs.Prelude.{nat_lt, nat_le}
 use Rattle.std.specs.List.{list_all}
 use Rattle.std.proofs.lemmas.Bool.Decides.{nat_tests}
 use Rattle.cal_types.specs.Text.{IsText, is_text_byte}
-use Rattle.cal_model.proofs.DateTests.{and-left, and-right, true-and}
+use Rattle.cal_types.proofs.DateTests.{and-left, and-right, true-and}
 use Rattle.request_lines.specs.Rows.{is_code_letter, is_era_code}
 
 letter-text : (b : ℕ) → is_code_letter b ≡ true → is_text_byte b ≡ true

@@ -2,14 +2,14 @@
 ghost use Rattle.std.specs.Prelude.{◌≡◌, ℕ, List, false};
 ghost use Rattle.std.specs.Str.Lines.{strip_carriage_return};
 ghost use Rattle.cal_types.specs.Bag.{bag_of};
-ghost use Rattle.line_reader.specs.Buffer.{Holds};
+ghost use Rattle.byte_io.specs.Buffer.{Holds};
 ghost use Rattle.request_lines.specs.Bags.{no_fields};
 ghost use Rattle.request_lines.specs.Lines.{is_row as text_is_row, is_silent as line_is_silent, line_of};
 
 use crate::request::{Header, read_into};
 use crate::row::{Row, read_row};
 use cal_types::DateFields;
-use line_reader::LineBuffer;
+use byte_io::LineBuffer;
 
 /// What a request line says.
 #[derive(Clone, Copy, Debug)]

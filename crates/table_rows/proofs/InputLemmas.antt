@@ -4,8 +4,8 @@ use Rattle.std.proofs.lemmas.List.{append-nil, append_assoc}
 use Rattle.std.specs.Io.KnownBytes.{Consumes}
 use borrow.Author.Tests.{ltb-false}
 use Rattle.std.proofs.lemmas.Bool.{eqb-true}
-use Rattle.line_reader.specs.Lines.{closed_lines, open_line, lines_in}
-use Rattle.line_reader.proofs.PartLemmas.{closed_lines-prefix}
+use Rattle.byte_io.specs.Lines.{closed_lines, open_line, lines_in}
+use Rattle.byte_io.proofs.PartLemmas.{closed_lines-prefix}
 use Rattle.table_rows.specs.Gathering.{with_open_line}
 use Rattle.std.proofs.KnownBytes.{Consumes-trans}
 

@@ -2,10 +2,10 @@
 use Rattle.std.proofs.Common.{◌≡◌, ℕ, ◌+◌, ◌<◌, ◌≤◌, Bool, true, false, cond, nat_lt, List, [], ◌++◌, length, take, drop, Option, Some, Result, Ok, Err, ◌↔◌, inl, inr, refl, arith, ◌∙◌, sym, ap, subst}
 use Rattle.std.proofs.lemmas.List.{append-nil, append_assoc, take_all, take-append-drop, take-append-le, length-append}
 use Rattle.std.specs.Prelude.{IsOk}
-use Rattle.line_reader.specs.Buffer.{Holds}
-use Rattle.line_reader.specs.Lines.{lines_in}
-use Rattle.line_reader.specs.Reader.{limit}
-use Rattle.line_reader.specs.declared.buffer.LineBuffer.{LineBuffer}
+use Rattle.byte_io.specs.Buffer.{Holds}
+use Rattle.byte_io.specs.Lines.{lines_in}
+use Rattle.byte_io.specs.Reader.{limit}
+use Rattle.byte_io.specs.declared.buffer.LineBuffer.{LineBuffer}
 use Rattle.request_lines.specs.Lines.{Nothing, GivesRow, Requests, RequestLine, Long, Asks, Malformed, IsLine, SaysAs}
 use Rattle.request_lines.specs.Rows.{Row}
 use Rattle.table_rows.specs.Gathering.{MetEnd, MetFaulty, MetOther, Stops}

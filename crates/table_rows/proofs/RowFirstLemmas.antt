@@ -1,6 +1,6 @@
 -- A row line that comes first among the first lines comes first among all.
 use Rattle.std.proofs.Common.{ℕ, true, false, List, [], ◌∷◌, ◌++◌, inl, inr, sym, subst}
-use Rattle.line_reader.specs.Lines.{lines_in}
+use Rattle.byte_io.specs.Lines.{lines_in}
 use Rattle.table_rows.specs.RowLines.{RowComesFirst}
 use Rattle.table_rows.proofs.InputLemmas.{lines_in-prefix}
 

@@ -1,7 +1,7 @@
 -- The rows of all tables are accepted, or there is a first table that isn't, and its fault.
 use Rattle.std.proofs.Common.{◌≡◌, ℤ, List, ◌<◌, ◌⊎◌, inl, inr, refl, sym, subst}
 use Rattle.cal_errors.specs.declared.errors.TableFault.{TableFault}
-use Rattle.cal_rows.specs.laws.FaultLaws.{faults_decided, fault_refuses, one_fault}
+use Rattle.cal_types.specs.laws.FaultLaws.{faults_decided, fault_refuses, one_fault}
 use Rattle.cal_tables.specs.Kinds.{TableContents}
 use Rattle.cal_east_asian.specs.laws.ComputedLaws.{computed_year}
 use Rattle.cal_east_asian.specs.TableAccepted as lunisolar

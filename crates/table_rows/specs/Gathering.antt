@@ -2,11 +2,11 @@
 use Rattle.std.specs.Prelude.{◌≡◌, ℕ, ◌+◌, ◌<◌, ◌≤◌, Bool, true, false, nat_lt, List, [], ◌∷◌, ◌++◌, length, take, Option, if◌then◌else◌}
 use Rattle.std.specs.Io.KnownBytes.{Consumes, IsAtEnd}
 use Rattle.byte_io.specs.Faults.{Rose}
-use Rattle.line_reader.specs.Buffer.{Holds}
-use Rattle.line_reader.specs.Lines.{lines_in, open_line}
-use Rattle.line_reader.specs.Reader.{IsAt, lines_given, limit}
-use Rattle.line_reader.specs.declared.buffer.LineBuffer.{LineBuffer}
-use Rattle.line_reader.specs.declared.reader.Reader.{Reader}
+use Rattle.byte_io.specs.Buffer.{Holds}
+use Rattle.byte_io.specs.Lines.{lines_in, open_line}
+use Rattle.byte_io.specs.Reader.{IsAt, lines_given, limit}
+use Rattle.byte_io.specs.declared.buffer.LineBuffer.{LineBuffer}
+use Rattle.byte_io.specs.declared.reader.Reader.{Reader}
 use Rattle.request_lines.specs.Lines.{GivesRow, RequestLine, Requests, IsLine}
 use Rattle.request_lines.specs.Rows.{Row}
 use Rattle.table_rows.specs.RowLines.{Kept, Faulty, TakesRow, KeepsLine, AreRows, AtFaultyRow, AtRequest, EndRows, RowComesFirst}

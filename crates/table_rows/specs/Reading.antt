@@ -1,7 +1,7 @@
 -- What becomes of a line of rows, and of a whole text of rows.
 use Rattle.std.specs.Prelude.{◌≡◌, ℕ, ◌<◌, Bool, true, false, List, length, take, Option, Result, Ok, Err}
-use Rattle.line_reader.specs.Lines.{lines_in}
-use Rattle.line_reader.specs.Reader.{limit}
+use Rattle.byte_io.specs.Lines.{lines_in}
+use Rattle.byte_io.specs.Reader.{limit}
 use Rattle.request_lines.specs.Lines.{Nothing, GivesRow, Requests, RequestLine, Long, Asks, Malformed, IsLine}
 use Rattle.request_lines.specs.Rows.{Row}
 use Rattle.table_rows.specs.RowLines.{Kept, Faulty, TakesRow, AreRows, RowComesFirst, AtFaultyRow, AtRequest, EndRows}

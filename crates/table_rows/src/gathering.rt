@@ -1,18 +1,17 @@
 //! The row lines at the head of an input.
 ghost use Rattle.std.specs.Prelude.{◌≡◌, ◌≤◌, ℕ, List, [], Option, false};
-ghost use Rattle.line_reader.specs.Buffer.{Holds};
+ghost use Rattle.byte_io.specs.Buffer.{Holds};
 ghost use Rattle.std.specs.Io.KnownBytes.{Consumes, IsAtEnd};
-ghost use Rattle.line_reader.specs.Reader.{GivesAll, lines_given};
-ghost use Rattle.line_reader.specs.declared.buffer.LineBuffer.{LineBuffer};
-ghost use Rattle.line_reader.specs.declared.reader.Reader.{Reader};
+ghost use Rattle.byte_io.specs.Reader.{GivesAll, lines_given};
+ghost use Rattle.byte_io.specs.declared.buffer.LineBuffer.{LineBuffer};
+ghost use Rattle.byte_io.specs.declared.reader.Reader.{Reader};
 ghost use Rattle.request_lines.specs.Lines.{is_silent as line_is_silent};
 ghost use Rattle.table_rows.specs.RowsSaid.{rows_said};
 ghost use Rattle.table_rows.specs.Gathering.{IsGathering};
 
 use crate::rows::{TableRows, Taken};
 use crate::table::RowFault;
-use byte_io::Source;
-use line_reader::{Filled, LineBuffer, Next, Reader};
+use byte_io::{Filled, LineBuffer, Next, Reader, Source};
 use request_lines::{LineKind, is_silent, line_kind};
 
 /// Why reading row lines stopped at no line.

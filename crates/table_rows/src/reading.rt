@@ -1,14 +1,13 @@
 //! Rows from a line, or from a whole text.
 ghost use Rattle.std.specs.Prelude.{◌≡◌, ◌≢◌, ◌≤◌, ◌↔◌, IsOk, Err, length, if◌then◌else◌};
-ghost use Rattle.line_reader.specs.Reader.{limit};
+ghost use Rattle.byte_io.specs.Reader.{limit};
 ghost use Rattle.table_rows.specs.Reading.{IsLineTaken, IsRowText, IsTextRead};
 ghost use Rattle.table_rows.specs.RowsSaid.{rows_said};
 
 use crate::errors::{RowError, RowsError};
 use crate::gathering::{Gathered, LineGathered, Stop, gather, gather_said};
 use crate::rows::TableRows;
-use byte_io::PlainSource;
-use line_reader::{LineBuffer, Reader};
+use byte_io::{LineBuffer, PlainSource, Reader};
 use request_lines::is_silent;
 use std::alloc::Global;
 

@@ -9,13 +9,13 @@ use Rattle.cal_types.specs.Month.{MonthParts, month_rank}
 use Rattle.cal_types.specs.declared.options.Overflow.{Overflow}
 use Rattle.cal_errors.specs.declared.errors.MonthError.TheVariants.{NotInCalendar}
 use Rattle.cal_types.specs.declared.options.Overflow.TheVariants.{Constrain}
-use Rattle.cal_model.specs.CalendarList.{Date, IsDate, IsLawful, IsValidDate, day_number, days_before, month_at, month_count, month_length, month_number, place_of, spot, start_of_year, year_length}
+use Rattle.cal_types.specs.CalendarList.{Date, IsDate, IsLawful, IsValidDate, day_number, days_before, month_at, month_count, month_length, month_number, place_of, spot, start_of_year, year_length}
 use Rattle.cal_arith.specs.Places.{ordinal_month}
-use Rattle.cal_model.proofs.MonthCases.{by_month}
-use Rattle.cal_model.proofs.YearNameLemmas.{reference_of_known-kind}
+use Rattle.cal_types.proofs.MonthCases.{by_month}
+use Rattle.cal_types.proofs.YearNameLemmas.{reference_of_known-kind}
 use Rattle.cal_errors.specs.declared.errors.EcmaReferenceYearError.TheVariants.{MonthNotInCalendar}
 use Rattle.std.specs.Prelude.{◌↔◌}
-use Rattle.cal_model.proofs.ListLemmas.{date-in_year, month_number-next, month_number-place, spot-own, start_of_year-unique}
+use Rattle.cal_types.proofs.ListLemmas.{date-in_year, month_number-next, month_number-place, spot-own, start_of_year-unique}
 use Rattle.arith_tests.specs.AlternatingMonths.{is_plain, alternating, alternating_names}
 
 -- each year has twelve months

@@ -108,8 +108,8 @@ impl Years for CountedLookUps {
 
 impl DateFieldsResolver for CountedLookUps {
     ghost use Rattle.std.specs.Prelude.{codes, pos};
-    ghost use Rattle.cal_model.proofs.EraLemmas.{only_era_reads-in_range, only_era_reads-covered};
-    ghost use Rattle.cal_model.proofs.YearNameLemmas.{reference_of_known-stands};
+    ghost use Rattle.cal_types.proofs.EraLemmas.{only_era_reads-in_range, only_era_reads-covered};
+    ghost use Rattle.cal_types.proofs.YearNameLemmas.{reference_of_known-stands};
     ghost use Rattle.arith_tests.specs.AlternatingMonths.{alternating_names, is_plain};
     ghost use Rattle.arith_tests.specs.laws.AlternatingMonthLaws.{alternating_reference-kind};
 

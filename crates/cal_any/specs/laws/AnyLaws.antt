@@ -7,13 +7,13 @@ use Rattle.std.specs.Cmp.Lexicographic.{lists_equiv}
 use Rattle.std.specs.declared.cmp.Ordering.{Ordering}
 use Rattle.cal_days.specs.Day.{IsCoveredYear, IsFieldYear, IsValidDay}
 use Rattle.cal_types.specs.Year.{extended_year_of}
-use Rattle.cal_model.specs.CalendarList.{CalendarList, Date, IsDate, IsLawful, IsValidDate, day_number}
-use Rattle.cal_model.proofs.DateTests.{and-left, and-right, true-and, is_valid_date-true, true-is_valid_date}
-use Rattle.cal_model.specs.DateOrder.{date_eq, date_cmp}
-use Rattle.cal_model.proofs.OrderLemmas.{dates-equal, dates-ordered}
-use Rattle.cal_model.specs.Renumbered.{counted_date}
-use Rattle.cal_model.proofs.RenumberedBoundLemmas.{ranged-renumbered, covered-renumbered}
-use Rattle.cal_model.proofs.CountedDateLemmas.{counted-valid, valid-counted, day_number-counted}
+use Rattle.cal_types.specs.CalendarList.{CalendarList, Date, IsDate, IsLawful, IsValidDate, day_number}
+use Rattle.cal_types.proofs.DateTests.{and-left, and-right, true-and, is_valid_date-true, true-is_valid_date}
+use Rattle.cal_types.specs.DateOrder.{date_eq, date_cmp}
+use Rattle.cal_types.proofs.OrderLemmas.{dates-equal, dates-ordered}
+use Rattle.cal_types.specs.Renumbered.{counted_date}
+use Rattle.cal_types.proofs.RenumberedBoundLemmas.{ranged-renumbered, covered-renumbered}
+use Rattle.cal_types.proofs.CountedDateLemmas.{counted-valid, valid-counted, day_number-counted}
 use Rattle.cal_base.specs.GregorianList.{gregorian_list}
 use Rattle.cal_base.specs.laws.OffsetListLaws.{offset_list-lawful, offset_list-ranged, offset_list-shifted, offset_list-covered, true-offset}
 use Rattle.cal_coptic.specs.CopticList.{coptic_list}

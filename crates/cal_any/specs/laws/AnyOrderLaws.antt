@@ -6,7 +6,7 @@ use Rattle.std.specs.Cmp.{IsPartialOrder, IsPartialEquivalence, IsEquivalence, I
 use Rattle.std.specs.declared.cmp.Ordering.{Ordering}
 use Rattle.std.proofs.lemmas.Grind.{common_steps}
 use Rattle.std.proofs.lemmas.Bool.Decides.{nat_tests}
-use Rattle.cal_model.proofs.OrderLemmas.{date_eq-equiv, date_cmp-total, date_eq-ties}
+use Rattle.cal_types.proofs.OrderLemmas.{date_eq-equiv, date_cmp-total, date_eq-ties}
 use Rattle.cal_any.specs.AnyOrder.{kind_of, kept_date, any_eq, any_cmp}
 
 pub any_equal : IsEquivalence any_eq

@@ -5,7 +5,7 @@ use Rattle.std.specs.Cmp.{IsEquivalence}
 use Rattle.std.proofs.lemmas.Bool.Decides.{nat_tests}
 use Rattle.cal_days.proofs.Signed.{by_bool}
 use Rattle.cal_any.specs.ByKind.{always, test_of, by_kind}
-use Rattle.cal_model.proofs.DateTests.{and-left, and-right, true-and}
+use Rattle.cal_types.proofs.DateTests.{and-left, and-right, true-and}
 
 pub equal_kinds : (m n : ℕ) → (m == n) ≡ true → m ≡ n
 equal_kinds m n e = grind (arith, nat_tests)

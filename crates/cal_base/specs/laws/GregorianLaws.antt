@@ -5,11 +5,11 @@ use Rattle.cal_days.specs.Division.{floor_div}
 use Rattle.cal_days.specs.Gregorian.{gregorian_leap, gregorian_start, gregorian_year_length, leap_days_through}
 use Rattle.cal_days.proofs.Signed.{signed}
 use Rattle.cal_days.proofs.GregorianLemmas.{gregorian_start-bounds, gregorian_start-next, year_of_valid_day}
-use Rattle.cal_model.specs.CalendarList.{Date, day_number, start_of_year, year_length, IsDate, IsValidDate}
-use Rattle.cal_model.specs.PlainMonths.{HasPlainMonths}
-use Rattle.cal_model.specs.RenumberedBounds.{IsBounded}
-use Rattle.cal_model.proofs.ListLemmas.{date-in_year, start_of_year-unique}
-use Rattle.cal_model.proofs.PlainMonthLemmas.{apart-plain}
+use Rattle.cal_types.specs.CalendarList.{Date, day_number, start_of_year, year_length, IsDate, IsValidDate}
+use Rattle.cal_types.specs.PlainMonths.{HasPlainMonths}
+use Rattle.cal_types.specs.RenumberedBounds.{IsBounded}
+use Rattle.cal_types.proofs.ListLemmas.{date-in_year, start_of_year-unique}
+use Rattle.cal_types.proofs.PlainMonthLemmas.{apart-plain}
 use Rattle.cal_base.specs.GregorianList.{gregorian_list, HasGregorianMonths}
 use Rattle.cal_base.specs.laws.GregorianMonths.{gregorian-plain, year_length-gregorian}
 

@@ -1,11 +1,11 @@
 -- The months of a Gregorian year in closed form, and what follows for each list that has them.
 use Rattle.std.proofs.Common.{◌≡◌, ◌≢◌, ◌==◌, ◌||◌, ℕ, ◌-◌, ◌≤◌, Bool, true, false, if◌then◌else◌, IsTrue, ◌↔◌, List, length, sum_by, take, refl, sym, ap, ◌∙◌, arith, ℤ, ◌+ℤ◌, inl}
 use Rattle.std.specs.Prelude.{slice_index_or}
-use Rattle.cal_model.specs.CalendarList.{CalendarList, Entry, days_of, no_entry, days_before, month_length, year_length}
-use Rattle.cal_model.specs.PlainMonths.{numbered_month, HasPlainMonths}
-use Rattle.cal_model.specs.Renumbered.{renumbered}
-use Rattle.cal_model.proofs.DateTests.{same_truth}
-use Rattle.cal_model.proofs.MonthCases.{by_month}
+use Rattle.cal_types.specs.CalendarList.{CalendarList, Entry, days_of, no_entry, days_before, month_length, year_length}
+use Rattle.cal_types.specs.PlainMonths.{numbered_month, HasPlainMonths}
+use Rattle.cal_types.specs.Renumbered.{renumbered}
+use Rattle.cal_types.proofs.DateTests.{same_truth}
+use Rattle.cal_types.proofs.MonthCases.{by_month}
 use Rattle.cal_base.specs.GregorianList.{gregorian_months, gregorian_month_length, gregorian_days_before, HasGregorianMonths}
 
 pub gregorian_month_length-within : (leap : Bool) (i : ℕ) → 1 ≤ i → i ≤ 12 → (1 ≤ gregorian_month_length leap i) × (gregorian_month_length leap i ≤ 31)

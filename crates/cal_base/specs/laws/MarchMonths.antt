@@ -4,9 +4,9 @@ use Rattle.std.proofs.Common.{◌≡◌, ℕ, ◌+◌, ◌-◌, ◌*◌, ◌/◌
 use Rattle.std.specs.Prelude.{nat_le}
 use Rattle.std.proofs.lemmas.Bool.Decides.{nat_tests}
 use Rattle.cal_days.proofs.Signed.{signed, by_lt}
-use Rattle.cal_model.specs.CalendarList.{CalendarList, date, day_number, start_of_year, HasPlace, IsOn}
-use Rattle.cal_model.proofs.ListLemmas.{start_of_year-next}
-use Rattle.cal_model.proofs.MonthCases.{by_month}
+use Rattle.cal_types.specs.CalendarList.{CalendarList, date, day_number, start_of_year, HasPlace, IsOn}
+use Rattle.cal_types.proofs.ListLemmas.{start_of_year-next}
+use Rattle.cal_types.proofs.MonthCases.{by_month}
 use Rattle.cal_base.specs.GregorianList.{gregorian_days_before, gregorian_month_length, march_month, march_days_before, march_month_most, HasGregorianMonths}
 use Rattle.cal_base.specs.laws.GregorianMonths.{days_before-gregorian, month_length-gregorian, year_length-gregorian, gregorian-plain}
 

@@ -3,10 +3,10 @@
 use Rattle.std.proofs.Common.{◌≡◌, ap}
 use Rattle.std.specs.Prelude.{IsTrue, Some}
 use Rattle.std.specs.Ordering.{int_cmp, int_eq}
-use Rattle.cal_model.specs.CalendarList.{CalendarList, Date, day_number, is_valid_date}
-use Rattle.cal_model.specs.DateOrder.{date_eq, date_cmp}
-use Rattle.cal_model.proofs.DateTests.{is_valid_date-true}
-use Rattle.cal_model.proofs.OrderLemmas.{dates-equal, dates-ordered}
+use Rattle.cal_types.specs.CalendarList.{CalendarList, Date, day_number, is_valid_date}
+use Rattle.cal_types.specs.DateOrder.{date_eq, date_cmp}
+use Rattle.cal_types.proofs.DateTests.{is_valid_date-true}
+use Rattle.cal_types.proofs.OrderLemmas.{dates-equal, dates-ordered}
 
 module _ (list : CalendarList) (t u : Date) (h : IsTrue (is_valid_date list t))
     (k : IsTrue (is_valid_date list u)) where

@@ -4,10 +4,10 @@ use Rattle.cal_days.specs.Day.{IsCoveredYear, IsFieldYear, IsShiftedYear, IsVali
 use Rattle.cal_days.specs.Gregorian.{gregorian_leap}
 use Rattle.cal_days.proofs.Signed.{signed}
 use Rattle.cal_days.proofs.RangeLemmas.{is_between-true}
-use Rattle.cal_model.specs.CalendarList.{Date, IsDate, IsLawful, IsValidDate, day_number}
-use Rattle.cal_model.specs.PlainMonths.{HasPlainMonths}
-use Rattle.cal_model.proofs.PlainMonthLemmas.{plain-lawful, renumbered-plain}
-use Rattle.cal_model.proofs.RenumberedBoundLemmas.{ranged-renumbered, covered-renumbered}
+use Rattle.cal_types.specs.CalendarList.{Date, IsDate, IsLawful, IsValidDate, day_number}
+use Rattle.cal_types.specs.PlainMonths.{HasPlainMonths}
+use Rattle.cal_types.proofs.PlainMonthLemmas.{plain-lawful, renumbered-plain}
+use Rattle.cal_types.proofs.RenumberedBoundLemmas.{ranged-renumbered, covered-renumbered}
 use Rattle.cal_arith.specs.Given.{IsGiven}
 use Rattle.cal_base.specs.GregorianList.{gregorian_list, HasGregorianMonths}
 use Rattle.cal_base.specs.laws.GregorianMonths.{renumbered-gregorian}

@@ -5,13 +5,13 @@ use Rattle.std.specs.Ordering.{int_cmp, int_eq}
 use Rattle.cal_days.specs.Day.{is_field_year}
 use Rattle.cal_days.proofs.RangeLemmas.{is_between-true, true-is_between}
 use Rattle.cal_days.proofs.Signed.{signed}
-use Rattle.cal_model.specs.CalendarList.{date, day_number, IsOn, IsValidDate, is_valid_date}
-use Rattle.cal_model.specs.Renumbered.{shifted_date}
-use Rattle.cal_model.specs.DateOrder.{date_eq, date_cmp}
-use Rattle.cal_model.proofs.DateTests.{is_valid_date-true, true-is_valid_date, not_true, same_truth}
-use Rattle.cal_model.proofs.OrderLemmas.{dates-equal, dates-ordered}
-use Rattle.cal_model.proofs.RenumberedBoundLemmas.{ranged-renumbered}
-use Rattle.cal_model.proofs.RenumberedLemmas.{day_number-renumbered, valid-renumbered, renumbered-valid}
+use Rattle.cal_types.specs.CalendarList.{date, day_number, IsOn, IsValidDate, is_valid_date}
+use Rattle.cal_types.specs.Renumbered.{shifted_date}
+use Rattle.cal_types.specs.DateOrder.{date_eq, date_cmp}
+use Rattle.cal_types.proofs.DateTests.{is_valid_date-true, true-is_valid_date, not_true, same_truth}
+use Rattle.cal_types.proofs.OrderLemmas.{dates-equal, dates-ordered}
+use Rattle.cal_types.proofs.RenumberedBoundLemmas.{ranged-renumbered}
+use Rattle.cal_types.proofs.RenumberedLemmas.{day_number-renumbered, valid-renumbered, renumbered-valid}
 use Rattle.cal_arith.specs.Given.{IsGiven}
 use Rattle.cal_arith.specs.Dates.{Belongs}
 use Rattle.cal_arith.specs.declared.dates.Ymd.{Ymd}

@@ -6,9 +6,9 @@ use Rattle.std.specs.declared.cmp.Ordering.{Ordering}
 use Rattle.cal_days.specs.Day.{IsFieldYear, IsValidDay, is_field_year, is_valid_day, IsCoveredYear}
 use Rattle.cal_days.proofs.RangeLemmas.{true-is_between}
 use Rattle.cal_days.proofs.Signed.{signed}
-use Rattle.cal_model.specs.CalendarList.{Entry, no_entry, days_of, Date, date, day_number, days_before, start_of_year, IsDate, IsLawful, IsValidDate, is_date, is_valid_date}
-use Rattle.cal_model.proofs.DateTests.{and-left, and-right, not_true, true-and, is_valid_date-true, true-is_valid_date}
-use Rattle.cal_model.proofs.ListLemmas.{first-date}
+use Rattle.cal_types.specs.CalendarList.{Entry, no_entry, days_of, Date, date, day_number, days_before, start_of_year, IsDate, IsLawful, IsValidDate, is_date, is_valid_date}
+use Rattle.cal_types.proofs.DateTests.{and-left, and-right, not_true, true-and, is_valid_date-true, true-is_valid_date}
+use Rattle.cal_types.proofs.ListLemmas.{first-date}
 use Rattle.cal_arith.specs.Given.{CalendarYears, IsGiven}
 use Rattle.cal_arith.specs.Dates.{Belongs, date_of}
 use Rattle.cal_arith.specs.declared.dates.Ymd.{Ymd}

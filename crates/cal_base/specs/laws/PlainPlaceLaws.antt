@@ -2,10 +2,10 @@
 use Rattle.std.proofs.Common.{◌≡◌, ℕ, Bool, true, false, Some, refl, ap, ◌∙◌, ℤ}
 use Rattle.cal_types.specs.Month.{MonthParts}
 use Rattle.cal_types.specs.declared.options.Overflow.{Overflow}
-use Rattle.cal_model.specs.CalendarList.{CalendarList, HasPlace, month_at, spot}
-use Rattle.cal_model.specs.PlainMonths.{is_plain_month, numbered_month, HasPlainMonths}
-use Rattle.cal_model.proofs.ListLemmas.{spot-own}
-use Rattle.cal_model.proofs.PlainMonthLemmas.{place_of-plain, plain-month, plain-place, true-plain}
+use Rattle.cal_types.specs.CalendarList.{CalendarList, HasPlace, month_at, spot}
+use Rattle.cal_types.specs.PlainMonths.{is_plain_month, numbered_month, HasPlainMonths}
+use Rattle.cal_types.proofs.ListLemmas.{spot-own}
+use Rattle.cal_types.proofs.PlainMonthLemmas.{place_of-plain, plain-month, plain-place, true-plain}
 use Rattle.cal_arith.specs.Places.{ordinal_month}
 use Rattle.cal_base.specs.PlainPlaces.{plain_place}
 

@@ -6,12 +6,12 @@ use Rattle.cal_days.specs.Division.{floor_div}
 use Rattle.cal_days.specs.Coptic.{coptic_leap, coptic_start, coptic_year_length}
 use Rattle.cal_days.proofs.Signed.{signed, by_lt}
 use Rattle.cal_days.proofs.CopticLemmas.{coptic_start-next, coptic_start-bounds, coptic_year_of_valid_day}
-use Rattle.cal_model.specs.CalendarList.{Date, date, days_of, no_entry, month_length, days_before, year_length, start_of_year, day_number, HasPlace, IsDate, IsValidDate, IsLawful, IsOn}
-use Rattle.cal_model.specs.PlainMonths.{numbered_month, HasPlainMonths}
-use Rattle.cal_model.specs.RenumberedBounds.{IsBounded}
-use Rattle.cal_model.proofs.ListLemmas.{start_of_year-unique, date-in_year, on-rest}
-use Rattle.cal_model.proofs.MonthCases.{by_month, by_thirteen}
-use Rattle.cal_model.proofs.PlainMonthLemmas.{plain-lawful, apart-plain}
+use Rattle.cal_types.specs.CalendarList.{Date, date, days_of, no_entry, month_length, days_before, year_length, start_of_year, day_number, HasPlace, IsDate, IsValidDate, IsLawful, IsOn}
+use Rattle.cal_types.specs.PlainMonths.{numbered_month, HasPlainMonths}
+use Rattle.cal_types.specs.RenumberedBounds.{IsBounded}
+use Rattle.cal_types.proofs.ListLemmas.{start_of_year-unique, date-in_year, on-rest}
+use Rattle.cal_types.proofs.MonthCases.{by_month, by_thirteen}
+use Rattle.cal_types.proofs.PlainMonthLemmas.{plain-lawful, apart-plain}
 use Rattle.cal_coptic.specs.CopticList.{coptic_months, coptic_month_length, coptic_list}
 
 months_at : (leap : Bool) (i : ℕ) → 1 ≤ i → i ≤ 13 → (slice_index_or (coptic_months leap) (i - 1) no_entry).month ≡ numbered_month i

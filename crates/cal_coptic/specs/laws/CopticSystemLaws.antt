@@ -1,7 +1,7 @@
 -- What belonging to the Coptic calendar says.
 use Rattle.std.specs.Prelude.{IsTrue}
-use Rattle.cal_model.specs.CalendarList.{IsValidDate}
-use Rattle.cal_model.proofs.DateTests.{is_valid_date-true}
+use Rattle.cal_types.specs.CalendarList.{IsValidDate}
+use Rattle.cal_types.proofs.DateTests.{is_valid_date-true}
 use Rattle.cal_coptic.specs.CopticList.{coptic_list}
 use Rattle.cal_coptic.specs.CopticSystem.{coptic_date, coptic_belongs}
 use Rattle.cal_coptic.specs.declared.coptic.CopticDateInner.{CopticDateInner}

@@ -8,19 +8,19 @@ use Rattle.cal_days.proofs.Signed.{signed}
 use Rattle.cal_types.specs.Year.{extended_year_of}
 use Rattle.cal_types.specs.declared.year.EraYear.{EraYear}
 use Rattle.cal_types.specs.declared.year.YearInfo.TheVariants.{Era}
-use Rattle.cal_model.specs.PlainMonths.{HasPlainMonths}
-use Rattle.cal_model.specs.CalendarList.{date, start_of_year, year_length, IsLawful, IsOn}
-use Rattle.cal_model.specs.RenumberedBounds.{IsShift}
-use Rattle.cal_model.specs.YearNames.{is_code}
-use Rattle.cal_model.proofs.EraLemmas.{only_era_reads-in_range, only_era_reads-covered}
-use Rattle.cal_model.proofs.PlainMonthLemmas.{plain-lawful, renumbered-plain}
-use Rattle.cal_model.proofs.RenumberedLemmas.{start_of_year-renumbered, year_length-renumbered}
-use Rattle.cal_model.proofs.YearNameLemmas.{year_in_era-some, no_era-some}
+use Rattle.cal_types.specs.PlainMonths.{HasPlainMonths}
+use Rattle.cal_types.specs.CalendarList.{date, start_of_year, year_length, IsLawful, IsOn}
+use Rattle.cal_types.specs.RenumberedBounds.{IsShift}
+use Rattle.cal_types.specs.YearNames.{is_code}
+use Rattle.cal_types.proofs.EraLemmas.{only_era_reads-in_range, only_era_reads-covered}
+use Rattle.cal_types.proofs.PlainMonthLemmas.{plain-lawful, renumbered-plain}
+use Rattle.cal_types.proofs.RenumberedLemmas.{start_of_year-renumbered, year_length-renumbered}
+use Rattle.cal_types.proofs.YearNameLemmas.{year_in_era-some, no_era-some}
 use Rattle.cal_arith.specs.Given.{IsGiven}
 use Rattle.cal_base.specs.OwnYears.{IsSharedYear}
 use Rattle.cal_coptic.specs.CopticList.{coptic_list, coptic_year}
 use Rattle.cal_coptic.specs.laws.CopticLaws.{coptic_list-plain, start_of_year-coptic, year_length-coptic}
-use Rattle.cal_model.proofs.CountedDateLemmas.{shifted_year, counted-on}
+use Rattle.cal_types.proofs.CountedDateLemmas.{shifted_year, counted-on}
 use Rattle.cal_coptic.specs.EthiopianEra.{ethiopian_era_year}
 use Rattle.cal_coptic.specs.EthiopianList.{coptic_offset, is_same_style, ethiopian_list, ethiopian_years}
 use Rattle.cal_coptic.specs.EthiopianNames.{incarnation_reads, ethiopian_reads}

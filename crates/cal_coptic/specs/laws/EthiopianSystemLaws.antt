@@ -2,11 +2,11 @@
 use Rattle.std.proofs.Common.{◌≡◌, Some, sym, ap, ◌∙◌}
 use Rattle.std.specs.Prelude.{IsTrue}
 use Rattle.std.specs.Ordering.{int_cmp, int_eq}
-use Rattle.cal_model.specs.CalendarList.{day_number, IsValidDate}
-use Rattle.cal_model.specs.DateOrder.{date_eq, date_cmp}
-use Rattle.cal_model.proofs.DateTests.{is_valid_date-true, true-is_valid_date}
+use Rattle.cal_types.specs.CalendarList.{day_number, IsValidDate}
+use Rattle.cal_types.specs.DateOrder.{date_eq, date_cmp}
+use Rattle.cal_types.proofs.DateTests.{is_valid_date-true, true-is_valid_date}
 use Rattle.cal_coptic.specs.CopticList.{coptic_list}
-use Rattle.cal_model.proofs.CountedDateLemmas.{counted-valid, valid-counted, day_number-counted, counted-equal, counted-ordered}
+use Rattle.cal_types.proofs.CountedDateLemmas.{counted-valid, valid-counted, day_number-counted, counted-equal, counted-ordered}
 use Rattle.cal_coptic.specs.EthiopianList.{coptic_offset, ethiopian_list}
 use Rattle.cal_coptic.specs.EthiopianSystem.{kept_date, ethiopian_date, ethiopian_belongs}
 use Rattle.cal_coptic.specs.declared.ethiopian.EthiopianDateInner.{EthiopianDateInner}

@@ -4,7 +4,7 @@ use Rattle.std.specs.Prelude.{slice_index_or, length}
 use Rattle.std.proofs.lemmas.Bool.Decides.{nat_tests}
 use native.Mathlib.Nat.{pow-suc, mul_comm, div-div-eq-div-mul}
 use Rattle.cal_types.specs.Month.{month_rank}
-use Rattle.cal_model.specs.CalendarList.{Entry, no_entry}
+use Rattle.cal_types.specs.CalendarList.{Entry, no_entry}
 use Rattle.cal_east_asian.specs.EastAsianYear.{is_leap_place, months_of_year}
 use Rattle.cal_east_asian.specs.EastAsianMonths.{month_in_place, entries_by}
 use Rattle.cal_east_asian.specs.EastAsianPlaces.{is_east_asian_month}

@@ -3,8 +3,8 @@ use Rattle.std.proofs.Common.{◌≡◌, sym, ap, ◌∙◌, arith, ℤ}
 use Rattle.std.specs.Prelude.{IsTrue}
 use Rattle.cal_days.specs.Day.{IsRuleYear}
 use Rattle.cal_days.proofs.Signed.{signed}
-use Rattle.cal_model.specs.CalendarList.{IsValidDate, is_valid_date, day_number, start_of_year}
-use Rattle.cal_model.proofs.DateTests.{and-left, and-right, is_valid_date-true}
+use Rattle.cal_types.specs.CalendarList.{IsValidDate, is_valid_date, day_number, start_of_year}
+use Rattle.cal_types.proofs.DateTests.{and-left, and-right, is_valid_date-true}
 use Rattle.cal_arith.specs.Given.{IsGiven}
 use Rattle.cal_base.specs.OwnYears.{IsSharedYear}
 use Rattle.cal_base.specs.laws.OwnYearLaws.{own_shared, shared_day}

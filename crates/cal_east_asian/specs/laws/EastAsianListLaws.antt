@@ -7,8 +7,8 @@ use Rattle.cal_errors.specs.declared.errors.MonthError.{MonthError}
 use Rattle.cal_errors.specs.declared.errors.MonthError.TheVariants.{NotInYear}
 use Rattle.cal_types.specs.declared.options.Overflow.{Overflow}
 use Rattle.cal_types.specs.declared.options.Overflow.TheVariants.{Constrain, Reject}
-use Rattle.cal_model.specs.CalendarList.{Entry, entry_at, days_before, month_length, month_count, month_at, place_of, spot, first_of_two, HasPlace, IsLawful}
-use Rattle.cal_model.proofs.ListLemmas.{days_before-first, days_before-next, place_of-own, place_of-some}
+use Rattle.cal_types.specs.CalendarList.{Entry, entry_at, days_before, month_length, month_count, month_at, place_of, spot, first_of_two, HasPlace, IsLawful}
+use Rattle.cal_types.proofs.ListLemmas.{days_before-first, days_before-next, place_of-own, place_of-some}
 use Rattle.cal_arith.specs.Places.{ordinal_month}
 use Rattle.cal_east_asian.specs.EastAsianYear.{is_leap_place, months_of_year}
 use Rattle.cal_east_asian.specs.RuleYears.{rule_year}

@@ -9,8 +9,8 @@ use Rattle.cal_days.specs.Sums.{years_up, total, span}
 use Rattle.cal_days.proofs.GregorianLemmas.{gregorian_start-bounds}
 use Rattle.cal_days.proofs.Signed.{signed}
 use Rattle.cal_days.proofs.SumLemmas.{span-same, span-up, span-down}
-use Rattle.cal_model.specs.CalendarList.{Date, month_count, month_number, days_of, start_of_year, year_length, day_number, IsDate, IsValidDate}
-use Rattle.cal_model.proofs.ListLemmas.{date-in_year, start_of_year-later, start_of_year-next, year_length-most}
+use Rattle.cal_types.specs.CalendarList.{Date, month_count, month_number, days_of, start_of_year, year_length, day_number, IsDate, IsValidDate}
+use Rattle.cal_types.proofs.ListLemmas.{date-in_year, start_of_year-later, start_of_year-next, year_length-most}
 use Rattle.cal_east_asian.specs.EastAsianYear.{IsNewYear, months_of_year}
 use Rattle.cal_east_asian.specs.EastAsianYears.{AreYears, leap_in_three, parts_of}
 use Rattle.cal_east_asian.specs.laws.RuleYearLaws.{rule_year-same}

@@ -4,7 +4,7 @@ use Rattle.std.specs.Prelude.{IsTrue}
 use Rattle.std.proofs.lemmas.Bool.Decides.{nat_tests}
 use Rattle.cal_days.proofs.Signed.{by_lt}
 use Rattle.cal_types.specs.Month.{MonthParts}
-use Rattle.cal_model.specs.CalendarList.{Entry, days_of}
+use Rattle.cal_types.specs.CalendarList.{Entry, days_of}
 use Rattle.cal_east_asian.specs.MeanYears.{leap_month, first_month, end_month, name_of, mean_entry, entries_from, mean_months}
 use Rattle.cal_east_asian.specs.laws.MeanYearLaws.{month-days}
 use Rattle.cal_east_asian.specs.laws.LeapMonthLaws.{by_leap_month}

@@ -3,7 +3,7 @@ use Rattle.std.proofs.Common.{◌≡◌, ◌-◌, Bool, true, false, not, ◌||�
 use Rattle.std.specs.Prelude.{sum_by}
 use Rattle.std.proofs.lemmas.Bool.Decides.{nat_tests}
 use Rattle.cal_days.proofs.Signed.{signed, by_bool}
-use Rattle.cal_model.specs.CalendarList.{days_of}
+use Rattle.cal_types.specs.CalendarList.{days_of}
 use Rattle.cal_east_asian.specs.MeanYears.{IsOffset, leap_month, first_month, end_month, mean_months, new_year, month_total}
 use Rattle.cal_east_asian.specs.laws.MeanYearLaws.{entries-count, years-join, three-years}
 use Rattle.cal_east_asian.specs.laws.MeanStartLaws.{new_year-near}

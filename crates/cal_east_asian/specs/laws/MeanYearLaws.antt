@@ -4,7 +4,7 @@ use Rattle.std.proofs.lemmas.Int.{by_lt_z}
 use Rattle.std.proofs.lemmas.Bool.Decides.{nat_tests}
 use Rattle.std.proofs.lemmas.List.Sums.{sum_by-cons}
 use Rattle.cal_days.specs.Division.{floor_div}
-use Rattle.cal_model.specs.CalendarList.{no_entry, days_of}
+use Rattle.cal_types.specs.CalendarList.{no_entry, days_of}
 use Rattle.cal_days.proofs.Signed.{signed}
 use Rattle.cal_east_asian.specs.MeanYears.{day, moon, term, last_moon, solstice_moon, month_start, lacks_term, leap_month, first_month, end_month, mean_entry, entries_from, mean_months, new_year, first_moon, month_total, AreMonths}
 use Rattle.cal_east_asian.specs.laws.MoonLaws.{moon-later, day-near, day-later, day-month, moon-more, term-more, term-next_year, last_moon-within, last_moon-most}

@@ -3,7 +3,7 @@ use Rattle.std.proofs.Common.{◌≡◌, ◌∙◌, ℕ, zero, suc, ◌+◌, ◌
 use Rattle.std.specs.Prelude.{sum_by}
 use Rattle.std.proofs.lemmas.List.Sums.{sum_by-cons}
 use native.Mathlib.Nat.{pow-suc, mul_comm, div-div-eq-div-mul}
-use Rattle.cal_model.specs.CalendarList.{days_of}
+use Rattle.cal_types.specs.CalendarList.{days_of}
 use Rattle.cal_east_asian.specs.EastAsianYear.{months_of_year}
 use Rattle.cal_east_asian.specs.EastAsianMonths.{entries_by, year_entries}
 use Rattle.cal_east_asian.specs.laws.EastAsianEntryLaws.{entry_by}

@@ -5,7 +5,7 @@ use Rattle.cal_days.specs.Day.{IsRuleYear}
 use Rattle.cal_days.specs.Division.{floor_div}
 use Rattle.cal_days.specs.Gregorian.{gregorian_start, leap_days_through}
 use Rattle.cal_days.proofs.Signed.{signed}
-use Rattle.cal_model.proofs.MonthCases.{by_month}
+use Rattle.cal_types.proofs.MonthCases.{by_month}
 use Rattle.cal_east_asian.specs.EastAsianYear.{IsNewYear, months_of_year}
 use Rattle.cal_east_asian.specs.EastAsianYears.{HasValidParts, end_of, has_leap}
 use Rattle.cal_east_asian.specs.QingYears.{IsQingNumber, qing_rows, qing_parts, row_by_parts}

@@ -4,7 +4,7 @@ use Rattle.std.specs.Prelude.{IsTrue, ◌&&◌, nat_eq}
 use Rattle.std.specs.Ordering.{int_eq}
 use Rattle.std.proofs.lemmas.Int.{ints}
 use Rattle.std.proofs.lemmas.Bool.Decides.{nat_tests}
-use Rattle.cal_model.proofs.DateTests.{and-left, and-right, true-and}
+use Rattle.cal_types.proofs.DateTests.{and-left, and-right, true-and}
 use Rattle.cal_east_asian.specs.SameYears.{same_year}
 pub use Rattle.cal_east_asian.specs.laws.SameParts.{same_parts}
 use Rattle.cal_east_asian.specs.declared.east_asian_traditional_year.EastAsianTraditionalYear.{EastAsianTraditionalYear}

@@ -9,7 +9,7 @@ use Rattle.cal_days.proofs.Signed.{signed}
 use Rattle.cal_types.specs.Month.{MonthParts}
 use Rattle.cal_errors.specs.declared.errors.EcmaReferenceYearError.{EcmaReferenceYearError}
 use Rattle.cal_errors.specs.declared.errors.EcmaReferenceYearError.TheVariants.{MonthNotInCalendar, UseRegularIfConstrain}
-use Rattle.cal_model.proofs.MonthCases.{by_month}
+use Rattle.cal_types.proofs.MonthCases.{by_month}
 use Rattle.cal_east_asian.specs.EastAsianRows.{years_of}
 use Rattle.cal_east_asian.specs.EastAsianYears.{AreYears}
 use Rattle.cal_east_asian.specs.EastAsianPlaces.{is_east_asian_month}

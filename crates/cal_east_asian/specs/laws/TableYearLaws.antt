@@ -3,11 +3,11 @@ use Rattle.std.proofs.Common.{◌≡◌, ℕ, ◌+◌, ◌≤◌, ⊎_elim, true
 use Rattle.cal_days.specs.Day.{IsRuleYear}
 use Rattle.std.proofs.lemmas.Option.{slice_get_cases}
 use Rattle.cal_days.proofs.Signed.{signed, by_lt}
-use Rattle.cal_model.proofs.DateTests.{and-left, and-right}
-use Rattle.cal_rows.specs.Rows.{AreConsecutive, AreJoined}
-use Rattle.cal_rows.specs.laws.RowLaws.{or_right, consecutive, is_last, number-at, row_below}
-use Rattle.cal_rows.specs.laws.RowPlaces.{by_year, chosen-number}
-use Rattle.cal_rows.specs.laws.RowJoins.{chosen-join}
+use Rattle.cal_types.proofs.DateTests.{and-left, and-right}
+use Rattle.cal_types.specs.Rows.{AreConsecutive, AreJoined}
+use Rattle.cal_types.specs.laws.RowLaws.{or_right, consecutive, is_last, number-at, row_below}
+use Rattle.cal_types.specs.laws.RowPlaces.{by_year, chosen-number}
+use Rattle.cal_types.specs.laws.RowJoins.{chosen-join}
 use Rattle.cal_east_asian.specs.EastAsianYears.{end_day, AreYears}
 use Rattle.cal_east_asian.specs.TableYears.{number_of, chosen_year, IsRow, HasNoRow}
 use Rattle.cal_east_asian.specs.TableAccepted.{row_before, start_of, is_next, leap_by_years, leaps_after, IsAccepted}

@@ -1,7 +1,7 @@
 -- A year in its era has its extended year.
 use Rattle.std.specs.Prelude.{◌≡◌, Bool, true, false, if◌then◌else◌, pos, int_lt, ℤ, refl}
 use Rattle.cal_types.specs.declared.year.EraYear.{EraYear}
-use Rattle.cal_model.specs.CalendarList.{Date}
+use Rattle.cal_types.specs.CalendarList.{Date}
 use Rattle.cal_gregory.specs.CommonEra.{common_era_year}
 
 pub either_extended : (b : Bool) (p q : EraYear) (y : ℤ) → p.extended_year ≡ y → q.extended_year ≡ y → (if b then p else q).extended_year ≡ y

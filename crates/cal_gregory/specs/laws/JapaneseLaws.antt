@@ -5,11 +5,11 @@ use Rattle.std.specs.Option.{option_or}
 use Rattle.cal_days.specs.Day.{IsBetween, is_between, IsConstructorYear, IsCoveredYear, IsFieldYear, IsRuleYear}
 use Rattle.cal_days.proofs.RangeLemmas.{is_between-true}
 use Rattle.cal_days.proofs.Signed.{signed}
-use Rattle.cal_model.specs.CalendarList.{Date}
-use Rattle.cal_model.specs.Eras.{common_era_reads}
-use Rattle.cal_model.specs.YearNames.{is_code}
-use Rattle.cal_model.proofs.DateTests.{and-left}
-use Rattle.cal_model.proofs.EraLemmas.{common_era_reads-in_range, common_era_reads-covered}
+use Rattle.cal_types.specs.CalendarList.{Date}
+use Rattle.cal_types.specs.Eras.{common_era_reads}
+use Rattle.cal_types.specs.YearNames.{is_code}
+use Rattle.cal_types.proofs.DateTests.{and-left}
+use Rattle.cal_types.proofs.EraLemmas.{common_era_reads-in_range, common_era_reads-covered}
 use Rattle.cal_gregory.specs.laws.CommonEraLaws.{common_era_year-named, either_extended}
 use Rattle.cal_gregory.specs.JapaneseEraList.{IsStartYear, ListedEra, last_era, has_started, year_of_era, japanese_reads, is_early_meiji, year_printed, japanese_era_year}
 use Rattle.cal_gregory.specs.JapaneseEras.{later_eras, listed_eras}

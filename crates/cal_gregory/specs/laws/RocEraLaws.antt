@@ -3,9 +3,9 @@ use Rattle.std.proofs.Common.{◌≡◌, ℕ, ℤ, pos, ◌-ℤ◌, List, None, 
 use Rattle.std.specs.Prelude.{codes, int_lt}
 use Rattle.cal_days.specs.Day.{IsConstructorYear, IsCoveredYear, IsFieldYear, IsRuleYear}
 use Rattle.cal_days.proofs.Signed.{signed}
-use Rattle.cal_model.specs.CalendarList.{Date}
-use Rattle.cal_model.specs.YearNames.{is_code}
-use Rattle.cal_model.proofs.YearNameLemmas.{year_in_era-some, no_era-some}
+use Rattle.cal_types.specs.CalendarList.{Date}
+use Rattle.cal_types.specs.YearNames.{is_code}
+use Rattle.cal_types.proofs.YearNameLemmas.{year_in_era-some, no_era-some}
 use Rattle.cal_gregory.specs.laws.CommonEraLaws.{either_extended}
 use Rattle.cal_gregory.specs.RocEra.{roc_reads, roc_era_year}
 

@@ -8,8 +8,8 @@ use Rattle.cal_days.proofs.Signed.{signed}
 use Rattle.cal_days.proofs.DivisionLemmas.{floor_parts}
 use Rattle.cal_days.proofs.SumLemmas.{span-unique}
 use Rattle.cal_days.proofs.HebrewLemmas.{hebrew_start-bounds, hebrew_start-next, hebrew_year_of_valid_day, months_before-next}
-use Rattle.cal_model.specs.CalendarList.{Date, month_count, month_number, day_number, IsDate, IsValidDate}
-use Rattle.cal_model.proofs.ListLemmas.{date-in_year}
+use Rattle.cal_types.specs.CalendarList.{Date, month_count, month_number, day_number, IsDate, IsValidDate}
+use Rattle.cal_types.proofs.ListLemmas.{date-in_year}
 use Rattle.cal_hebrew.specs.HebrewList.{hebrew_list}
 use Rattle.cal_hebrew.specs.laws.HebrewMonths.{hebrew_list-lawful, month_count-leap, place-small, start_of_year-hebrew, year_length-hebrew}
 

@@ -8,9 +8,9 @@ use Rattle.cal_days.specs.Hebrew.{months_before, parts_before, moon_day, days_el
 use Rattle.cal_days.proofs.HebrewLemmas.{hebrew_start-next, hebrew_year_length-is}
 use Rattle.cal_types.specs.Month.{MonthParts, month_rank}
 use Rattle.cal_types.specs.declared.options.Overflow.TheVariants.{Constrain}
-use Rattle.cal_model.specs.CalendarList.{Entry, no_entry, days_of, year_length, month_count, month_at, month_length, days_before, start_of_year, HasPlace, place_of, spot, first_of_two, IsLawful}
-use Rattle.cal_model.proofs.ListLemmas.{start_of_year-unique}
-use Rattle.cal_model.proofs.MonthCases.{by_month, by_thirteen}
+use Rattle.cal_types.specs.CalendarList.{Entry, no_entry, days_of, year_length, month_count, month_at, month_length, days_before, start_of_year, HasPlace, place_of, spot, first_of_two, IsLawful}
+use Rattle.cal_types.proofs.ListLemmas.{start_of_year-unique}
+use Rattle.cal_types.proofs.MonthCases.{by_month, by_thirteen}
 use Rattle.cal_hebrew.specs.HebrewList.{hebrew_months, hebrew_list, is_hebrew_month, hebrew_stand_in}
 use Rattle.cal_hebrew.specs.HebrewPlaces.{is_leap_length, place_count, place_length, days_before_place, month_of_place}
 

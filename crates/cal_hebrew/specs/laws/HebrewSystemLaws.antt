@@ -3,8 +3,8 @@ use Rattle.std.proofs.Common.{◌≡◌, ◌↔◌, ℕ, ap, refl, arith}
 use Rattle.std.specs.Prelude.{IsTrue, nat_eq}
 use Rattle.std.proofs.lemmas.Bool.Decides.{nat_tests}
 use Rattle.cal_days.specs.Hebrew.{hebrew_year_length}
-use Rattle.cal_model.specs.CalendarList.{IsValidDate, is_valid_date}
-use Rattle.cal_model.proofs.DateTests.{and-right, is_valid_date-true}
+use Rattle.cal_types.specs.CalendarList.{IsValidDate, is_valid_date}
+use Rattle.cal_types.proofs.DateTests.{and-right, is_valid_date-true}
 use Rattle.cal_hebrew.specs.HebrewList.{hebrew_list, hebrew_years}
 use Rattle.cal_hebrew.specs.HebrewSystem.{has_hebrew_length, hebrew_date, hebrew_belongs}
 use Rattle.cal_hebrew.specs.laws.SameYears.{same_parts}

@@ -3,7 +3,7 @@ use Rattle.std.proofs.Common.{◌≡◌, ℕ, Bool, if◌then◌else◌, sym, ap
 use Rattle.std.specs.Prelude.{sum_by}
 use Rattle.cal_days.specs.Day.{IsRuleYear}
 use Rattle.cal_days.proofs.RangeLemmas.{true-is_between}
-use Rattle.cal_model.specs.CalendarList.{start_of_year, year_length, days_of}
+use Rattle.cal_types.specs.CalendarList.{start_of_year, year_length, days_of}
 use Rattle.cal_arith.specs.Given.{IsGiven}
 use Rattle.cal_base.specs.OwnYears.{IsSharedYear}
 use Rattle.cal_hijri.specs.HijriMonths.{months_of}

@@ -4,9 +4,9 @@ use Rattle.std.proofs.lemmas.Int.{by_lt_z}
 use Rattle.cal_days.specs.Day.{IsBetween, IsValidDay, IsFieldYear, IsRuleYear, IsCoveredYear}
 use Rattle.cal_days.proofs.IslamicLemmas.{mean_start-bounds}
 use Rattle.cal_days.proofs.Signed.{signed}
-use Rattle.cal_model.specs.CalendarList.{Date, month_number, year_length, start_of_year, day_number, IsDate, IsValidDate}
-use Rattle.cal_model.proofs.ListLemmas.{date-in_year, start_of_year-later}
-use Rattle.cal_model.proofs.PlainMonthLemmas.{apart-plain}
+use Rattle.cal_types.specs.CalendarList.{Date, month_number, year_length, start_of_year, day_number, IsDate, IsValidDate}
+use Rattle.cal_types.proofs.ListLemmas.{date-in_year, start_of_year-later}
+use Rattle.cal_types.proofs.PlainMonthLemmas.{apart-plain}
 use Rattle.cal_hijri.specs.HijriMonths.{IsNearMean}
 use Rattle.cal_hijri.specs.HijriList.{hijri_list, Joins, Numbered}
 use Rattle.cal_hijri.specs.laws.HijriLaws.{start-rule}

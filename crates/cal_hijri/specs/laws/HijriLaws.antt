@@ -7,7 +7,7 @@ use Rattle.cal_days.specs.Sums.{years_up}
 use Rattle.cal_days.proofs.RangeLemmas.{true-is_between}
 use Rattle.cal_days.proofs.Signed.{signed}
 use Rattle.cal_days.proofs.SumLemmas.{span-next, span-same}
-use Rattle.cal_model.specs.CalendarList.{days_of, start_of_year, year_length}
+use Rattle.cal_types.specs.CalendarList.{days_of, start_of_year, year_length}
 use Rattle.cal_hijri.specs.HijriMonths.{months_of}
 use Rattle.cal_hijri.specs.HijriList.{hijri_list, hijri_days, tabular_long, Joins}
 use Rattle.cal_hijri.specs.declared.hijri_year.HijriYear.{HijriYear}

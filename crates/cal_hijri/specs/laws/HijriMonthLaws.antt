@@ -1,10 +1,10 @@
 -- The lengths of the months of a Hijri year, and the days before each.
 use Rattle.std.proofs.Common.{◌≡◌, ℕ, zero, suc, ◌+◌, ◌-◌, ◌*◌, ◌<◌, ◌≤◌, refl, arith, pos}
 use Rattle.std.specs.Prelude.{slice_index_or}
-use Rattle.cal_model.specs.CalendarList.{CalendarList, no_entry, days_before}
-use Rattle.cal_model.specs.PlainMonths.{is_plain_month, numbered_month}
-use Rattle.cal_model.proofs.ListLemmas.{days_before-next}
-use Rattle.cal_model.proofs.MonthCases.{by_month}
+use Rattle.cal_types.specs.CalendarList.{CalendarList, no_entry, days_before}
+use Rattle.cal_types.specs.PlainMonths.{is_plain_month, numbered_month}
+use Rattle.cal_types.proofs.ListLemmas.{days_before-next}
+use Rattle.cal_types.proofs.MonthCases.{by_month}
 use Rattle.cal_hijri.specs.HijriMonths.{months_of, days_of_months, month_days, prior_days}
 
 -- each year with the same months

@@ -8,9 +8,9 @@ use Rattle.cal_types.specs.Year.{extended_year_of}
 use Rattle.cal_errors.specs.declared.errors.EcmaReferenceYearError.{EcmaReferenceYearError}
 use Rattle.cal_errors.specs.declared.errors.EcmaReferenceYearError.TheVariants.{MonthNotInCalendar, Unimplemented, UseRegularIfConstrain}
 use Rattle.cal_types.specs.declared.year.YearInfo.TheVariants.{Era}
-use Rattle.cal_model.specs.PlainMonths.{is_plain_month}
-use Rattle.cal_model.specs.YearNames.{is_code}
-use Rattle.cal_model.proofs.YearNameLemmas.{year_in_era-some, no_era-some}
+use Rattle.cal_types.specs.PlainMonths.{is_plain_month}
+use Rattle.cal_types.specs.YearNames.{is_code}
+use Rattle.cal_types.proofs.YearNameLemmas.{year_in_era-some, no_era-some}
 use Rattle.cal_hijri.specs.HijriNames.{hijri_reads, era_year_by, hijri_era_year, reference_of_rules, hijri_names, AreReferences}
 
 -- rules without reference years keep it

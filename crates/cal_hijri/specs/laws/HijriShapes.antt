@@ -1,8 +1,8 @@
 -- The months of a Hijri list.
 use Rattle.std.proofs.Common.{◌≡◌, ℕ, ◌≤◌, refl, arith, ℤ, inl}
-use Rattle.cal_model.specs.CalendarList.{days_before, month_length, year_length, IsLawful}
-use Rattle.cal_model.specs.PlainMonths.{HasPlainMonths}
-use Rattle.cal_model.proofs.PlainMonthLemmas.{plain-lawful}
+use Rattle.cal_types.specs.CalendarList.{days_before, month_length, year_length, IsLawful}
+use Rattle.cal_types.specs.PlainMonths.{HasPlainMonths}
+use Rattle.cal_types.proofs.PlainMonthLemmas.{plain-lawful}
 use Rattle.cal_hijri.specs.HijriMonths.{days_of_months, month_days, prior_days}
 use Rattle.cal_hijri.specs.laws.HijriMonthLaws.{days_of_months-within, month_at-numbered, month_days-within}
 use Rattle.cal_hijri.specs.HijriList.{hijri_list, long_months_of}

@@ -5,8 +5,8 @@ use Rattle.std.specs.Cmp.{IsEquivalence}
 use Rattle.cal_days.specs.Day.{IsRuleYear}
 use Rattle.cal_days.proofs.Signed.{signed}
 use Rattle.cal_arith.specs.Given.{IsGiven}
-use Rattle.cal_model.specs.CalendarList.{IsValidDate, is_valid_date, day_number}
-use Rattle.cal_model.proofs.DateTests.{and-left, and-right, is_valid_date-true}
+use Rattle.cal_types.specs.CalendarList.{IsValidDate, is_valid_date, day_number}
+use Rattle.cal_types.proofs.DateTests.{and-left, and-right, is_valid_date-true}
 use Rattle.cal_base.specs.laws.OwnYearLaws.{own_shared, shared_day}
 use Rattle.cal_hijri.specs.HijriList.{hijri_list, hijri_years, has_parts_of, Joins, Numbered}
 use Rattle.cal_hijri.specs.laws.HijriBounds.{years-ranged}

@@ -5,7 +5,7 @@ use Rattle.std.specs.Ordering.{int_eq}
 use Rattle.std.proofs.Props.{props}
 use Rattle.std.proofs.lemmas.Int.{ints}
 use Rattle.std.proofs.lemmas.Bool.Decides.{nat_tests}
-use Rattle.cal_model.proofs.DateTests.{and-left, and-right, true-and}
+use Rattle.cal_types.proofs.DateTests.{and-left, and-right, true-and}
 use Rattle.cal_hijri.specs.HijriMonths.{IsNearMean, month_days}
 use Rattle.cal_hijri.specs.laws.HijriMonthLaws.{long_months-once}
 use Rattle.cal_hijri.specs.MonthStarts.{HasLengthsOf}

@@ -1,10 +1,10 @@
 -- The years of an accepted table have their numbers, and join.
 use Rattle.std.proofs.Common.{int_le, List, ℤ, pos}
-use Rattle.cal_model.proofs.DateTests.{and-left}
-use Rattle.cal_rows.specs.Rows.{AreConsecutive, AreJoined}
-use Rattle.cal_rows.specs.laws.RowLaws.{consecutive}
-use Rattle.cal_rows.specs.laws.RowPlaces.{chosen-number}
-use Rattle.cal_rows.specs.laws.RowJoins.{chosen-join}
+use Rattle.cal_types.proofs.DateTests.{and-left}
+use Rattle.cal_types.specs.Rows.{AreConsecutive, AreJoined}
+use Rattle.cal_types.specs.laws.RowLaws.{consecutive}
+use Rattle.cal_types.specs.laws.RowPlaces.{chosen-number}
+use Rattle.cal_types.specs.laws.RowJoins.{chosen-join}
 use Rattle.cal_hijri.specs.HijriList.{Numbered, Joins}
 use Rattle.cal_hijri.specs.TableYears.{number_of, chosen}
 use Rattle.cal_hijri.specs.TableAccepted.{row_before, start_of, end_day, is_next, IsAccepted}

@@ -6,7 +6,7 @@ use Rattle.std.specs.Cmp.Lexicographic.{lists_equiv}
 use Rattle.std.proofs.lemmas.Cmp.{nat_eq_equiv}
 use Rattle.cal_days.specs.Day.{IsFieldYear}
 use Rattle.cal_days.proofs.Signed.{signed}
-use Rattle.cal_model.proofs.DateTests.{and-left, and-right}
+use Rattle.cal_types.proofs.DateTests.{and-left, and-right}
 use Rattle.cal_hijri.specs.HijriList.{Joins, Numbered, has_parts_of}
 use Rattle.cal_hijri.specs.HijriNames.{AreReferences}
 use Rattle.cal_hijri.specs.SameRows.{are_same_rows}

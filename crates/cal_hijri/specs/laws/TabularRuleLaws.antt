@@ -7,8 +7,8 @@ use Rattle.cal_days.specs.Day.{IsFieldYear}
 use Rattle.cal_days.proofs.Signed.{signed}
 use Rattle.cal_errors.specs.declared.errors.EcmaReferenceYearError.{EcmaReferenceYearError}
 use Rattle.cal_errors.specs.declared.errors.EcmaReferenceYearError.TheVariants.{MonthNotInCalendar, UseRegularIfConstrain}
-use Rattle.cal_model.specs.PlainMonths.{is_plain_month}
-use Rattle.cal_model.specs.YearNames.{reference_of_known}
+use Rattle.cal_types.specs.PlainMonths.{is_plain_month}
+use Rattle.cal_types.specs.YearNames.{reference_of_known}
 use Rattle.cal_hijri.specs.HijriList.{Joins, Numbered}
 use Rattle.cal_hijri.specs.HijriNames.{AreReferences}
 use Rattle.cal_hijri.specs.RuleOrder.{epoch_place, leap_years_place}

@@ -6,11 +6,11 @@ use Rattle.cal_days.specs.Division.{floor_div}
 use Rattle.cal_days.specs.Gregorian.{gregorian_start, gregorian_year_length, leap_days_through}
 use Rattle.cal_days.proofs.Signed.{signed}
 use Rattle.cal_days.proofs.GregorianLemmas.{gregorian_start-bounds, gregorian_start-next}
-use Rattle.cal_model.specs.CalendarList.{Date, days_of, no_entry, month_length, days_before, month_number, year_length, start_of_year, day_number, IsDate, IsValidDate, IsLawful}
-use Rattle.cal_model.specs.PlainMonths.{numbered_month, HasPlainMonths}
-use Rattle.cal_model.proofs.ListLemmas.{start_of_year-unique, date-in_year}
-use Rattle.cal_model.proofs.MonthCases.{by_month}
-use Rattle.cal_model.proofs.PlainMonthLemmas.{plain-lawful, apart-plain}
+use Rattle.cal_types.specs.CalendarList.{Date, days_of, no_entry, month_length, days_before, month_number, year_length, start_of_year, day_number, IsDate, IsValidDate, IsLawful}
+use Rattle.cal_types.specs.PlainMonths.{numbered_month, HasPlainMonths}
+use Rattle.cal_types.proofs.ListLemmas.{start_of_year-unique, date-in_year}
+use Rattle.cal_types.proofs.MonthCases.{by_month}
+use Rattle.cal_types.proofs.PlainMonthLemmas.{plain-lawful, apart-plain}
 use Rattle.cal_julian.specs.IndianList.{indian_leap, indian_start, indian_months, indian_month_length, indian_days_before, indian_list}
 
 months_at : (leap : Bool) (i : ℕ) → 1 ≤ i → i ≤ 12 → (slice_index_or (indian_months leap) (i - 1) no_entry).month ≡ numbered_month i

@@ -1,7 +1,7 @@
 -- What belonging to the Indian calendar says.
 use Rattle.std.specs.Prelude.{IsTrue}
-use Rattle.cal_model.specs.CalendarList.{IsValidDate}
-use Rattle.cal_model.proofs.DateTests.{is_valid_date-true}
+use Rattle.cal_types.specs.CalendarList.{IsValidDate}
+use Rattle.cal_types.proofs.DateTests.{is_valid_date-true}
 use Rattle.cal_julian.specs.IndianList.{indian_list}
 use Rattle.cal_julian.specs.IndianSystem.{indian_date, indian_belongs}
 use Rattle.cal_julian.specs.declared.indian.IndianDateInner.{IndianDateInner}

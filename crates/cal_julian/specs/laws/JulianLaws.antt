@@ -9,10 +9,10 @@ use Rattle.cal_days.proofs.JulianLemmas.{julian_start-next, julian_start-bounds}
 use Rattle.cal_types.specs.Year.{extended_year_of}
 use Rattle.cal_types.specs.declared.year.EraYear.{EraYear}
 use Rattle.cal_types.specs.declared.year.YearInfo.TheVariants.{Era}
-use Rattle.cal_model.specs.CalendarList.{Date, month_number, year_length, start_of_year, day_number, IsDate, IsValidDate, IsLawful}
-use Rattle.cal_model.specs.PlainMonths.{HasPlainMonths}
-use Rattle.cal_model.proofs.ListLemmas.{start_of_year-unique, date-in_year}
-use Rattle.cal_model.proofs.PlainMonthLemmas.{plain-lawful, apart-plain}
+use Rattle.cal_types.specs.CalendarList.{Date, month_number, year_length, start_of_year, day_number, IsDate, IsValidDate, IsLawful}
+use Rattle.cal_types.specs.PlainMonths.{HasPlainMonths}
+use Rattle.cal_types.proofs.ListLemmas.{start_of_year-unique, date-in_year}
+use Rattle.cal_types.proofs.PlainMonthLemmas.{plain-lawful, apart-plain}
 use Rattle.cal_base.specs.GregorianList.{HasGregorianMonths}
 use Rattle.cal_base.specs.laws.GregorianMonths.{gregorian-plain, year_length-gregorian}
 use Rattle.cal_julian.specs.JulianEra.{julian_era_year}

@@ -3,8 +3,8 @@ use Rattle.std.proofs.Common.{◌≡◌}
 use Rattle.std.specs.Prelude.{IsTrue}
 use Rattle.cal_types.specs.Year.{extended_year_of}
 use Rattle.cal_types.specs.declared.year.YearInfo.TheVariants.{Era}
-use Rattle.cal_model.specs.CalendarList.{Date, IsValidDate}
-use Rattle.cal_model.proofs.DateTests.{is_valid_date-true}
+use Rattle.cal_types.specs.CalendarList.{Date, IsValidDate}
+use Rattle.cal_types.proofs.DateTests.{is_valid_date-true}
 use Rattle.cal_julian.specs.JulianEra.{julian_era_year}
 use Rattle.cal_julian.specs.JulianList.{julian_list}
 use Rattle.cal_julian.specs.laws.JulianLaws.{julian_year-named}

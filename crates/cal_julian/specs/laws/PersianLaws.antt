@@ -6,11 +6,11 @@ use Rattle.cal_days.specs.Day.{IsBetween, IsValidDay, IsFieldYear, IsRuleYear, I
 use Rattle.cal_days.specs.Persian.{persian_start}
 use Rattle.cal_days.proofs.Signed.{signed}
 use Rattle.cal_days.proofs.PersianLemmas.{persian_start-bounds}
-use Rattle.cal_model.specs.CalendarList.{Date, date, days_before, month_length, month_number, year_length, start_of_year, day_number, HasPlace, IsDate, IsOn, IsValidDate, IsLawful}
-use Rattle.cal_model.specs.PlainMonths.{HasPlainMonths}
-use Rattle.cal_model.proofs.DateTests.{and-left, and-right}
-use Rattle.cal_model.proofs.ListLemmas.{start_of_year-unique, date-in_year, on-rest}
-use Rattle.cal_model.proofs.PlainMonthLemmas.{plain-lawful, apart-plain}
+use Rattle.cal_types.specs.CalendarList.{Date, date, days_before, month_length, month_number, year_length, start_of_year, day_number, HasPlace, IsDate, IsOn, IsValidDate, IsLawful}
+use Rattle.cal_types.specs.PlainMonths.{HasPlainMonths}
+use Rattle.cal_types.proofs.DateTests.{and-left, and-right}
+use Rattle.cal_types.proofs.ListLemmas.{start_of_year-unique, date-in_year, on-rest}
+use Rattle.cal_types.proofs.PlainMonthLemmas.{plain-lawful, apart-plain}
 use Rattle.cal_arith.specs.Given.{IsGiven}
 use Rattle.cal_base.specs.OwnYears.{IsSharedYear}
 use Rattle.cal_julian.specs.PersianRule.{AreCorrectable, is_persian_leap, persian_new_year}

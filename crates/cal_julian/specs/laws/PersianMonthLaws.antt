@@ -2,9 +2,9 @@
 use Rattle.std.proofs.Common.{◌≡◌, ℕ, ◌+◌, ◌-◌, ◌*◌, ◌<◌, ◌≤◌, Bool, true, false, not, if◌then◌else◌, sum_by, min, refl, arith}
 use Rattle.std.specs.Prelude.{◌&&◌, ◌==◌, slice_index_or, nat_le}
 use Rattle.std.proofs.lemmas.Bool.Decides.{nat_tests}
-use Rattle.cal_model.specs.CalendarList.{days_of, no_entry}
-use Rattle.cal_model.specs.PlainMonths.{numbered_month}
-use Rattle.cal_model.proofs.MonthCases.{by_month}
+use Rattle.cal_types.specs.CalendarList.{days_of, no_entry}
+use Rattle.cal_types.specs.PlainMonths.{numbered_month}
+use Rattle.cal_types.proofs.MonthCases.{by_month}
 use Rattle.cal_julian.specs.PersianList.{persian_months, persian_month_length, persian_days_before}
 use Rattle.cal_julian.specs.PersianMonths.{month_of_day}
 

@@ -10,7 +10,7 @@ use Rattle.cal_days.specs.Persian.{persian_leap, persian_start}
 use Rattle.cal_days.proofs.RangeLemmas.{is_between-true}
 use Rattle.cal_days.proofs.Signed.{signed, by_bool}
 use Rattle.cal_days.proofs.PersianLemmas.{persian_leap-apart, persian_start-next}
-use Rattle.cal_model.proofs.DateTests.{and-left, and-right, not_true}
+use Rattle.cal_types.proofs.DateTests.{and-left, and-right, not_true}
 use Rattle.cal_julian.specs.PersianRule.{AreCorrectable, is_correctable, is_corrected, is_persian_leap, persian_new_year}
 
 neither : (less greater : Bool) → is_eq (cond less Less (cond greater Greater Equal)) ≡ true → (less ≡ false) × (greater ≡ false)

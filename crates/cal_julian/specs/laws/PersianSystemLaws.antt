@@ -3,8 +3,8 @@ use Rattle.std.proofs.Common.{◌≡◌, List, ℤ, sym, ap, subst, ◌∙◌}
 use Rattle.std.specs.Prelude.{IsTrue}
 use Rattle.std.specs.Cmp.{int_eq_equiv}
 use Rattle.std.specs.Cmp.Lexicographic.{lists_equiv}
-use Rattle.cal_model.specs.CalendarList.{IsValidDate, day_number, is_valid_date}
-use Rattle.cal_model.proofs.DateTests.{is_valid_date-true}
+use Rattle.cal_types.specs.CalendarList.{IsValidDate, day_number, is_valid_date}
+use Rattle.cal_types.proofs.DateTests.{is_valid_date-true}
 use Rattle.cal_julian.specs.PersianCorrected.{are_corrected_alike, corrected_years}
 use Rattle.cal_julian.specs.PersianList.{persian_list}
 use Rattle.cal_julian.specs.laws.PersianLaws.{same_years}

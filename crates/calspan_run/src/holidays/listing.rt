@@ -16,11 +16,10 @@ use crate::holidays::book_lines::BookLines;
 use crate::holidays::words::HolidayWords;
 use crate::status::Status;
 use crate::writer::write_lines;
-use byte_io::{ReadAllError, Sink, Source, read_all};
+use byte_io::{LIMIT, ReadAllError, Sink, Source, read_all};
 use cal_holidays::{Book, BookError, holidays};
 use cal_tables::Tables;
 use cal_types::Window;
-use line_reader::LIMIT;
 use reply_texts::{Pending, push_all, push_number};
 use std::alloc::Global;
 

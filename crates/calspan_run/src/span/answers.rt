@@ -1,7 +1,7 @@
 //! The answer to a line behind the rows of tables.
 ghost use Rattle.std.specs.Prelude.{◌≡◌, ◌+◌, ◌≤◌, ◌++◌, ℕ, List, false, length};
 ghost use Rattle.arrayvec.specs.ArrayVec.{array_vec_len};
-ghost use Rattle.line_reader.specs.Buffer.{Holds};
+ghost use Rattle.byte_io.specs.Buffer.{Holds};
 ghost use Rattle.cal_types.specs.Bag.{bag_of};
 ghost use Rattle.cal_tables.specs.Kinds.{table_contents};
 ghost use Rattle.request_lines.specs.Lines.{is_silent as line_is_silent, line_of};
@@ -14,7 +14,7 @@ use crate::span::replies::reply;
 use crate::status::Status;
 use cal_tables::Tables;
 use cal_types::DateFields;
-use line_reader::LineBuffer;
+use byte_io::LineBuffer;
 use reply_texts::{Pending, push_about};
 use request_lines::{Line, RequestLine, is_silent, read_line};
 use table_rows::RowFault;

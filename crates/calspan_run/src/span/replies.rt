@@ -4,7 +4,7 @@ ghost use Rattle.arrayvec.specs.ArrayVec.{array_vec_len};
 ghost use Rattle.cal_types.specs.Bag.{Bag, bag_of};
 ghost use Rattle.cal_types.specs.declared.duration.DateDurationUnit.{DateDurationUnit};
 ghost use Rattle.cal_types.specs.declared.options.DateFromFieldsOptions.{DateFromFieldsOptions};
-ghost use Rattle.cal_model.specs.CalendarSystem.{CalendarSystem};
+ghost use Rattle.cal_types.specs.CalendarSystem.{CalendarSystem};
 ghost use Rattle.cal_tables.specs.Kinds.{kind_system, table_contents};
 ghost use Rattle.request_lines.specs.Requests.{request_of};
 ghost use Rattle.request_lines.specs.RequestSaid.{header_said};

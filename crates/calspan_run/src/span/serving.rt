@@ -3,7 +3,7 @@ ghost use Rattle.std.specs.Prelude.{◌≡◌, ◌+◌, ◌≤◌, ◌++◌, [],
 ghost use Rattle.arrayvec.specs.ArrayVec.{array_vec_len};
 ghost use Rattle.byte_io.specs.Faults.{HasCause};
 ghost use Rattle.cal_tables.specs.Kinds.{table_contents};
-ghost use Rattle.line_reader.specs.Buffer.{Holds};
+ghost use Rattle.byte_io.specs.Buffer.{Holds};
 ghost use Rattle.calspan_run.specs.Underway.{AnswersBehind, IsUnderway, Responded};
 ghost use Rattle.calspan_run.specs.Endings.{EndsWith};
 ghost use Rattle.calspan_run.specs.Progress.{answered_status};
@@ -15,16 +15,15 @@ ghost use Rattle.table_rows.specs.TableRows as table;
 ghost use Rattle.table_rows.specs.TableRows.{contents_of};
 ghost use Rattle.table_rows.specs.Gathering.{MetEnd, MetLast, MetRequest, with_open_line};
 ghost use Rattle.table_rows.specs.RowsSaid.{rows_said};
-ghost use Rattle.line_reader.specs.Reader.{lines_given};
+ghost use Rattle.byte_io.specs.Reader.{lines_given};
 ghost use Rattle.calspan_run.specs.TextSoFar.{TextSoFar};
 
 use crate::endings::{refuse_row, refuse_table};
 use crate::span::answers::{Answered, Progress, answer};
 use crate::status::{Status, status_of_stop};
 use crate::writer::{flush, make_room};
-use byte_io::{Failed, Sink, Source};
+use byte_io::{Failed, Filled, LineBuffer, Next, Reader, Sink, Source};
 use cal_tables::Tables;
-use line_reader::{Filled, LineBuffer, Next, Reader};
 use reply_texts::Pending;
 use std::alloc::Global;
 use table_rows::{Gathered, TableRows, gather};

@@ -6,7 +6,7 @@ use Rattle.std.specs.Cmp.{IsPartialOrder, IsEquivalence}
 use Rattle.std.proofs.Common.{arith}
 use Rattle.std.proofs.lemmas.Grind.{common_steps}
 use Rattle.std.proofs.lemmas.Bool.Decides.{nat_tests}
-use Rattle.cal_model.proofs.DateTests.{same_truth}
+use Rattle.cal_types.proofs.DateTests.{same_truth}
 
 -- calendars that are each compatible with themselves, back and on, are alike
 pub compatible-alike : {K : Type 0} (C : K → K → Bool) → ((s : K) → IsTrue (C s s))

@@ -1,7 +1,7 @@
 //! Dates of one calendar as dates of any, and dates of any calendar in another.
 
 ghost use Rattle.std.specs.Prelude.{◌≡◌, IsTrue};
-ghost use Rattle.cal_model.specs.CalendarList.{IsOn, day_number};
+ghost use Rattle.cal_types.specs.CalendarList.{IsOn, day_number};
 ghost use Rattle.cal_any.specs.AnySystem.{any_compatible, any_date, any_system};
 
 use super::Date;

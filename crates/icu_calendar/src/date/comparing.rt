@@ -3,7 +3,7 @@
 ghost use Rattle.std.specs.Prelude.{◌≡◌, ◌↔◌, ◌&&◌, if◌then◌else◌, IsTrue, Some, None};
 ghost use Rattle.std.specs.Ordering.{int_cmp};
 ghost use Rattle.std.specs.Cmp.{on_equiv, on_po, on_total, and_equiv, partial_equiv_from_equiv};
-ghost use Rattle.cal_model.specs.CalendarList.{day_number};
+ghost use Rattle.cal_types.specs.CalendarList.{day_number};
 ghost use Rattle.icu_calendar.specs.laws.Comparing.{compatible-alike, ordered_within, all_ordered, all_equal};
 
 use super::Date;

@@ -1,7 +1,7 @@
 //! Dates that were stored by one calendar, in another one.
 
 ghost use Rattle.std.specs.Prelude.{◌≡◌};
-ghost use Rattle.cal_model.specs.DateOrder.{date_eq};
+ghost use Rattle.cal_types.specs.DateOrder.{date_eq};
 ghost use Rattle.icu_calendar.specs.Rebasing.{IsRebased};
 
 use super::Date;

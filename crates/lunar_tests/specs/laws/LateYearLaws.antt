@@ -6,7 +6,7 @@ use Rattle.cal_days.specs.Islamic.{islamic_mean_start}
 use Rattle.cal_days.proofs.IslamicLemmas.{mean_start-next}
 use Rattle.cal_days.proofs.Signed.{signed}
 use Rattle.cal_days.specs.Day.{IsRuleYear}
-use Rattle.cal_model.proofs.MonthCases.{by_month}
+use Rattle.cal_types.proofs.MonthCases.{by_month}
 use Rattle.cal_hijri.specs.HijriMonths.{days_of_months, month_days}
 use Rattle.cal_hijri.specs.laws.HijriMonthLaws.{month_days-within}
 use Rattle.cal_hijri.specs.MonthStarts.{AreMonthStarts, HasLengthsOf, days_between}

@@ -2,7 +2,7 @@
 
 ghost use Rattle.std.specs.Prelude.{◌≡◌, IsTrue, pos};
 ghost use Rattle.cal_days.specs.Day.{IsBetween};
-ghost use Rattle.cal_model.specs.CalendarList.{day_number};
+ghost use Rattle.cal_types.specs.CalendarList.{day_number};
 ghost use Rattle.cal_hijri.specs.HijriRows.{years_of};
 ghost use Rattle.cal_hijri.specs.HijriSystem.{hijri_belongs, kept_date};
 ghost use Rattle.cal_hijri.specs.TableRules.{table_year, umm_al_qura_system};

@@ -2,7 +2,7 @@
 
 use crate::tests::runs::{Calls, Case, assert_answers, assert_count, assert_run, calls_of};
 use calspan_run::{Status, code};
-use line_reader::LIMIT;
+use byte_io::LIMIT;
 use reply_texts::{Pending, push_signed, push_two_digits};
 use std::test::Fail;
 

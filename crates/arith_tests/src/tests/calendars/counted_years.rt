@@ -15,8 +15,8 @@ pub(crate) struct CountedFrom {
 
 impl GregorianYears for CountedFrom {
     ghost use Rattle.std.specs.Prelude.{codes, refl, None};
-    ghost use Rattle.cal_model.specs.Eras.{only_era_reads};
-    ghost use Rattle.cal_model.proofs.EraLemmas.{only_era_reads-in_range, only_era_reads-covered};
+    ghost use Rattle.cal_types.specs.Eras.{only_era_reads};
+    ghost use Rattle.cal_types.proofs.EraLemmas.{only_era_reads-in_range, only_era_reads-covered};
     ghost use Rattle.cal_base.specs.IsoEra.{iso_era_year};
 
     ghost offset = { λ s. s.iso_year };

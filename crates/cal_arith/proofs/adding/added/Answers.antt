@@ -1,12 +1,12 @@
 use Rattle.std.proofs.Common.{◌≡◌, ℤ, pos, neg_ℤ, ◌+ℤ◌, ℕ, Option, Bool, true, Some, None, to_z, of_z, w32, ap, subst, sym, refl, ◌∙◌, arith}
 use Rattle.cal_days.specs.Day.{IsBetween, IsFieldYear, IsRuleYear, is_field_year}
-use Rattle.cal_model.specs.CalendarList.{spot, month_at, IsMonthsAfter}
-use Rattle.cal_model.specs.Adding.{is_addable}
-use Rattle.cal_model.specs.Difference.{toward}
+use Rattle.cal_types.specs.CalendarList.{spot, month_at, IsMonthsAfter}
+use Rattle.cal_types.specs.Adding.{is_addable}
+use Rattle.cal_types.specs.Difference.{toward}
 use Rattle.std.proofs.lemmas.Bool.Decides.{nat_tests}
 use Rattle.cal_days.proofs.Signed.{signed}
 use Rattle.cal_days.proofs.RangeLemmas.{is_between-true}
-use Rattle.cal_model.proofs.ListLemmas.{spot-place}
+use Rattle.cal_types.proofs.ListLemmas.{spot-place}
 use Rattle.cal_arith.specs.Given.{IsGiven}
 use Rattle.cal_arith.specs.Directions.{is_backward}
 use Rattle.cal_arith.proofs.GivenLemmas.{given_by}

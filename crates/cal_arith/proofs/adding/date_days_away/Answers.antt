@@ -1,9 +1,9 @@
 use Rattle.std.proofs.Common.{pos, neg_ℤ, ℤ, ◌+ℤ◌, ◌≡◌, subst, sym, ap, ◌∙◌, arith}
 use Rattle.cal_days.specs.Day.{IsBetween}
 use Rattle.cal_days.proofs.Signed.{signed}
-use Rattle.cal_model.specs.CalendarList.{date, day_number}
-use Rattle.cal_model.specs.Adding.{IsValidOn}
-use Rattle.cal_model.specs.Difference.{toward}
+use Rattle.cal_types.specs.CalendarList.{date, day_number}
+use Rattle.cal_types.specs.Adding.{IsValidOn}
+use Rattle.cal_types.specs.Difference.{toward}
 use Rattle.cal_arith.specs.Dates.{date_of, answer_of}
 use Rattle.cal_arith.specs.Directions.{is_backward}
 use Rattle.cal_arith.proofs.adding.date_days_away.Goals as goal

@@ -1,6 +1,6 @@
 use Rattle.std.proofs.Common.{◌≡◌, ℕ, ℤ, pos, neg_ℤ, ◌≤◌, ◌+ℤ◌, Bool, true, false, to_z, of_z, w32, ap, sym, ◌∙◌, arith}
 use Rattle.cal_days.specs.Day.{IsBetween, IsFieldYear, is_field_year}
-use Rattle.cal_model.specs.Difference.{toward}
+use Rattle.cal_types.specs.Difference.{toward}
 use Rattle.cal_days.proofs.Signed.{signed}
 use Rattle.cal_arith.specs.Directions.{is_backward}
 use Rattle.cal_arith.proofs.adding.field_year.Goals.{After-moved_year-number}

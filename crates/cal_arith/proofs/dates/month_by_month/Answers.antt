@@ -1,7 +1,7 @@
 use Rattle.std.proofs.Common.{◌≡◌, ◌+◌, ◌-◌, pos, ◌+ℤ◌, arith}
-use Rattle.cal_model.specs.CalendarList.{days_before, start_of_year, HasPlace}
+use Rattle.cal_types.specs.CalendarList.{days_before, start_of_year, HasPlace}
 use Rattle.cal_days.proofs.Signed.{signed}
-use Rattle.cal_model.proofs.ListLemmas.{first-place, days_before-first, place-next, on-rest}
+use Rattle.cal_types.proofs.ListLemmas.{first-place, days_before-first, place-next, on-rest}
 use Rattle.cal_arith.proofs.dates.month_by_month.Given.{Over}
 use Rattle.cal_arith.proofs.dates.month_by_month.Goals.{In-months}
 use Rattle.cal_arith.proofs.dates.month_by_month.Goals as goal

@@ -1,5 +1,5 @@
 use Rattle.std.proofs.Common.{◌≡◌, ◌+◌, ◌-◌}
-use Rattle.cal_model.specs.CalendarList.{HasPlace, days_before, month_length}
+use Rattle.cal_types.specs.CalendarList.{HasPlace, days_before, month_length}
 use Rattle.cal_arith.proofs.dates.month_by_month.Given as goal
 
 -- the rest of the days counts from the first of the month

@@ -1,11 +1,11 @@
 use Rattle.std.proofs.Common.{◌≡◌, ℕ, ℤ, Bool, ◌-◌, ◌*◌, ◌↔◌, ◌+ℤ◌, ◌<ℤ◌, min, IsTrue, ap, subst, sym, ◌∙◌, arith}
 use Rattle.cal_days.specs.Day.{IsFieldYear, IsValidDay}
-use Rattle.cal_model.specs.CalendarList.{date, day_number, IsValidDate}
-use Rattle.cal_model.specs.WithinYear.{Leads}
-use Rattle.cal_model.specs.Difference.{toward, IsBeyondDay, IsDifference, admits_weeks}
-use Rattle.cal_model.proofs.AddingLemmas.{difference-added_back}
-use Rattle.cal_model.proofs.DifferenceLemmas.{base, IsBaseNear, base-within, base-near, days-left, left-small, leads-of}
-use Rattle.cal_model.proofs.DifferenceLaws.{IsLeft}
+use Rattle.cal_types.specs.CalendarList.{date, day_number, IsValidDate}
+use Rattle.cal_types.specs.WithinYear.{Leads}
+use Rattle.cal_types.specs.Difference.{toward, IsBeyondDay, IsDifference, admits_weeks}
+use Rattle.cal_types.proofs.AddingLemmas.{difference-added_back}
+use Rattle.cal_types.proofs.DifferenceLemmas.{base, IsBaseNear, base-within, base-near, days-left, left-small, leads-of}
+use Rattle.cal_types.proofs.DifferenceLaws.{IsLeft}
 use Rattle.cal_arith.specs.Dates.{date_of}
 use Rattle.cal_arith.specs.Directions.{is_backward}
 use Rattle.cal_arith.proofs.DifferenceSteps.{difference-parts, weeks-fit, ticks-most}

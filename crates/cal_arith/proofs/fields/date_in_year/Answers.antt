@@ -1,5 +1,5 @@
 use Rattle.std.proofs.Common.{sym}
-use Rattle.cal_model.proofs.ResolvingLemmas.{place_in_year-ok}
+use Rattle.cal_types.proofs.ResolvingLemmas.{place_in_year-ok}
 use Rattle.cal_arith.specs.FieldNames.{month_name}
 use Rattle.cal_arith.proofs.fields.date_in_year.Goals as goal
 

@@ -1,6 +1,6 @@
 use Rattle.std.proofs.Common.{◌≡◌, ◌+◌, ◌<◌, ◌≤◌, ◌+ℤ◌, arith}
 use Rattle.cal_days.proofs.Signed.{signed_casts}
-use Rattle.cal_model.specs.CalendarList.{start_of_year, day_number}
+use Rattle.cal_types.specs.CalendarList.{start_of_year, day_number}
 use Rattle.cal_arith.specs.Dates.{date_of}
 use Rattle.cal_arith.proofs.YearLemmas.{days-since_first}
 use Rattle.cal_arith.proofs.getters.day_in_year.Given.{Over}

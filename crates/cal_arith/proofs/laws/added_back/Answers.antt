@@ -4,10 +4,10 @@ use Rattle.cal_days.specs.Day.{IsFieldYear}
 use Rattle.cal_days.proofs.Signed.{signed}
 use Rattle.cal_errors.specs.declared.errors.DateAddError.{DateAddError}
 use Rattle.cal_types.specs.declared.options.Overflow.TheVariants.{Constrain}
-use Rattle.cal_model.specs.CalendarList.{Date, IsValidDate}
-use Rattle.cal_model.specs.Difference.{largest_unit_of}
-use Rattle.cal_model.proofs.AddingLemmas.{difference-added_back}
-use Rattle.cal_model.proofs.SumLaws.{sum-unique}
+use Rattle.cal_types.specs.CalendarList.{Date, IsValidDate}
+use Rattle.cal_types.specs.Difference.{largest_unit_of}
+use Rattle.cal_types.proofs.AddingLemmas.{difference-added_back}
+use Rattle.cal_types.proofs.SumLaws.{sum-unique}
 use Rattle.cal_arith.specs.Given.{CalendarYears, IsGiven}
 use Rattle.cal_arith.specs.Dates.{answer_by, date_of, ymd, Belongs}
 use Rattle.cal_arith.specs.declared.dates.Ymd.{Ymd}

@@ -1,7 +1,7 @@
 use Rattle.std.proofs.Common.{◌≡◌, ℤ, pos, ◌+ℤ◌, subst, arith}
 use Rattle.cal_days.specs.Day.{IsFieldYear}
 use Rattle.cal_days.proofs.Signed.{signed}
-use Rattle.cal_model.proofs.AddingLemmas.{difference-added_back}
+use Rattle.cal_types.proofs.AddingLemmas.{difference-added_back}
 use Rattle.cal_arith.proofs.laws.difference_added_back.Goals as goal
 
 -- a year shifted by nothing

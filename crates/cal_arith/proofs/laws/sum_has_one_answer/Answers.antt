@@ -1,4 +1,4 @@
-use Rattle.cal_model.proofs.SumLaws.{sum-unique}
+use Rattle.cal_types.proofs.SumLaws.{sum-unique}
 use Rattle.cal_arith.proofs.laws.sum_has_one_answer.Goals as goal
 
 pub returns : goal.returns

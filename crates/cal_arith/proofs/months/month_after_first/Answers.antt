@@ -1,6 +1,6 @@
 use Rattle.std.proofs.Common.{◌+◌, arith}
 use Rattle.cal_days.proofs.Signed.{signed}
-use Rattle.cal_model.proofs.ListLemmas.{month_number-place}
+use Rattle.cal_types.proofs.ListLemmas.{month_number-place}
 use Rattle.cal_arith.proofs.months.month_after_first.Goals as goal
 
 pub returns-clause-moved : goal.returns-clause-moved

@@ -1,5 +1,5 @@
 use Rattle.std.proofs.Common.{◌≡◌, pos, ◌+ℤ◌, ◌*ℤ◌, ◌≤ℤ◌}
-use Rattle.cal_model.specs.CalendarList.{month_count, month_number}
+use Rattle.cal_types.specs.CalendarList.{month_count, month_number}
 use Rattle.cal_arith.specs.Given.{IsGiven}
 use Rattle.cal_arith.proofs.months.month_after_first.Given as goal
 

@@ -1,6 +1,6 @@
 use Rattle.std.proofs.Common.{◌≡◌, ◌≤◌, ◌+◌, ◌*◌, ◌/◌, pos, ◌-ℤ◌, ◌≤ℤ◌, arith}
 use Rattle.cal_days.proofs.Signed.{signed, signed_casts}
-use Rattle.cal_model.proofs.ListLemmas.{month_number-place}
+use Rattle.cal_types.proofs.ListLemmas.{month_number-place}
 use Rattle.cal_arith.specs.Given.{IsGiven}
 use Rattle.cal_arith.proofs.GivenLemmas.{given_by}
 use Rattle.cal_arith.proofs.MonthSteps.{months-between}

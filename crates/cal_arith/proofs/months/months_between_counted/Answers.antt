@@ -1,8 +1,8 @@
 use Rattle.std.proofs.Common.{◌≡◌, ◌∙◌, ℤ, pos, ◌+◌, ◌+ℤ◌, ◌<ℤ◌, ◌≤ℤ◌, to_z, of_z, w32, refl, ap, subst, sym, arith}
 use Rattle.cal_days.specs.Day.{IsRuleYear}
 use Rattle.cal_days.proofs.Signed.{signed}
-use Rattle.cal_model.specs.CalendarList.{month_count, month_number}
-use Rattle.cal_model.proofs.ListLemmas.{month_number-next}
+use Rattle.cal_types.specs.CalendarList.{month_count, month_number}
+use Rattle.cal_types.proofs.ListLemmas.{month_number-next}
 use Rattle.cal_arith.proofs.GivenLemmas.{given_by}
 use Rattle.cal_arith.proofs.MonthSteps.{months-between}
 use Rattle.cal_arith.proofs.WordLemmas.{word, next_word, between, from_to, after-low, after-high, before-next, none_more, none_ticked, not_below, summed, summed-next, ticked, unticked, fewer}

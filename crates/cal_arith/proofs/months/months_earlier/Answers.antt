@@ -1,7 +1,7 @@
 use Rattle.std.proofs.Common.{◌≡◌, ◌-◌, ℤ, pos, ◌+ℤ◌, ◌-ℤ◌, ap, arith}
-use Rattle.cal_model.specs.CalendarList.{month_count, month_number}
+use Rattle.cal_types.specs.CalendarList.{month_count, month_number}
 use Rattle.cal_days.proofs.Signed.{signed}
-use Rattle.cal_model.proofs.ListLemmas.{month_number-place, month_number-next}
+use Rattle.cal_types.proofs.ListLemmas.{month_number-place, month_number-next}
 use Rattle.cal_arith.specs.Given.{IsGiven}
 use Rattle.cal_arith.proofs.GivenLemmas.{given_by}
 use Rattle.cal_arith.proofs.months.months_earlier.Given.{Over}

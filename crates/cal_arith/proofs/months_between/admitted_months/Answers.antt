@@ -1,8 +1,8 @@
 use Rattle.std.proofs.Common.{sym}
 use Rattle.cal_types.specs.declared.options.Overflow.TheVariants.{Constrain}
-use Rattle.cal_model.specs.CalendarList.{month_at, month_number}
-use Rattle.cal_model.proofs.ListLemmas.{spot-place}
-use Rattle.cal_model.proofs.DifferenceLemmas.{months_surpass-none, toward-zero}
+use Rattle.cal_types.specs.CalendarList.{month_at, month_number}
+use Rattle.cal_types.proofs.ListLemmas.{spot-place}
+use Rattle.cal_types.proofs.DifferenceLemmas.{months_surpass-none, toward-zero}
 use Rattle.cal_arith.specs.Dates.{date_of}
 use Rattle.cal_arith.specs.Directions.{is_backward}
 use Rattle.cal_arith.proofs.DifferenceSteps.{reaches-months}

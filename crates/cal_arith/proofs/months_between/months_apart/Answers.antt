@@ -1,8 +1,8 @@
 use Rattle.std.proofs.Common.{◌≡◌, pos, ◌+◌, ◌+ℤ◌, ◌≤ℤ◌, inl, arith}
 use Rattle.std.proofs.lemmas.Int.{by_lt_z}
-use Rattle.cal_model.specs.CalendarList.{month_number}
+use Rattle.cal_types.specs.CalendarList.{month_number}
 use Rattle.cal_days.proofs.Signed.{signed}
-use Rattle.cal_model.proofs.ListLemmas.{month_number-place, month_number-order}
+use Rattle.cal_types.proofs.ListLemmas.{month_number-place, month_number-order}
 use Rattle.cal_arith.proofs.MonthSteps.{months-between}
 use Rattle.cal_arith.proofs.months_between.months_apart.Given.{Over}
 use Rattle.cal_arith.proofs.months_between.months_apart.Goals.{Start, After-months_between_counted-between}

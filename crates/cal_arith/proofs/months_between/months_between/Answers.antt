@@ -1,10 +1,10 @@
 use Rattle.std.proofs.Common.{◌≡◌, ℕ, ℤ, ◌-◌, ◌≤◌, ◌+ℤ◌, Some, Bool, true, false, ap, subst, ◌∙◌, arith}
 use Rattle.cal_types.specs.declared.options.Overflow.TheVariants.{Constrain}
-use Rattle.cal_model.specs.CalendarList.{spot, month_at, month_number, HasPlace}
-use Rattle.cal_model.specs.Difference.{toward}
+use Rattle.cal_types.specs.CalendarList.{spot, month_at, month_number, HasPlace}
+use Rattle.cal_types.specs.Difference.{toward}
 use Rattle.cal_days.proofs.Signed.{signed, by_lt}
-use Rattle.cal_model.proofs.ListLemmas.{spot-place, month_number-injective}
-use Rattle.cal_model.proofs.DifferenceLemmas.{within-order, greatest-months, greatest-months_less, past_day-beyond}
+use Rattle.cal_types.proofs.ListLemmas.{spot-place, month_number-injective}
+use Rattle.cal_types.proofs.DifferenceLemmas.{within-order, greatest-months, greatest-months_less, past_day-beyond}
 use Rattle.cal_arith.specs.Dates.{date_of}
 use Rattle.cal_arith.specs.Directions.{is_backward}
 use Rattle.cal_arith.proofs.WordLemmas.{one_answer}

@@ -1,6 +1,6 @@
 use Rattle.std.proofs.Common.{◌≡◌, pos, ◌+ℤ◌, arith}
 use Rattle.cal_days.proofs.Signed.{signed}
-use Rattle.cal_model.proofs.ListLemmas.{first-place}
+use Rattle.cal_types.proofs.ListLemmas.{first-place}
 use Rattle.cal_arith.specs.Given.{IsGiven}
 use Rattle.cal_arith.proofs.GivenLemmas.{given_by}
 use Rattle.cal_arith.proofs.DifferenceSteps.{month_number-next_place, month_number-year_end}

@@ -1,5 +1,5 @@
 use Rattle.std.proofs.Common.{◌≡◌, pos, ◌-◌, ◌+◌, ◌-ℤ◌, ap, sym, ◌∙◌, arith}
-use Rattle.cal_model.specs.CalendarList.{month_number}
+use Rattle.cal_types.specs.CalendarList.{month_number}
 use Rattle.cal_days.proofs.Signed.{signed}
 use Rattle.cal_arith.specs.Given.{IsGiven}
 use Rattle.cal_arith.proofs.GivenLemmas.{given_by}

@@ -1,4 +1,4 @@
-use Rattle.cal_model.specs.CalendarList.{date, IsDate}
+use Rattle.cal_types.specs.CalendarList.{date, IsDate}
 use Rattle.cal_arith.proofs.FieldLemmas.{up_to-true}
 use Rattle.cal_arith.proofs.placing.placed_day.Goals as goal
 

@@ -2,8 +2,8 @@ use Rattle.std.proofs.Common.{◌≡◌, ℕ, ℤ, Option, Result, Ok, Err, to_z
 use Rattle.cal_days.proofs.Signed.{signed}
 use Rattle.cal_errors.specs.RangeParts.{RangeParts, DateFault, date_fault}
 use Rattle.cal_errors.specs.declared.errors.DateError.{DateError}
-use Rattle.cal_model.specs.CalendarList.{CalendarList, Date}
-use Rattle.cal_model.specs.Placing.{date_or_fault, placed_in_era, placed_in_year}
+use Rattle.cal_types.specs.CalendarList.{CalendarList, Date}
+use Rattle.cal_types.specs.Placing.{date_or_fault, placed_in_era, placed_in_year}
 use Rattle.cal_arith.specs.FieldNames.{era_read}
 use Rattle.cal_arith.proofs.FieldLemmas.{era_read-ok}
 use Rattle.cal_arith.proofs.placing.placed_in_era.Goals as goal

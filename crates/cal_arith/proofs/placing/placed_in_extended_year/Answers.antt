@@ -1,7 +1,7 @@
 use Rattle.std.proofs.Common.{◌≡◌, ℤ, to_z, of_z, w32, ap, ◌∙◌, arith}
 use Rattle.cal_days.specs.Day.{IsRuleYear}
 use Rattle.cal_days.proofs.Signed.{signed}
-use Rattle.cal_model.specs.Placing.{placed_in_year}
+use Rattle.cal_types.specs.Placing.{placed_in_year}
 use Rattle.cal_arith.proofs.GivenLemmas.{given_by}
 use Rattle.cal_arith.proofs.placing.placed_in_extended_year.Goals as goal
 

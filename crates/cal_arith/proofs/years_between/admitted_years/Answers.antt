@@ -1,5 +1,5 @@
-use Rattle.cal_model.specs.Difference.{YearsSurpass}
-use Rattle.cal_model.proofs.DifferenceLemmas.{years_surpass-none, greatest_if-years}
+use Rattle.cal_types.specs.Difference.{YearsSurpass}
+use Rattle.cal_types.proofs.DifferenceLemmas.{years_surpass-none, greatest_if-years}
 use Rattle.cal_arith.specs.Dates.{date_of}
 use Rattle.cal_arith.specs.Directions.{is_backward}
 use Rattle.cal_arith.proofs.years_between.admitted_years.Goals as goal

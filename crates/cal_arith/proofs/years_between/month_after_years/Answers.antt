@@ -1,8 +1,8 @@
 use Rattle.std.proofs.Common.{◌≡◌, ℤ, ◌+ℤ◌, to_z, of_z, w32, ap, sym, ◌∙◌, subst}
 use Rattle.cal_days.specs.Day.{IsFieldYear, IsRuleYear}
-use Rattle.cal_model.specs.Difference.{toward}
+use Rattle.cal_types.specs.Difference.{toward}
 use Rattle.cal_arith.specs.Given.{IsGiven}
-use Rattle.cal_model.proofs.DifferenceLemmas.{years-between}
+use Rattle.cal_types.proofs.DifferenceLemmas.{years-between}
 use Rattle.cal_arith.specs.Dates.{date_of}
 use Rattle.cal_arith.specs.Directions.{is_backward}
 use Rattle.cal_arith.proofs.GivenLemmas.{given_by}

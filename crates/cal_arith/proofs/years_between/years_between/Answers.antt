@@ -1,8 +1,8 @@
 use Rattle.std.proofs.Common.{◌≡◌, ℕ, ◌≤◌, ◌-ℤ◌, ◌+ℤ◌, unsigned_abs, to_z, of_z, w32, ap, subst, sym, ◌∙◌, arith}
-use Rattle.cal_model.specs.Difference.{toward}
-use Rattle.cal_model.specs.WithinYear.{SurpassesInYear}
+use Rattle.cal_types.specs.Difference.{toward}
+use Rattle.cal_types.specs.WithinYear.{SurpassesInYear}
 use Rattle.cal_days.proofs.Signed.{signed, by_lt}
-use Rattle.cal_model.proofs.DifferenceLemmas.{leads-years, greatest-years, greatest-years_less, years-one_year}
+use Rattle.cal_types.proofs.DifferenceLemmas.{leads-years, greatest-years, greatest-years_less, years-one_year}
 use Rattle.cal_arith.specs.Dates.{date_of}
 use Rattle.cal_arith.specs.Directions.{is_backward}
 use Rattle.cal_arith.proofs.WordLemmas.{one_answer}

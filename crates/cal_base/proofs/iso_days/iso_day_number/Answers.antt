@@ -3,7 +3,7 @@ use Rattle.std.specs.Prelude.{nat_le}
 use Rattle.cal_days.specs.Gregorian.{gregorian_leap, first_of_march}
 use Rattle.cal_days.proofs.Signed.{signed}
 use Rattle.cal_days.proofs.GregorianLemmas.{gregorian_start-bounds}
-use Rattle.cal_model.proofs.PlainMonthLemmas.{plain-place}
+use Rattle.cal_types.proofs.PlainMonthLemmas.{plain-place}
 use Rattle.cal_base.specs.GregorianList.{gregorian_list}
 use Rattle.cal_base.specs.laws.GregorianLaws.{gregorian_list-months, gregorian_list-plain, start_of_year-gregorian}
 use Rattle.cal_base.specs.laws.MarchMonths.{day_number-in_march_year}

@@ -1,7 +1,7 @@
 use Rattle.std.proofs.Common.{◌≡◌, ◌<◌, ℤ, pos, ◌+ℤ◌, subst, to_z, of_z, w32, arith}
 use Rattle.cal_days.proofs.Signed.{signed}
 use Rattle.cal_days.proofs.CopticLemmas.{coptic_start-next}
-use Rattle.cal_model.specs.CalendarList.{date, start_of_year, year_length, IsOn}
+use Rattle.cal_types.specs.CalendarList.{date, start_of_year, year_length, IsOn}
 use Rattle.cal_coptic.specs.CopticList.{coptic_list}
 use Rattle.cal_coptic.specs.laws.CopticLaws.{day_found, start_of_year-coptic, year_length-coptic}
 use Rattle.cal_coptic.proofs.coptic_year.coptic_date.Goals as goal

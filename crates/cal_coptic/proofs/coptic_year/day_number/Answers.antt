@@ -3,8 +3,8 @@ use Rattle.cal_days.specs.Day.{IsShiftedYear}
 use Rattle.cal_days.specs.Coptic.{coptic_start}
 use Rattle.cal_days.proofs.Signed.{signed}
 use Rattle.cal_days.proofs.CopticLemmas.{coptic_start-bounds}
-use Rattle.cal_model.specs.CalendarList.{date, IsDate}
-use Rattle.cal_model.proofs.PlainMonthLemmas.{plain-place}
+use Rattle.cal_types.specs.CalendarList.{date, IsDate}
+use Rattle.cal_types.proofs.PlainMonthLemmas.{plain-place}
 use Rattle.cal_coptic.specs.CopticList.{coptic_list}
 use Rattle.cal_coptic.specs.laws.CopticLaws.{coptic_list-plain, days_before-coptic, start_of_year-coptic}
 use Rattle.cal_coptic.proofs.coptic_year.day_number.Goals as goal

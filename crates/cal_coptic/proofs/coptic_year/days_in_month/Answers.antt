@@ -1,6 +1,6 @@
 use Rattle.std.proofs.Common.{◌≡◌, ◌∙◌, ℕ, Bool, ℤ, if◌then◌else◌, refl, sym, ap, arith}
 use Rattle.cal_days.specs.Coptic.{coptic_leap}
-use Rattle.cal_model.specs.CalendarList.{month_length}
+use Rattle.cal_types.specs.CalendarList.{month_length}
 use Rattle.cal_base.specs.laws.GregorianMonths.{leap_is}
 use Rattle.cal_coptic.specs.CopticList.{coptic_month_length, coptic_list}
 use Rattle.cal_coptic.specs.laws.CopticLaws.{month_length-coptic, coptic_month_length-twelve}

@@ -1,8 +1,8 @@
 use Rattle.std.proofs.Common.{◌≡◌, ◌∙◌, ℕ, ◌<◌, ◌≤◌, ⊎_elim, refl, sym, arith, length, List, slice_get, None}
 use Rattle.std.proofs.lemmas.List.{length-map}
 use Rattle.std.proofs.lemmas.Option.{slice_get_within, slice_get_cases}
-use Rattle.cal_rows.specs.laws.FaultLaws.{fault_refuses}
-use Rattle.cal_rows.specs.laws.RowLaws.{rows_before_next}
+use Rattle.cal_types.specs.laws.FaultLaws.{fault_refuses}
+use Rattle.cal_types.specs.laws.RowLaws.{rows_before_next}
 use Rattle.cal_east_asian.specs.EastAsianRows.{row_year, years_of}
 use Rattle.cal_east_asian.specs.TableYears.{IsRow}
 use Rattle.cal_east_asian.specs.TableAccepted.{IsTableYear, meets, MeetsAll}

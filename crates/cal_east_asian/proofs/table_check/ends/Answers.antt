@@ -1,6 +1,6 @@
 use Rattle.std.proofs.Common.{◌∙◌, ap, arith}
 use Rattle.cal_days.proofs.Signed.{signed}
-use Rattle.cal_rows.specs.laws.YearArguments.{IsAsked, year_after}
+use Rattle.cal_types.specs.laws.YearArguments.{IsAsked, year_after}
 use Rattle.cal_east_asian.specs.laws.ComputedLaws.{computed_year}
 use Rattle.cal_east_asian.specs.TableAccepted.{follows}
 use Rattle.cal_east_asian.proofs.table_check.ends.Goals as goal

@@ -1,6 +1,6 @@
 use Rattle.std.proofs.Common.{◌≡◌, ◌∙◌, refl, arith, ℤ, pos, ◌-ℤ◌, ◌||◌}
 use Rattle.cal_days.proofs.Signed.{signed}
-use Rattle.cal_rows.specs.laws.YearArguments.{IsAsked, year_same, year_before}
+use Rattle.cal_types.specs.laws.YearArguments.{IsAsked, year_same, year_before}
 use Rattle.cal_east_asian.specs.laws.ComputedLaws.{computed_year}
 use Rattle.cal_east_asian.specs.EastAsianYears.{has_leap_month}
 use Rattle.cal_east_asian.specs.TableYears as table

@@ -1,6 +1,6 @@
 use Rattle.std.proofs.Common.{◌∙◌, ap, arith}
 use Rattle.cal_days.proofs.Signed.{signed}
-use Rattle.cal_rows.specs.laws.YearArguments.{IsAsked, year_before}
+use Rattle.cal_types.specs.laws.YearArguments.{IsAsked, year_before}
 use Rattle.cal_east_asian.specs.laws.ComputedLaws.{computed_year}
 use Rattle.cal_east_asian.specs.TableAccepted.{follows}
 use Rattle.cal_east_asian.specs.declared.east_asian_traditional_year.EastAsianTraditionalYear.{EastAsianTraditionalYear}

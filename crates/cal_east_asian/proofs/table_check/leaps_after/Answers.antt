@@ -1,6 +1,6 @@
 use Rattle.std.proofs.Common.{◌≡◌, ◌∙◌, sym, arith, pos, ◌+ℤ◌, Bool, true, false, ◌&&◌}
 use Rattle.cal_days.proofs.Signed.{signed}
-use Rattle.cal_rows.specs.laws.YearArguments.{IsAsked, year_after}
+use Rattle.cal_types.specs.laws.YearArguments.{IsAsked, year_after}
 use Rattle.cal_east_asian.specs.laws.ComputedLaws.{computed_year}
 use Rattle.cal_east_asian.specs.TableAccepted.{leap_by_years}
 use Rattle.cal_east_asian.specs.TableYears as table

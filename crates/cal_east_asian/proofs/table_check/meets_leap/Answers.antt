@@ -1,6 +1,6 @@
 use Rattle.std.proofs.Common.{◌≡◌, ◌∙◌, sym, arith, Bool, true, false, ◌&&◌, ◌||◌, ◌+◌, nat_lt, length}
 use Rattle.cal_days.proofs.Signed.{signed}
-use Rattle.cal_rows.specs.laws.YearArguments.{IsAsked, year_same}
+use Rattle.cal_types.specs.laws.YearArguments.{IsAsked, year_same}
 use Rattle.cal_east_asian.specs.laws.ComputedLaws.{computed_year}
 use Rattle.cal_east_asian.specs.TableAccepted.{leap_by_years, leaps_after}
 use Rattle.cal_east_asian.specs.TableYears as table

@@ -4,7 +4,7 @@ use Rattle.cal_days.specs.Day.{IsFieldYear}
 use Rattle.cal_days.proofs.Signed.{signed}
 use Rattle.cal_types.specs.declared.year.EraYear.{EraYear}
 use Rattle.cal_types.specs.declared.year.YearAmbiguity.TheVariants.{CenturyRequired}
-use Rattle.cal_model.specs.YearNames.{is_code}
+use Rattle.cal_types.specs.YearNames.{is_code}
 use Rattle.cal_gregory.specs.CommonEra.{common_era_year}
 use Rattle.cal_gregory.specs.JapaneseEraList.{IsStartYear, ListedEra, number_in_era, is_early_meiji}
 use Rattle.cal_gregory.proofs.japanese.year_in_era.Goals as goal

@@ -1,7 +1,7 @@
 use Rattle.std.proofs.Common.{◌≡◌, ◌∙◌, ℕ, ◌<◌, ◌≤◌, ⊎_elim, refl, sym, arith, length, List, slice_get, None}
 use Rattle.std.proofs.lemmas.List.{length-map}
 use Rattle.std.proofs.lemmas.Option.{slice_get_within, slice_get_cases}
-use Rattle.cal_rows.specs.laws.RowLaws.{rows_before_next}
+use Rattle.cal_types.specs.laws.RowLaws.{rows_before_next}
 use Rattle.cal_hijri.specs.HijriRows.{row_year, years_of}
 use Rattle.cal_hijri.specs.TableAccepted.{IsRow, IsTableYear, MeetsAll}
 use Rattle.cal_hijri.specs.TableFriday.{friday_year}

@@ -1,6 +1,6 @@
 use Rattle.std.proofs.Common.{◌∙◌, ap, arith}
 use Rattle.cal_days.proofs.Signed.{signed}
-use Rattle.cal_rows.specs.laws.YearArguments.{IsAsked, year_after}
+use Rattle.cal_types.specs.laws.YearArguments.{IsAsked, year_after}
 use Rattle.cal_hijri.specs.TableAccepted.{follows}
 use Rattle.cal_hijri.specs.TableFriday.{friday_year}
 use Rattle.cal_hijri.proofs.hijri_table.ends.Goals as goal

@@ -1,6 +1,6 @@
 use Rattle.std.proofs.Common.{◌≡◌, ◌∙◌, sym, pos, ◌+ℤ◌, ◌-ℤ◌, nat_abs, FitsSigned, rules, to_z, of_z, w32, w64, arith}
 use Rattle.cal_days.proofs.Signed.{signed_casts}
-use Rattle.cal_rows.specs.laws.RowPlaces.{row_of-within}
+use Rattle.cal_types.specs.laws.RowPlaces.{row_of-within}
 use Rattle.cal_hijri.specs.HijriRows.{years_of}
 use Rattle.cal_hijri.specs.TableYears.{number_of}
 use Rattle.cal_hijri.proofs.hijri_table.row_of.Goals as goal

@@ -1,4 +1,4 @@
-use Rattle.cal_model.specs.Anniversary.{is_anniversary}
+use Rattle.cal_types.specs.Anniversary.{is_anniversary}
 use Rattle.cal_types.specs.MonthParts.{month_parts}
 use Rattle.cal_anniversary.specs.Listing.{days_left}
 use Rattle.cal_holidays.proofs.WindowLemmas.{first-given}

@@ -3,7 +3,7 @@ use Rattle.std.specs.Prelude.{nat_le}
 use Rattle.cal_days.specs.Julian.{julian_leap, julian_first_of_march}
 use Rattle.cal_days.proofs.Signed.{signed}
 use Rattle.cal_days.proofs.JulianLemmas.{julian_start-bounds}
-use Rattle.cal_model.proofs.PlainMonthLemmas.{plain-place}
+use Rattle.cal_types.proofs.PlainMonthLemmas.{plain-place}
 use Rattle.cal_julian.specs.JulianList.{julian_list}
 use Rattle.cal_julian.specs.laws.JulianLaws.{julian_list-months, julian_list-plain, start_of_year-julian}
 use Rattle.cal_base.specs.laws.MarchMonths.{day_number-in_march_year}

@@ -1,8 +1,8 @@
 use Rattle.std.proofs.Common.{◌≡◌, Bool, true, false, ℕ, suc, ◌+◌, ◌<◌, Option, Some, ℤ, pos, FitsSigned, to_z, of_z, w32, rules, refl, sym, ap, subst, ◌∙◌, arith, length, get_or}
 use Rattle.cal_days.proofs.Signed.{signed}
 use Rattle.std.proofs.lemmas.Option.{slice_get-get_or, slice_get_within}
-use Rattle.cal_rows.specs.laws.FaultLaws.{fault_refuses}
-use Rattle.cal_rows.specs.laws.RowLaws.{row_before-next, rows_before_next}
+use Rattle.cal_types.specs.laws.FaultLaws.{fault_refuses}
+use Rattle.cal_types.specs.laws.RowLaws.{row_before-next, rows_before_next}
 use Rattle.cal_julian.specs.PersianAccepted.{IsListed, MeetsAll, meets_at, year_before}
 use Rattle.cal_julian.proofs.persian_corrections.check.Goals as goal
 

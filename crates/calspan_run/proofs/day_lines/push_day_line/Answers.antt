@@ -1,5 +1,5 @@
 use Rattle.std.proofs.Common.{ℤ, subst}
-use Rattle.cal_model.specs.CalendarList.{IsOn}
+use Rattle.cal_types.specs.CalendarList.{IsOn}
 use Rattle.cal_tables.specs.Kinds.{kind_system, table_contents}
 use Rattle.cal_tables.proofs.KindLemmas.{kind_lawful}
 use Rattle.calspan_run.proofs.DayLineLemmas.{pushed_line}

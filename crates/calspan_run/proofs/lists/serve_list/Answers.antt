@@ -1,5 +1,5 @@
 use Rattle.std.proofs.Common.{arith, ◌+◌, ap}
-use Rattle.line_reader.specs.Lines.{open_line}
+use Rattle.byte_io.specs.Lines.{open_line}
 use Rattle.table_rows.specs.RowsSaid.{rows_said}
 use Rattle.std.proofs.KnownBytes.{Consumes-nil}
 use Rattle.calspan_run.proofs.ListRunLemmas.{other_serves, faulty_serves, end_serves, stopped_serves}

@@ -1,5 +1,5 @@
 use Rattle.std.proofs.Common.{◌≡◌, IsTrue, ap, sym, subst, ◌∙◌}
-use Rattle.cal_model.specs.CalendarList.{IsOn, day_number}
+use Rattle.cal_types.specs.CalendarList.{IsOn, day_number}
 use Rattle.icu_calendar.proofs.OrderLemmas.{on_same_day, same_date-equal}
 use Rattle.icu_calendar.proofs.laws.back_from_another_calendar.Goals as goal
 

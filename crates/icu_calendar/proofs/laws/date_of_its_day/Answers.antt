@@ -1,5 +1,5 @@
 use Rattle.std.proofs.Common.{IsTrue, ap, subst, ◌∙◌}
-use Rattle.cal_model.specs.CalendarList.{IsOn}
+use Rattle.cal_types.specs.CalendarList.{IsOn}
 use Rattle.icu_calendar.specs.Clamping.{clamped_day}
 use Rattle.icu_calendar.proofs.OrderLemmas.{on_its_day, same_date-equal}
 use Rattle.icu_calendar.proofs.laws.date_of_its_day.Goals as goal

@@ -2,8 +2,8 @@ use Rattle.std.proofs.Common.{◌≡◌, IsTrue, Ok, Err, ap, subst, ◌∙◌}
 use Rattle.cal_types.specs.Bag.{bag_of}
 use Rattle.cal_types.specs.declared.options.Overflow.TheVariants.{Reject}
 use Rattle.cal_types.specs.declared.options.MissingFieldsStrategy.TheVariants as missing
-use Rattle.cal_model.specs.Resolving.{Resolved, resolve}
-use Rattle.cal_model.specs.CalendarList.{Date}
+use Rattle.cal_types.specs.Resolving.{Resolved, resolve}
+use Rattle.cal_types.specs.CalendarList.{Date}
 use Rattle.icu_calendar.proofs.FieldsLemmas.{fields-name, fields-not_refused}
 use Rattle.icu_calendar.proofs.OrderLemmas.{same_date-equal}
 use Rattle.icu_calendar.proofs.laws.date_of_its_fields.Goals as goal

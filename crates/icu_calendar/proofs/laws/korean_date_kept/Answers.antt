@@ -1,5 +1,5 @@
 use Rattle.std.proofs.Common.{subst, sym}
-use Rattle.cal_model.specs.SameYear.{HaveSameYear}
+use Rattle.cal_types.specs.SameYear.{HaveSameYear}
 use Rattle.cal_east_asian.proofs.LengtheningLemmas.{keeps-years}
 use Rattle.cal_east_asian.specs.EastAsianRows.{years_of}
 use Rattle.cal_east_asian.specs.EastAsianSystem.{kept_date}

@@ -3,7 +3,7 @@ use Rattle.std.specs.Prelude.{IsTrue}
 use Rattle.std.specs.Ordering.{int_eq}
 use Rattle.std.specs.Cmp.{int_eq_equiv}
 use Rattle.cal_types.specs.declared.options.Overflow.TheVariants.{Constrain}
-use Rattle.cal_model.specs.CalendarList.{Date, day_number}
+use Rattle.cal_types.specs.CalendarList.{Date, day_number}
 use Rattle.icu_calendar.proofs.SumLemmas.{sum-date, sum-not_refused}
 use Rattle.icu_calendar.proofs.laws.sum_with_difference.Goals as goal
 

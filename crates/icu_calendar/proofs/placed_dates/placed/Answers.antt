@@ -2,7 +2,7 @@ use Rattle.std.proofs.Common.{◌≡◌, true, false, Ok, Err, sym, ap, ◌∙�
 use Rattle.cal_days.specs.Day.{is_constructor_year}
 use Rattle.cal_days.proofs.Signed.{signed}
 use Rattle.cal_types.specs.Bag.{bag_of}
-use Rattle.cal_model.specs.Placing.{placed_date, year_out_of_range}
+use Rattle.cal_types.specs.Placing.{placed_date, year_out_of_range}
 use Rattle.icu_calendar.specs.PlacedFields.{number_fault, year_place_day}
 use Rattle.icu_calendar.proofs.PlacingLemmas.{is_named, named_fault, placed_says, year_refused}
 use Rattle.icu_calendar.proofs.placed_dates.placed.Goals as goal

@@ -3,7 +3,7 @@ use Rattle.cal_days.specs.Day.{is_constructor_year}
 use Rattle.cal_days.proofs.Signed.{signed}
 use Rattle.cal_types.specs.Bag.{bag_of}
 use Rattle.cal_errors.specs.RangeParts.{OutOfRange, date_fault}
-use Rattle.cal_model.specs.Placing.{placed_of_era, year_out_of_range}
+use Rattle.cal_types.specs.Placing.{placed_of_era, year_out_of_range}
 use Rattle.icu_calendar.specs.PlacedFields.{number_or_era_fault, era_place_day}
 use Rattle.icu_calendar.proofs.PlacingLemmas.{is_named, named_fault, placed_in_era_says, era_year_refused}
 use Rattle.icu_calendar.proofs.placed_dates.placed_in_era.Goals as goal

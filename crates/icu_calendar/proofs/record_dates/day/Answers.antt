@@ -1,7 +1,7 @@
 use Rattle.std.proofs.Common.{◌≡◌, ℤ, pos, ◌-ℤ◌, sym, subst, FitsSigned, to_z, of_z, w32, rules, arith}
 use Rattle.cal_days.specs.Day.{IsValidDay}
 use Rattle.cal_days.proofs.Signed.{signed}
-use Rattle.cal_model.specs.CalendarList.{IsDate, date}
+use Rattle.cal_types.specs.CalendarList.{IsDate, date}
 use Rattle.cal_base.specs.IsoSystem.{iso_list}
 use Rattle.cal_base.specs.laws.OffsetListLaws.{iso_year-extended}
 use Rattle.icu_calendar.specs.RecordDates.{date_numbers}

@@ -1,5 +1,5 @@
 use Rattle.std.proofs.Common.{refl, ◌∙◌, arith}
-use Rattle.line_reader.specs.Lines.{open_line}
+use Rattle.byte_io.specs.Lines.{open_line}
 use Rattle.table_rows.proofs.GatheringLemmas.{line_gathered, met_request, line_refused, line_wanted_memory, chunk_gathered, reading_stopped, took_too_many}
 use Rattle.table_rows.proofs.gathering.gather.Goals as goal
 

@@ -1,5 +1,5 @@
 use Rattle.std.specs.Prelude.{ℕ, ◌≤◌, List, Option}
-use Rattle.line_reader.specs.Reader.{turns_left}
+use Rattle.byte_io.specs.Reader.{turns_left}
 use Rattle.table_rows.specs.RowsSaid.{rows_said}
 use Rattle.table_rows.specs.Gathering.{IsGathering}
 use Rattle.table_rows.proofs.gathering.gather.Given as goal

@@ -1,7 +1,7 @@
 use Rattle.std.proofs.Common.{arith}
 use Rattle.table_rows.specs.RowsSaid.{rows_said}
 use Rattle.table_rows.proofs.GatheringLemmas.{met_end, met_last, last_refused, last_wanted_memory}
-use Rattle.line_reader.specs.Lines.{open_line}
+use Rattle.byte_io.specs.Lines.{open_line}
 use Rattle.table_rows.proofs.gathering.gather_last.Goals as goal
 
 pub returns-in-GoesOn : goal.returns-in-GoesOn

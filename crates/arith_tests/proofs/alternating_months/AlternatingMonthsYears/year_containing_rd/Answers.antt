@@ -2,7 +2,7 @@ use Rattle.std.proofs.Common.{◌≡◌, ℤ, pos, ◌+ℤ◌, ◌-ℤ◌, to_z,
 use Rattle.cal_days.specs.Division.{floor_div}
 use Rattle.cal_days.proofs.Signed.{signed}
 use Rattle.cal_days.proofs.DivisionLemmas.{floor_parts}
-use Rattle.cal_model.specs.CalendarList.{start_of_year}
+use Rattle.cal_types.specs.CalendarList.{start_of_year}
 use Rattle.arith_tests.specs.AlternatingMonths.{alternating}
 use Rattle.arith_tests.specs.laws.AlternatingMonthLaws.{start_of_year-alternating, year_length-alternating}
 use Rattle.arith_tests.proofs.alternating_months.AlternatingMonthsYears.year_containing_rd.Goals as goal

@@ -1,7 +1,7 @@
 use Rattle.std.proofs.Common.{◌≡◌, ◌<◌, ◌+◌, ◌≤◌, ℤ, ◌+ℤ◌, subst, arith}
-use Rattle.cal_model.specs.CalendarList.{start_of_year, IsOn}
+use Rattle.cal_types.specs.CalendarList.{start_of_year, IsOn}
 use Rattle.cal_days.proofs.Signed.{signed, signed_casts}
-use Rattle.cal_model.proofs.ListLemmas.{day_number-first, year_length-most}
+use Rattle.cal_types.proofs.ListLemmas.{day_number-first, year_length-most}
 use Rattle.cal_arith.specs.Dates.{date_of, ymd}
 use Rattle.cal_arith.proofs.years.Years.year_month_day.Given.{Over}
 use Rattle.cal_arith.proofs.years.Years.year_month_day.Goals.{After-since-since}

@@ -1,6 +1,6 @@
 use Rattle.std.proofs.Common.{◌∙◌, sym}
 use Rattle.cal_days.specs.Gregorian.{gregorian_leap}
-use Rattle.cal_model.proofs.PlainMonthLemmas.{plain-place}
+use Rattle.cal_types.proofs.PlainMonthLemmas.{plain-place}
 use Rattle.cal_base.specs.OffsetList.{offset_list, extended_year_from}
 use Rattle.cal_base.specs.laws.OffsetListLaws.{offset_list-plain}
 use Rattle.cal_base.proofs.OffsetYears.{month_length-offset}

@@ -1,6 +1,6 @@
 use Rattle.std.proofs.Common.{arith, unsigned_abs}
 use Rattle.cal_days.proofs.Signed.{signed}
-use Rattle.cal_model.proofs.PlainMonthLemmas.{total-plain}
+use Rattle.cal_types.proofs.PlainMonthLemmas.{total-plain}
 use Rattle.cal_base.specs.OffsetList.{offset_list}
 use Rattle.cal_base.specs.laws.OffsetListLaws.{offset_list-plain}
 use Rattle.cal_base.proofs.abstract_gregorian.AbstractGregorianYearShapes.min_months_from.Goals as goal

@@ -1,7 +1,7 @@
 use Rattle.std.proofs.Common.{◌≡◌, ℤ, ◌-ℤ◌, ap, to_z, of_z, w32, arith}
 use Rattle.cal_days.proofs.Signed.{signed_casts}
-use Rattle.cal_model.specs.CalendarList.{month_number}
-use Rattle.cal_model.proofs.PlainMonthLemmas.{month_number-twelve}
+use Rattle.cal_types.specs.CalendarList.{month_number}
+use Rattle.cal_types.proofs.PlainMonthLemmas.{month_number-twelve}
 use Rattle.cal_base.specs.OffsetList.{offset_list}
 use Rattle.cal_base.specs.laws.OffsetListLaws.{offset_list-plain}
 use Rattle.cal_base.proofs.abstract_gregorian.AbstractGregorianYearShapes.months_by_number.Goals as goal

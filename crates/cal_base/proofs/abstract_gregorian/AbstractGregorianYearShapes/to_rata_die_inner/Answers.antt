@@ -1,6 +1,6 @@
 use Rattle.std.proofs.Common.{◌≡◌, ap, ℤ, to_z, of_z, w32, arith}
 use Rattle.cal_days.proofs.Signed.{signed}
-use Rattle.cal_model.specs.CalendarList.{date, day_number}
+use Rattle.cal_types.specs.CalendarList.{date, day_number}
 use Rattle.cal_base.specs.GregorianList.{gregorian_list}
 use Rattle.cal_base.specs.laws.OffsetListLaws.{given-iso}
 use Rattle.cal_base.proofs.OffsetYears.{offset-date, day_number-offset}

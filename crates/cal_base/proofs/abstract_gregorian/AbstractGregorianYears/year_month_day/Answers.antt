@@ -1,6 +1,6 @@
 use Rattle.std.proofs.Common.{◌≡◌, ℤ, subst, to_z, of_z, w32, arith}
 use Rattle.cal_days.proofs.Signed.{signed}
-use Rattle.cal_model.specs.CalendarList.{date, IsOn}
+use Rattle.cal_types.specs.CalendarList.{date, IsOn}
 use Rattle.cal_base.specs.GregorianList.{gregorian_list}
 use Rattle.cal_base.proofs.OffsetYears.{on-offset}
 use Rattle.cal_base.proofs.OffsetAnswers.{given_kept}

@@ -1,4 +1,4 @@
-use Rattle.cal_model.proofs.PlainMonthLemmas.{plain-place}
+use Rattle.cal_types.proofs.PlainMonthLemmas.{plain-place}
 use Rattle.cal_coptic.specs.CopticList.{coptic_list}
 use Rattle.cal_coptic.specs.laws.CopticLaws.{coptic_list-plain}
 use Rattle.cal_coptic.proofs.coptic.CopticYearShapes.days_in_provided_month.Goals as goal

@@ -1,5 +1,5 @@
 use Rattle.std.proofs.Common.{◌≤◌, ◌∙◌, sym, arith}
-use Rattle.cal_model.proofs.PlainMonthLemmas.{plain-month, plain-place, plain_month-small}
+use Rattle.cal_types.proofs.PlainMonthLemmas.{plain-month, plain-place, plain_month-small}
 use Rattle.cal_coptic.specs.CopticList.{coptic_list}
 use Rattle.cal_coptic.specs.laws.CopticLaws.{coptic_list-plain}
 use Rattle.cal_coptic.proofs.coptic.CopticYearShapes.month_from_ordinal.Goals as goal

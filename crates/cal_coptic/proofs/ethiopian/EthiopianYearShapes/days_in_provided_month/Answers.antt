@@ -1,9 +1,9 @@
 use Rattle.std.proofs.Common.{◌∙◌, ◌-ℤ◌, ℤ, sym, ap}
-use Rattle.cal_model.specs.CalendarList.{month_length}
-use Rattle.cal_model.proofs.PlainMonthLemmas.{plain-place}
-use Rattle.cal_model.proofs.RenumberedLemmas.{month_length-renumbered}
+use Rattle.cal_types.specs.CalendarList.{month_length}
+use Rattle.cal_types.proofs.PlainMonthLemmas.{plain-place}
+use Rattle.cal_types.proofs.RenumberedLemmas.{month_length-renumbered}
 use Rattle.cal_coptic.specs.CopticList.{coptic_list}
-use Rattle.cal_model.proofs.CountedDateLemmas.{shifted_year}
+use Rattle.cal_types.proofs.CountedDateLemmas.{shifted_year}
 use Rattle.cal_coptic.specs.EthiopianList.{coptic_offset, ethiopian_list}
 use Rattle.cal_coptic.specs.laws.EthiopianLaws.{ethiopian_list-plain}
 use Rattle.cal_coptic.proofs.ethiopian.EthiopianYearShapes.days_in_provided_month.Goals as goal

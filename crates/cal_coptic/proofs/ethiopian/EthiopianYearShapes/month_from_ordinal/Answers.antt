@@ -1,5 +1,5 @@
 use Rattle.std.proofs.Common.{◌≤◌, ◌∙◌, ◌-ℤ◌, sym, arith}
-use Rattle.cal_model.proofs.PlainMonthLemmas.{plain-month, plain-place, plain_month-small}
+use Rattle.cal_types.proofs.PlainMonthLemmas.{plain-month, plain-place, plain_month-small}
 use Rattle.cal_coptic.specs.EthiopianList.{coptic_offset, ethiopian_list}
 use Rattle.cal_coptic.specs.laws.EthiopianLaws.{ethiopian_list-plain}
 use Rattle.cal_coptic.proofs.ethiopian.EthiopianYearShapes.month_from_ordinal.Goals as goal

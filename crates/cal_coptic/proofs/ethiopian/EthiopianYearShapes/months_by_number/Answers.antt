@@ -1,7 +1,7 @@
 use Rattle.std.proofs.Common.{◌≡◌, ℤ, ◌-ℤ◌, ap, to_z, of_z, w32, arith}
 use Rattle.cal_days.proofs.Signed.{signed_casts}
-use Rattle.cal_model.specs.CalendarList.{month_number}
-use Rattle.cal_model.proofs.PlainMonthLemmas.{month_number-thirteen}
+use Rattle.cal_types.specs.CalendarList.{month_number}
+use Rattle.cal_types.proofs.PlainMonthLemmas.{month_number-thirteen}
 use Rattle.cal_coptic.specs.EthiopianList.{coptic_offset, ethiopian_list}
 use Rattle.cal_coptic.specs.laws.EthiopianLaws.{ethiopian_list-plain}
 use Rattle.cal_coptic.proofs.ethiopian.EthiopianYearShapes.months_by_number.Goals as goal

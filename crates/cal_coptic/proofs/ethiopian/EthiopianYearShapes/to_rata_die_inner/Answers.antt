@@ -1,7 +1,7 @@
 use Rattle.std.proofs.Common.{◌∙◌, sym}
-use Rattle.cal_model.specs.CalendarList.{date}
+use Rattle.cal_types.specs.CalendarList.{date}
 use Rattle.cal_coptic.specs.CopticList.{coptic_list}
-use Rattle.cal_model.proofs.CountedDateLemmas.{date-counted, day_number-counted}
+use Rattle.cal_types.proofs.CountedDateLemmas.{date-counted, day_number-counted}
 use Rattle.cal_coptic.specs.EthiopianList.{coptic_offset}
 use Rattle.cal_coptic.specs.laws.EthiopianLaws.{given-coptic}
 use Rattle.cal_coptic.proofs.ethiopian.EthiopianYearShapes.to_rata_die_inner.Goals as goal

@@ -1,5 +1,5 @@
 use Rattle.std.proofs.Common.{◌<◌, arith}
-use Rattle.cal_model.specs.CalendarList.{year_length}
+use Rattle.cal_types.specs.CalendarList.{year_length}
 use Rattle.cal_coptic.specs.CopticList.{coptic_list}
 use Rattle.cal_coptic.specs.laws.CopticLaws.{day_found, year_length-most}
 use Rattle.cal_coptic.specs.EthiopianList.{coptic_offset}

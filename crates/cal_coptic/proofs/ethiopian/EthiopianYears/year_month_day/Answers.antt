@@ -1,6 +1,6 @@
-use Rattle.cal_model.specs.CalendarList.{date}
+use Rattle.cal_types.specs.CalendarList.{date}
 use Rattle.cal_coptic.specs.CopticList.{coptic_list}
-use Rattle.cal_model.proofs.CountedDateLemmas.{counted-on}
+use Rattle.cal_types.proofs.CountedDateLemmas.{counted-on}
 use Rattle.cal_coptic.specs.EthiopianList.{coptic_offset}
 use Rattle.cal_coptic.proofs.ethiopian.EthiopianYears.year_month_day.Goals as goal
 

@@ -1,7 +1,7 @@
 use Rattle.std.proofs.Common.{◌≡◌, ◌∙◌, ap, subst, arith, ℤ, to_z, of_z, w32}
 use Rattle.cal_days.specs.Day.{IsRuleYear}
 use Rattle.cal_days.proofs.Signed.{signed}
-use Rattle.cal_rows.specs.laws.RowPlaces.{chosen-row, chosen-other}
+use Rattle.cal_types.specs.laws.RowPlaces.{chosen-row, chosen-other}
 use Rattle.cal_east_asian.specs.laws.ComputedLaws.{computed_year, computed-years}
 use Rattle.cal_east_asian.specs.TableYears.{number_of, chosen_year}
 use Rattle.cal_east_asian.specs.laws.TableYearLaws.{accepted-consecutive, chosen-years}

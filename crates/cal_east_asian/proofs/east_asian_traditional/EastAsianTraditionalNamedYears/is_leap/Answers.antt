@@ -1,7 +1,7 @@
 use Rattle.std.proofs.Common.{◌≡◌, ◌∙◌, ◌↔◌, ℕ, ap, IsTrue, not, arith}
 use Rattle.std.specs.Prelude.{nat_eq}
 use Rattle.std.proofs.lemmas.Bool.Decides.{nat_tests}
-use Rattle.cal_model.specs.CalendarList.{month_count}
+use Rattle.cal_types.specs.CalendarList.{month_count}
 use Rattle.cal_east_asian.specs.EastAsianYear.{months_of_year}
 use Rattle.cal_east_asian.specs.EastAsianList.{east_asian_list}
 use Rattle.cal_east_asian.specs.laws.EastAsianListLaws.{month_count-east_asian}

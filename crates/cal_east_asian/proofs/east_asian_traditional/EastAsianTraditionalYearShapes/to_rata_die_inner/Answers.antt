@@ -2,7 +2,7 @@ use Rattle.std.proofs.Common.{◌≡◌, ◌∙◌, ◌+◌, ◌-◌, ◌≤◌,
 use Rattle.cal_days.proofs.Signed.{signed}
 use Rattle.cal_days.specs.Day.{IsBetween}
 use Rattle.cal_arith.specs.Given.{IsGiven}
-use Rattle.cal_model.specs.CalendarList.{HasPlace, days_before, start_of_year}
+use Rattle.cal_types.specs.CalendarList.{HasPlace, days_before, start_of_year}
 use Rattle.cal_east_asian.specs.EastAsianYears.{AreYears}
 use Rattle.cal_east_asian.specs.EastAsianPlaces.{days_of_months}
 use Rattle.cal_east_asian.specs.EastAsianList.{east_asian_list, east_asian_years}

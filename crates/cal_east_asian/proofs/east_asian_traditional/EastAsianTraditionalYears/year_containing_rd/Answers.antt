@@ -2,7 +2,7 @@ use Rattle.std.proofs.Common.{◌≡◌, ◌∙◌, ◌+ℤ◌, ◌≤ℤ◌, �
 use Rattle.std.specs.Prelude.{sum_by}
 use Rattle.cal_days.proofs.Signed.{signed}
 use Rattle.cal_arith.specs.Given.{IsGiven}
-use Rattle.cal_model.specs.CalendarList.{days_of, start_of_year, year_length}
+use Rattle.cal_types.specs.CalendarList.{days_of, start_of_year, year_length}
 use Rattle.cal_east_asian.specs.EastAsianList.{east_asian_list, east_asian_years, entries_of}
 use Rattle.cal_east_asian.specs.laws.EastAsianStartLaws.{length-rule}
 use Rattle.cal_east_asian.specs.laws.EastAsianGivenLaws.{start-given}

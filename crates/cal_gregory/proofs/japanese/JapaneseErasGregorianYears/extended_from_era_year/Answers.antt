@@ -2,7 +2,7 @@ use Rattle.std.proofs.Common.{◌≡◌, ℤ, pos, ◌+ℤ◌, ◌-ℤ◌, Optio
 use Rattle.cal_days.specs.Day.{IsFieldYear}
 use Rattle.cal_days.proofs.Signed.{signed}
 use Rattle.cal_arith.specs.FieldNames.{era_read}
-use Rattle.cal_model.specs.Eras.{common_era_reads}
+use Rattle.cal_types.specs.Eras.{common_era_reads}
 use Rattle.cal_gregory.specs.JapaneseEraList.{IsStartYear, ListedEra, year_of_era}
 use Rattle.cal_gregory.proofs.JapaneseEraLemmas.{read_second}
 use Rattle.cal_gregory.proofs.japanese.JapaneseErasGregorianYears.extended_from_era_year.Goals as goal

@@ -2,7 +2,7 @@ use Rattle.std.proofs.Common.{◌≡◌, ℕ, ℤ, Bool, Some, refl, sym, subst,
 use Rattle.std.specs.Ordering.{is_le, is_some_and, int_cmp, nat_cmp, ordering_then, partial_ordering_then}
 use Rattle.std.specs.declared.cmp.Ordering.{Ordering}
 use Rattle.std.specs.declared.cmp.Ordering.TheVariants.{Less, Equal, Greater}
-use Rattle.cal_model.specs.CalendarList.{date}
+use Rattle.cal_types.specs.CalendarList.{date}
 use Rattle.cal_gregory.specs.JapaneseEraList.{ListedEra, last_era, has_started}
 use Rattle.cal_gregory.specs.JapaneseEras.{listed_eras}
 use Rattle.cal_gregory.specs.laws.JapaneseLaws.{FoundNear, listed-near}

@@ -1,5 +1,5 @@
 use Rattle.std.proofs.Common.{◌≡◌, ◌-◌}
-use Rattle.cal_model.specs.CalendarList.{date}
+use Rattle.cal_types.specs.CalendarList.{date}
 use Rattle.cal_gregory.specs.JapaneseEraList.{last_era, has_started}
 use Rattle.cal_gregory.specs.JapaneseEras.{listed_eras}
 use Rattle.cal_gregory.specs.JapaneseErasLeft.{eras_left}

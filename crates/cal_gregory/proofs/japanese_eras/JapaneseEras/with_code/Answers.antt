@@ -1,5 +1,5 @@
 use Rattle.std.proofs.Common.{◌≡◌, Some, Bool, List, ℕ, sym, ap, subst, ◌∙◌}
-use Rattle.cal_model.specs.YearNames.{is_code}
+use Rattle.cal_types.specs.YearNames.{is_code}
 use Rattle.cal_gregory.specs.JapaneseEraList.{ListedEra, last_era}
 use Rattle.cal_gregory.specs.JapaneseEras.{listed_eras}
 use Rattle.cal_gregory.specs.laws.JapaneseLaws.{FoundNear, listed-near}

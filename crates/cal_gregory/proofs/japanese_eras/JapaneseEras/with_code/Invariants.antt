@@ -1,5 +1,5 @@
 use Rattle.std.proofs.Common.{◌≡◌, ◌-◌}
-use Rattle.cal_model.specs.YearNames.{is_code}
+use Rattle.cal_types.specs.YearNames.{is_code}
 use Rattle.cal_gregory.specs.JapaneseEraList.{last_era, ListedEra}
 use Rattle.cal_gregory.specs.JapaneseEras.{listed_eras}
 use Rattle.cal_gregory.specs.JapaneseErasLeft.{eras_left}

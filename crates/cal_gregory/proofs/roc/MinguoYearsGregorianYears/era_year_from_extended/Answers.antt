@@ -1,7 +1,7 @@
 use Rattle.std.proofs.Common.{◌≡◌, refl, to_z, of_z, w32, arith}
 use Rattle.cal_days.proofs.Signed.{signed}
-use Rattle.cal_model.specs.CalendarList.{date}
-use Rattle.cal_model.proofs.RenumberedBoundLemmas.{ranged-renumbered}
+use Rattle.cal_types.specs.CalendarList.{date}
+use Rattle.cal_types.proofs.RenumberedBoundLemmas.{ranged-renumbered}
 use Rattle.cal_base.specs.GregorianList.{gregorian_list}
 use Rattle.cal_base.specs.laws.GregorianLaws.{gregorian_list-bounded}
 use Rattle.cal_base.specs.laws.OffsetListLaws.{true-offset}

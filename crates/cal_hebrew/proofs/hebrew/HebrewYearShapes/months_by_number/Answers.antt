@@ -2,7 +2,7 @@ use Rattle.std.proofs.Common.{◌≡◌, ◌∙◌, ℤ, ap, to_z, of_z, w32, ar
 use Rattle.cal_days.specs.Day.{IsRuleYear}
 use Rattle.cal_days.specs.Hebrew.{months_before}
 use Rattle.cal_days.proofs.Signed.{signed_casts}
-use Rattle.cal_model.specs.CalendarList.{month_number}
+use Rattle.cal_types.specs.CalendarList.{month_number}
 use Rattle.cal_hebrew.specs.HebrewList.{hebrew_list}
 use Rattle.cal_hebrew.specs.laws.HebrewLaws.{month_number-hebrew, months_before-rises}
 use Rattle.cal_hebrew.proofs.hebrew.HebrewYearShapes.months_by_number.Goals as goal

@@ -1,6 +1,6 @@
 use Rattle.std.proofs.Common.{◌≡◌, ℤ, refl, sym, subst, ap, ◌∙◌, pos, ◌+ℤ◌, to_z, of_z, w32, arith}
 use Rattle.cal_days.proofs.Signed.{signed}
-use Rattle.cal_model.specs.CalendarList.{IsOn, date, start_of_year}
+use Rattle.cal_types.specs.CalendarList.{IsOn, date, start_of_year}
 use Rattle.cal_days.specs.Hebrew.{hebrew_year_length}
 use Rattle.cal_hebrew.specs.HebrewList.{hebrew_list, hebrew_years}
 use Rattle.cal_hebrew.specs.laws.SameYears.{same_parts}

@@ -3,7 +3,7 @@ use Rattle.cal_days.specs.Day.{IsFieldYear}
 use Rattle.cal_days.proofs.Signed.{signed}
 use Rattle.cal_types.specs.MonthParts.{month_parts}
 use Rattle.cal_errors.specs.declared.errors.EcmaReferenceYearError.{EcmaReferenceYearError}
-use Rattle.cal_model.specs.PlainMonths.{is_plain_month}
+use Rattle.cal_types.specs.PlainMonths.{is_plain_month}
 use Rattle.cal_hijri.specs.HijriNames.{reference_of_rules}
 use Rattle.cal_hijri.specs.declared.hijri_year.HijriYear.{HijriYear}
 use Rattle.cal_hijri.proofs.hijri.HijriDateFieldsResolver.reference_year_from_month_day.Goals as goal

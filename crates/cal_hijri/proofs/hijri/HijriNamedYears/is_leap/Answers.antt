@@ -1,5 +1,5 @@
 use Rattle.std.proofs.Common.{◌≡◌, ◌∙◌, ◌↔◌, ◌==◌, ℕ, IsTrue, sym, subst}
-use Rattle.cal_model.specs.CalendarList.{year_length}
+use Rattle.cal_types.specs.CalendarList.{year_length}
 use Rattle.cal_hijri.specs.HijriList.{hijri_list}
 use Rattle.cal_hijri.specs.HijriMonths.{prior_days}
 use Rattle.cal_hijri.specs.laws.GivenYears.{length-given}

@@ -1,5 +1,5 @@
 use Rattle.std.proofs.Common.{◌∙◌, ℕ, ap, sym}
-use Rattle.cal_model.proofs.PlainMonthLemmas.{plain-place}
+use Rattle.cal_types.proofs.PlainMonthLemmas.{plain-place}
 use Rattle.cal_hijri.specs.HijriList.{hijri_list}
 use Rattle.cal_hijri.specs.HijriMonths.{month_days}
 use Rattle.cal_hijri.specs.laws.HijriShapes.{hijri_list-plain, month_length-hijri}

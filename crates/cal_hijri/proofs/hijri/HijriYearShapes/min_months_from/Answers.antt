@@ -1,6 +1,6 @@
 use Rattle.std.proofs.Common.{◌≡◌, pos, ◌*ℤ◌, to_z, of_z, w32, unsigned_abs, arith}
 use Rattle.cal_days.proofs.Signed.{signed}
-use Rattle.cal_model.proofs.PlainMonthLemmas.{total-plain}
+use Rattle.cal_types.proofs.PlainMonthLemmas.{total-plain}
 use Rattle.cal_hijri.specs.HijriList.{hijri_list}
 use Rattle.cal_hijri.specs.laws.HijriShapes.{hijri_list-plain}
 use Rattle.cal_hijri.proofs.hijri.HijriYearShapes.min_months_from.Goals as goal

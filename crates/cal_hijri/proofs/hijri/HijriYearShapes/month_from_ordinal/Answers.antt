@@ -1,5 +1,5 @@
 use Rattle.std.proofs.Common.{◌≤◌, ◌∙◌, sym, arith}
-use Rattle.cal_model.proofs.PlainMonthLemmas.{plain-month, plain-place, plain_month-small}
+use Rattle.cal_types.proofs.PlainMonthLemmas.{plain-month, plain-place, plain_month-small}
 use Rattle.cal_hijri.specs.HijriList.{hijri_list}
 use Rattle.cal_hijri.specs.laws.HijriShapes.{hijri_list-plain}
 use Rattle.cal_hijri.proofs.hijri.HijriYearShapes.month_from_ordinal.Goals as goal

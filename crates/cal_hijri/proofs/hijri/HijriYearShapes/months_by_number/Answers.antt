@@ -1,7 +1,7 @@
 use Rattle.std.proofs.Common.{◌≡◌, ℤ, ◌-ℤ◌, ap, to_z, of_z, w32, arith}
 use Rattle.cal_days.proofs.Signed.{signed_casts}
-use Rattle.cal_model.specs.CalendarList.{month_number}
-use Rattle.cal_model.proofs.PlainMonthLemmas.{month_number-twelve}
+use Rattle.cal_types.specs.CalendarList.{month_number}
+use Rattle.cal_types.proofs.PlainMonthLemmas.{month_number-twelve}
 use Rattle.cal_hijri.specs.HijriList.{hijri_list}
 use Rattle.cal_hijri.specs.laws.HijriShapes.{hijri_list-plain}
 use Rattle.cal_hijri.proofs.hijri.HijriYearShapes.months_by_number.Goals as goal

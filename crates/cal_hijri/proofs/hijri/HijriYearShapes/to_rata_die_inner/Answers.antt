@@ -2,11 +2,11 @@ use Rattle.std.proofs.Common.{◌≡◌, ◌∙◌, ◌≤◌, ◌-ℤ◌, ◌+�
 use Rattle.cal_days.proofs.Signed.{signed}
 use Rattle.cal_days.specs.Day.{IsBetween}
 use Rattle.cal_arith.specs.Given.{IsGiven}
-use Rattle.cal_model.specs.CalendarList.{days_before, start_of_year}
+use Rattle.cal_types.specs.CalendarList.{days_before, start_of_year}
 use Rattle.cal_hijri.specs.HijriList.{hijri_list, hijri_years, Joins, Numbered}
 use Rattle.cal_hijri.specs.HijriMonths.{prior_days}
 use Rattle.cal_hijri.specs.laws.HijriShapes.{hijri_list-plain, days_before-hijri}
-use Rattle.cal_model.proofs.PlainMonthLemmas.{plain-place}
+use Rattle.cal_types.proofs.PlainMonthLemmas.{plain-place}
 use Rattle.cal_hijri.specs.laws.GivenYears.{long-given, start-given}
 use Rattle.cal_hijri.specs.declared.hijri_year.HijriYear.{HijriYear}
 use Rattle.cal_hijri.proofs.Finding.{first_day-small}

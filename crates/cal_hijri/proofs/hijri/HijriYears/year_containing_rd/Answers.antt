@@ -1,7 +1,7 @@
 use Rattle.std.proofs.Common.{◌≡◌, ◌+ℤ◌, ◌≤ℤ◌, ◌<ℤ◌, ℤ, ℕ, pos, sym, subst, arith}
 use Rattle.cal_days.proofs.Signed.{signed}
 use Rattle.cal_arith.specs.Given.{IsGiven}
-use Rattle.cal_model.specs.CalendarList.{start_of_year}
+use Rattle.cal_types.specs.CalendarList.{start_of_year}
 use Rattle.cal_hijri.specs.HijriList.{hijri_list, hijri_years, hijri_days}
 use Rattle.cal_hijri.specs.laws.GivenYears.{start-given, length-given}
 use Rattle.cal_hijri.proofs.hijri.HijriYears.year_containing_rd.Given.{Over}

@@ -1,6 +1,6 @@
 use Rattle.std.proofs.Common.{◌≡◌, ◌∙◌, ap, subst, arith, ℤ, to_z, of_z, w32}
 use Rattle.cal_days.proofs.Signed.{signed}
-use Rattle.cal_rows.specs.laws.RowPlaces.{chosen-row, chosen-other}
+use Rattle.cal_types.specs.laws.RowPlaces.{chosen-row, chosen-other}
 use Rattle.cal_hijri.specs.HijriRows.{years_of}
 use Rattle.cal_hijri.specs.TableYears as years
 use Rattle.cal_hijri.specs.laws.TableLaws.{accepted-consecutive}

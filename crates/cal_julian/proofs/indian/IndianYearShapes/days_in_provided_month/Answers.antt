@@ -1,5 +1,5 @@
 use Rattle.std.proofs.Common.{◌∙◌, sym}
-use Rattle.cal_model.proofs.PlainMonthLemmas.{plain-place}
+use Rattle.cal_types.proofs.PlainMonthLemmas.{plain-place}
 use Rattle.cal_julian.specs.IndianList.{indian_list}
 use Rattle.cal_julian.specs.laws.IndianLaws.{indian_list-plain, month_length-indian}
 use Rattle.cal_julian.proofs.indian.IndianYearShapes.days_in_provided_month.Goals as goal

@@ -1,5 +1,5 @@
 use Rattle.std.proofs.Common.{◌≤◌, ◌∙◌, sym, arith}
-use Rattle.cal_model.proofs.PlainMonthLemmas.{plain-month, plain-place, plain_month-small}
+use Rattle.cal_types.proofs.PlainMonthLemmas.{plain-month, plain-place, plain_month-small}
 use Rattle.cal_julian.specs.IndianList.{indian_list}
 use Rattle.cal_julian.specs.laws.IndianLaws.{indian_list-plain}
 use Rattle.cal_julian.proofs.indian.IndianYearShapes.month_from_ordinal.Goals as goal

@@ -1,7 +1,7 @@
 use Rattle.std.proofs.Common.{◌≡◌, to_z, of_z, w32, arith}
 use Rattle.cal_days.proofs.Signed.{signed}
-use Rattle.cal_model.specs.CalendarList.{date}
-use Rattle.cal_model.proofs.ListLemmas.{date-in_year}
+use Rattle.cal_types.specs.CalendarList.{date}
+use Rattle.cal_types.proofs.ListLemmas.{date-in_year}
 use Rattle.cal_julian.specs.IndianList.{indian_list}
 use Rattle.cal_julian.proofs.indian.IndianYears.year_containing_rd.Goals as goal
 

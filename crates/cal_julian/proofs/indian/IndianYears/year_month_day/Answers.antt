@@ -1,6 +1,6 @@
 use Rattle.std.proofs.Common.{◌≡◌, ℤ, subst, to_z, of_z, w32, arith}
 use Rattle.cal_days.proofs.Signed.{signed}
-use Rattle.cal_model.specs.CalendarList.{date, IsOn}
+use Rattle.cal_types.specs.CalendarList.{date, IsOn}
 use Rattle.cal_julian.specs.IndianList.{indian_list}
 use Rattle.cal_julian.proofs.indian.IndianYears.year_month_day.Goals as goal
 

@@ -1,6 +1,6 @@
 use Rattle.std.proofs.Common.{◌≡◌, pos, ◌*ℤ◌, to_z, of_z, w32, unsigned_abs, arith}
 use Rattle.cal_days.proofs.Signed.{signed}
-use Rattle.cal_model.proofs.PlainMonthLemmas.{total-plain}
+use Rattle.cal_types.proofs.PlainMonthLemmas.{total-plain}
 use Rattle.cal_julian.specs.JulianList.{julian_list}
 use Rattle.cal_julian.specs.laws.JulianLaws.{julian_list-plain}
 use Rattle.cal_julian.proofs.julian.JulianYearShapes.min_months_from.Goals as goal

@@ -1,6 +1,6 @@
 use Rattle.std.proofs.Common.{◌≡◌, ap, ℤ, to_z, of_z, w32, arith}
 use Rattle.cal_days.proofs.Signed.{signed}
-use Rattle.cal_model.specs.CalendarList.{date, day_number}
+use Rattle.cal_types.specs.CalendarList.{date, day_number}
 use Rattle.cal_julian.specs.JulianList.{julian_list}
 use Rattle.cal_julian.proofs.julian.JulianYearShapes.to_rata_die_inner.Goals as goal
 

@@ -1,7 +1,7 @@
 use Rattle.std.proofs.Common.{◌≡◌, ℤ, ◌-ℤ◌, ap, to_z, of_z, w32, arith}
 use Rattle.cal_days.proofs.Signed.{signed_casts}
-use Rattle.cal_model.specs.CalendarList.{month_number}
-use Rattle.cal_model.proofs.PlainMonthLemmas.{month_number-twelve}
+use Rattle.cal_types.specs.CalendarList.{month_number}
+use Rattle.cal_types.proofs.PlainMonthLemmas.{month_number-twelve}
 use Rattle.cal_julian.specs.PersianList.{persian_list}
 use Rattle.cal_julian.specs.laws.PersianLaws.{persian_list-plain}
 use Rattle.cal_julian.specs.PersianCorrected.{corrected_years}

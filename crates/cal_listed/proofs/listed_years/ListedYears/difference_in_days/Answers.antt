@@ -1,9 +1,9 @@
 use Rattle.std.proofs.Common.{◌≡◌, ℕ, ◌<◌, ◌↔◌, IsTrue, nat_lt, refl, arith, ℤ, pos, ◌+ℤ◌, ◌<ℤ◌}
 use Rattle.std.proofs.lemmas.Bool.Decides.{nat_tests}
 use Rattle.cal_days.proofs.Signed.{signed}
-use Rattle.cal_model.specs.CalendarList.{day_number}
+use Rattle.cal_types.specs.CalendarList.{day_number}
 use Rattle.cal_listed.specs.ListedYears.{date_of}
-use Rattle.cal_model.proofs.DifferenceLaws.{days-difference}
+use Rattle.cal_types.proofs.DifferenceLaws.{days-difference}
 use Rattle.cal_listed.proofs.listed_years.ListedYears.difference_in_days.Goals as goal
 
 -- the later of two days lies further from the first

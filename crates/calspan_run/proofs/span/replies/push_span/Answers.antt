@@ -1,5 +1,5 @@
 use Rattle.std.proofs.Common.{◌≡◌, ℕ, List, [], ◌∷◌, ◌++◌, subst, ◌∙◌, append_assoc}
-use Rattle.cal_model.specs.CalendarList.{IsOn}
+use Rattle.cal_types.specs.CalendarList.{IsOn}
 use Rattle.cal_tables.specs.Kinds.{kind_system, table_contents}
 use Rattle.calspan_run.proofs.span.replies.push_span.Goals as goal
 

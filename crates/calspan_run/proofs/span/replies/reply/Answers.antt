@@ -1,7 +1,7 @@
 use Rattle.std.proofs.Common.{Ok, Err, refl}
-use Rattle.cal_model.specs.Difference.{largest_unit_of}
+use Rattle.cal_types.specs.Difference.{largest_unit_of}
 use Rattle.cal_tables.specs.Kinds.{kind_system, table_contents}
-use Rattle.cal_spans.specs.Spans.{SpanDates}
+use Rattle.cal_types.specs.Spans.{SpanDates}
 use Rattle.reply_texts.specs.DateTexts.{span_text, error_text}
 use Rattle.calspan_run.proofs.span.replies.reply.Goals as goal
 

@@ -1,5 +1,5 @@
 use Rattle.std.proofs.Common.{◌++◌, refl, subst, ◌∙◌, inr, arith}
-use Rattle.line_reader.specs.Lines.{open_line}
+use Rattle.byte_io.specs.Lines.{open_line}
 use Rattle.request_lines.specs.Lines.{line_of}
 use Rattle.calspan_run.specs.Progress.{standing_of}
 use Rattle.calspan_run.specs.Answers.{Answering, IsAnswerTo, status_at}

@@ -1,5 +1,5 @@
 use Rattle.std.specs.Prelude.{◌≡◌}
-use Rattle.line_reader.specs.Reader.{turns_left}
+use Rattle.byte_io.specs.Reader.{turns_left}
 use Rattle.cal_tables.specs.Kinds.{table_contents}
 use Rattle.calspan_run.specs.Underway.{IsUnderway}
 use Rattle.calspan_run.specs.Run.{Outside, outside}

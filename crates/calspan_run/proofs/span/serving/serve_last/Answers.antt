@@ -1,6 +1,6 @@
 use Rattle.std.proofs.Common.{◌+◌, [], Bool, inr, refl, ap, subst}
-use Rattle.line_reader.specs.Lines.{open_line}
-use Rattle.line_reader.specs.Reader.{lines_given}
+use Rattle.byte_io.specs.Lines.{open_line}
+use Rattle.byte_io.specs.Reader.{lines_given}
 use Rattle.request_lines.specs.Lines.{line_of}
 use Rattle.calspan_run.specs.Progress.{answered_status, standing_of}
 use Rattle.table_rows.specs.RowsSaid.{rows_said}

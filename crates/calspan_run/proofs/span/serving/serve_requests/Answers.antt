@@ -1,5 +1,5 @@
 use Rattle.std.proofs.Common.{[], Bool, false, inr, refl, subst}
-use Rattle.line_reader.specs.Reader.{lines_given}
+use Rattle.byte_io.specs.Reader.{lines_given}
 use Rattle.request_lines.specs.Lines.{line_of}
 use Rattle.calspan_run.specs.Progress.{standing_of}
 use Rattle.table_rows.specs.RowsSaid.{rows_said}

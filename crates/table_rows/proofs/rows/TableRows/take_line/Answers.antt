@@ -1,5 +1,5 @@
 use Rattle.std.proofs.Common.{[], Err, sym, subst, ◌∙◌}
-use Rattle.line_reader.specs.Buffer.{Holds}
+use Rattle.byte_io.specs.Buffer.{Holds}
 use Rattle.table_rows.specs.Reading.{IsLineTaken}
 use Rattle.table_rows.specs.RowsSaid.{rows_said}
 use Rattle.table_rows.specs.declared.errors.RowError.{RowError}

@@ -1,7 +1,7 @@
 use Rattle.std.proofs.Common.{ℕ, ◌+◌, true, cond, List, Some, Ok, Err, arith, ap, sym, subst}
 use Rattle.std.proofs.KnownBytes.{Consumes-nil}
 use Rattle.byte_io.specs.Plain.{plain_rest}
-use Rattle.line_reader.specs.Lines.{lines_in, open_line}
+use Rattle.byte_io.specs.Lines.{lines_in, open_line}
 use Rattle.table_rows.specs.Gathering.{Stops}
 use Rattle.table_rows.specs.Reading.{IsTextRead}
 use Rattle.table_rows.specs.RowLines.{AreRows, RowComesFirst}

@@ -1,6 +1,6 @@
 use Rattle.std.proofs.Common.{ℤ, false, ap, ◌∙◌}
 use Rattle.cal_anniversary.specs.Listing.{GoesOn, days_left}
-use Rattle.cal_model.specs.Anniversary.{anniversaries_between}
+use Rattle.cal_types.specs.Anniversary.{anniversaries_between}
 use Rattle.cal_recur.proofs.IteratorLemmas.{YieldsList-from_more}
 use Rattle.cal_tables.specs.Kinds.{kind_system, table_contents}
 use Rattle.calspan_run.specs.Anniversaries.{anniversaries_in}

@@ -1,7 +1,7 @@
 use Rattle.std.proofs.Common.{ℤ, subst}
 use Rattle.cal_base.specs.IsoSystem.{iso_list, iso_system}
 use Rattle.cal_holidays.specs.Books.{named_rules}
-use Rattle.cal_model.specs.CalendarList.{IsOn}
+use Rattle.cal_types.specs.CalendarList.{IsOn}
 use Rattle.calspan_run.proofs.HolidayLineLemmas.{pushed_holiday}
 use Rattle.calspan_run.proofs.holidays.book_lines.BookLinesItemLines.push_line.Goals as goal
 

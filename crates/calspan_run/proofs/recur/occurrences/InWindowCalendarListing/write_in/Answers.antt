@@ -1,5 +1,5 @@
 use Rattle.std.proofs.Common.{ℤ, false, ap, ◌∙◌}
-use Rattle.cal_model.specs.CalendarSystem.{resolve_fields}
+use Rattle.cal_types.specs.CalendarSystem.{resolve_fields}
 use Rattle.cal_recur.specs.Listing.{GoesOn, occurrences, occurrences_left}
 use Rattle.cal_recur.proofs.IteratorLemmas.{YieldsList-from_more}
 use Rattle.cal_tables.specs.Kinds.{kind_system, table_contents}

@@ -1,0 +1,52 @@
+//! Rows that lengthen a table.
+
+ghost use Rattle.std.specs.Prelude.{◌≡◌, MatchOption, slice_get};
+ghost use Rattle.cal_types.specs.Lengthening.{BeginWith, IsFirstDifference, is_like, stands_in};
+
+/// A row of a table.
+pub trait Row: Copy {
+    ghost use Rattle.std.specs.Prelude.{Bool};
+
+    /// Whether two rows are equal.
+    ghost equal: { Self → Self → Bool };
+
+    /// Whether another row is equal to this one.
+    fn is_equal_row(self, other: Self) -> bool
+        ensures { result ≡ equal self other };
+}
+
+/// The first of some rows, counted from 1, to which others have none equal in its place.
+pub fn first_difference<Y: Row>(old: &[Y], rows: &[Y]) -> Option<usize>
+    ensures { MatchOption result (BeginWith Y.equal old.now rows.now) (IsFirstDifference Y.equal old.now rows.now) }
+{
+    for (index, row) in old.iter().enumerate() {
+        if !has_row(rows, index, *row) {
+            return Some(index + 1);
+        }
+    }
+    None
+}
+
+/// Whether rows have one equal to this in a place, counted from 0.
+fn has_row<Y: Row>(rows: &[Y], index: usize, row: Y) -> bool
+    ensures { result ≡ stands_in Y.equal rows.now index row }
+{
+    is_like(row_at(rows, index), row)
+}
+
+/// Whether a row is there and equal to another one.
+fn is_like<Y: Row>(there: Option<Y>, row: Y) -> bool
+    ensures { result ≡ is_like Y.equal there row }
+{
+    match there {
+        Some(there) => row.is_equal_row(there),
+        None => false,
+    }
+}
+
+/// The row at an index, counted from 0.
+fn row_at<Y: Copy>(rows: &[Y], index: usize) -> Option<Y>
+    ensures { result ≡ slice_get rows.now index }
+{
+    rows.get(index).copied()
+}

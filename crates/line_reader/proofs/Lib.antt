@@ -1,6 +1,0 @@
-pub mod FirstLemmas
-pub mod PartLemmas
-pub mod PrefixLemmas
-mod BufferLemmas
-mod LookLemmas
-mod ReaderLemmas
