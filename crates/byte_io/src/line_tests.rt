@@ -1,5 +1,4 @@
-use crate::{Filled, LineBuffer, Next, Reader};
-use crate::{MemorySource, Source};
+use crate::{Filled, LineBuffer, MemorySource, Next, Reader, Source};
 
 /// Reads the source to its end, and says how many lines it has, how many bytes the longest prefix
 /// has, and how many bytes follow the last LF.

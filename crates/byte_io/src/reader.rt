@@ -2,8 +2,8 @@
 ghost use Rattle.std.specs.Prelude.{◌≡◌, ◌≤◌, ◌<◌, ◌+◌, ◌-◌, ◌==◌, length, position, IfSome};
 ghost use Rattle.byte_io.specs.Looks.{Looks};
 
-use crate::buffer::LineBuffer;
 use crate::Source;
+use crate::buffer::LineBuffer;
 use memchr::memchr;
 
 /// The most bytes that are read: 16 MiB.

@@ -9,7 +9,9 @@ ghost use Rattle.date_parts.specs.Parts.{AreNamed, AreRefused, IsShown};
 use crate::day_parts::{DayParts, parts_of};
 use cal_base::Calendar;
 use cal_days::RataDie;
-use cal_types::{BagSide, DateDifferenceOptions, DateDuration, DateFields, DateFromFieldsOptions, SpanError};
+use cal_types::{
+    BagSide, DateDifferenceOptions, DateDuration, DateFields, DateFromFieldsOptions, SpanError,
+};
 
 /// Two dates and the difference from the first to the second.
 #[derive(Clone, Copy, Debug)]

@@ -14,7 +14,10 @@ use crate::date::Date;
 use crate::span_answer::Span;
 use cal_any::AnyCalendar;
 use cal_base::{AsCalendar, Calendar};
-use cal_types::{BagSide, DateDifferenceOptions, DateDuration, DateFields, DateFromFieldsOptions, Overflow, SpanError};
+use cal_types::{
+    BagSide, DateDifferenceOptions, DateDuration, DateFields, DateFromFieldsOptions, Overflow,
+    SpanError,
+};
 
 /// The dates that two bags of fields name in one calendar.
 #[derive(Drop)]

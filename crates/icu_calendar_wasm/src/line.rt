@@ -5,10 +5,10 @@ ghost use Rattle.cal_tables.specs.Kinds.{table_contents};
 ghost use Rattle.date_calls.specs.Codes.{contents_of_code};
 ghost use Rattle.icu_calendar_wasm.specs.Line.{IsLineAnswered};
 
+use byte_io::LineBuffer;
 use cal_tables::Tables;
 use calspan_run::{Progress, answer, code};
 use date_calls::{NO_ROOM, UNKNOWN_YEARS, put, tables_of};
-use byte_io::LineBuffer;
 use reply_texts::Pending;
 
 /// The answer to a line over tables.

@@ -8,8 +8,8 @@ ghost use Rattle.request_lines.specs.Lines.{is_row as text_is_row, is_silent as 
 
 use crate::request::{Header, read_into};
 use crate::row::{Row, read_row};
-use cal_types::DateFields;
 use byte_io::LineBuffer;
+use cal_types::DateFields;
 
 /// What a request line says.
 #[derive(Clone, Copy, Debug)]

@@ -1,8 +1,8 @@
 //! Lines of all kinds, faults and limits, the words of the command line, and texts of numbers.
 
 use crate::tests::runs::{Calls, Case, assert_answers, assert_count, assert_run, calls_of};
-use calspan_run::{Status, code};
 use byte_io::LIMIT;
+use calspan_run::{Status, code};
 use reply_texts::{Pending, push_signed, push_two_digits};
 use std::test::Fail;
 
