@@ -11,3 +11,11 @@ returns-clause-near c =
     let mean : c.to_i64_date.result ≡ islamic_mean_start y = c.to_i64_date.ensures.value ∙ (c.mean_start.ensures.formula ∙ ap islamic_mean_start kept) in
     let few : min c.args.offset 10 ≤ 10 = omega arith in
     (omega (arith, signed, mean, mean_start-bounds y, c.requires, c.from.ensures, c.min.ensures, few), omega (arith, signed, mean, mean_start-bounds y, c.requires, c.from.ensures, c.min.ensures, few))
+
+pub returns-clause-value : goal.returns-clause-value
+returns-clause-value c =
+    let y = c.args.year in
+    let kept : to_z w32 (of_z w32 y) ≡ y = omega (arith, signed, c.requires) in
+    let mean : c.to_i64_date.result ≡ islamic_mean_start y = c.to_i64_date.ensures.value ∙ (c.mean_start.ensures.formula ∙ ap islamic_mean_start kept) in
+    let few : min c.args.offset 10 ≤ 10 = omega arith in
+    omega (arith, signed, mean, mean_start-bounds y, c.requires, c.from.ensures, c.min.ensures, few)

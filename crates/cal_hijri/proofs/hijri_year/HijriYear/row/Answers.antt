@@ -38,3 +38,18 @@ returns-clause-row c =
     let start : start_after (nearest_rule_year (to_z w32 (of_z w32 y))) n ≡ c.args.self.first_day = omega (arith, signed, ap islamic_mean_start number, few, offset) in
     let bits : c.args.self.long_months % 4096 ≡ c.args.self.long_months = omega (arith, c.args.self.twelve) in
     same_parts _ c.args.self number start bits
+
+pub overflow_add-result : goal.overflow_add-result
+overflow_add-result c =
+    let y = c.args.self.extended_year in
+    let fits : FitsSigned w32 y = search rules in
+    let rule : IsRuleYear y = (omega (arith, signed, fits), omega (arith, signed, fits)) in
+    omega (arith, signed, mean_start-bounds y, c.args.self.near, rule)
+
+pub overflow_sub-result : goal.overflow_sub-result
+overflow_sub-result c =
+    let y = c.args.self.extended_year in
+    let fits : FitsSigned w32 y = search rules in
+    let mean = mean-is y _ _ fits c.to_i64_date-mean.ensures.value c.mean_start.ensures.formula in
+    let rule : IsRuleYear y = (omega (arith, signed, fits), omega (arith, signed, fits)) in
+    omega (arith, signed, mean, mean_start-bounds y, c.args.self.near, rule)

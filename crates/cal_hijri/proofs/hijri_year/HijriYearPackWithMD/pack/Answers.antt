@@ -55,3 +55,17 @@ returns-clause-parts c =
     ap (λ (y : HijriYear). ymd y (month_from 2 p) (day_from 2 p)) same
     ∙ ap (λ (m : ℕ). ymd year m (day_from 2 p)) c.pack.ensures.month
     ∙ ap (λ (d : ℕ). ymd year c.args.month d) c.pack.ensures.day
+
+pub overflow_sub-offset : goal.overflow_sub-offset
+overflow_sub-offset c =
+    let year = c.args.self in
+    let y = year.extended_year in
+    let mean : c.to_i64_date.result ≡ islamic_mean_start y = c.to_i64_date.ensures.value ∙ (c.mean_start.ensures.formula ∙ ap islamic_mean_start (number y c.requires.storable)) in
+    omega (arith, signed, mean, year.near, mean_start-bounds y, c.requires.storable)
+
+pub overflow_cast-offset : goal.overflow_cast-offset
+overflow_cast-offset c =
+    let year = c.args.self in
+    let y = year.extended_year in
+    let mean : c.to_i64_date.result ≡ islamic_mean_start y = c.to_i64_date.ensures.value ∙ (c.mean_start.ensures.formula ∙ ap islamic_mean_start (number y c.requires.storable)) in
+    omega (arith, signed, mean, year.near, mean_start-bounds y, c.requires.storable)
