@@ -79,6 +79,17 @@ pub record IsHeaderRead (words : List (List ℕ)) (h : Header) (rest : List (Lis
   pub says_overflow : overflow_named overflow ≡ Some h.overflow
   pub says_missing : missing_fields_named missing_fields ≡ Some h.missing_fields
 
+-- the words of a header, one after another
+joined : (words r1 r2 r3 r4 r5 r6 r7 rest : List (List ℕ)) (x0 x1 x2 x3 x4 x5 x6 : List ℕ) → words ≡ x0 ∷ r1 → r1 ≡ x1 ∷ r2
+    → r2 ≡ x2 ∷ r3 → r3 ≡ x3 ∷ r4 → r4 ≡ x4 ∷ r5 → r5 ≡ x5 ∷ r6 → r6 ≡ x6 ∷ r7 → x0 ≡ codes "span" → x6 ≡ codes "from" → r7 ≡ rest
+    → words ≡ codes "span" ∷ x1 ∷ x2 ∷ x3 ∷ x4 ∷ x5 ∷ codes "from" ∷ rest
+joined words r1 r2 r3 r4 r5 r6 r7 rest x0 x1 x2 x3 x4 x5 x6 e0 e1 e2 e3 e4 e5 e6 span from last =
+    let sixth : r6 ≡ codes "from" ∷ rest = e6 ∙ λ i. from i ∷ last i in
+    let fourth : r4 ≡ x4 ∷ x5 ∷ codes "from" ∷ rest = e4 ∙ ap (λ l. x4 ∷ l) (e5 ∙ ap (λ l. x5 ∷ l) sixth) in
+    let second : r2 ≡ x2 ∷ x3 ∷ x4 ∷ x5 ∷ codes "from" ∷ rest = e2 ∙ ap (λ l. x2 ∷ l) (e3 ∙ ap (λ l. x3 ∷ l) fourth) in
+    let first : r1 ≡ x1 ∷ x2 ∷ x3 ∷ x4 ∷ x5 ∷ codes "from" ∷ rest = e1 ∙ ap (λ l. x1 ∷ l) second in
+    e0 ∙ λ i. span i ∷ first i
+
 pub header_is : (words : List (List ℕ)) (h : Header) (rest : List (List ℕ)) → header_read words ≡ Some (h, rest)
     → IsHeaderRead words h rest
 unfolding header_read
@@ -94,16 +105,13 @@ header_is words h rest e =
     let from = fixed_is (codes "from") k.word k.x k.reads in
     let read : Header = record { calendar = b.x; shown = c.x; unit = d.x; overflow = f.x; missing_fields = g.x } in
     let (is, last) = some_pair read h k.rest rest k.then in
-    let seventh : g.rest ≡ codes "from" ∷ rest = k.is ∙ λ i. from i ∷ last i in
-    let fifth : d.rest ≡ f.word ∷ g.word ∷ codes "from" ∷ rest = f.is ∙ ap (λ l. f.word ∷ l) (g.is ∙ ap (λ l. g.word ∷ l) seventh) in
-    let third : b.rest ≡ c.word ∷ d.word ∷ f.word ∷ g.word ∷ codes "from" ∷ rest = c.is ∙ ap (λ l. c.word ∷ l) (d.is ∙ ap (λ l. d.word ∷ l) fifth) in
     record {
       calendar = b.word;
       shown = c.word;
       unit = d.word;
       overflow = f.word;
       missing_fields = g.word;
-      form = a.is ∙ λ i. span i ∷ (b.is ∙ ap (λ l. b.word ∷ l) third) i;
+      form = joined words a.rest b.rest c.rest d.rest f.rest g.rest k.rest rest a.word b.word c.word d.word f.word g.word k.word a.is b.is c.is d.is f.is g.is k.is span from last;
       says_calendar = b.reads ∙ ap (λ (t : Header). Some t.calendar) is;
       says_shown = c.reads ∙ ap (λ (t : Header). Some t.shown) is;
       says_unit = d.reads ∙ ap (λ (t : Header). Some t.unit) is;

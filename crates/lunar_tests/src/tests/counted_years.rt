@@ -5,7 +5,7 @@ ghost use Rattle.cal_days.specs.Day.{IsRuleYear, IsValidDay};
 
 use crate::late_rules::Late;
 use crate::mean_rules::MeanRules;
-use crate::tests::expected::assert_at;
+use crate::tests::expected::{assert_at, assert_day};
 use cal_arith::Steps;
 use cal_base::Calendar;
 use cal_base::scaffold::UnstableSealed;
@@ -222,19 +222,23 @@ fn assert_chinese<R: Rules>(rt: &impl Abort, rules: R) {
         rules,
         years: &years,
     });
-    for (from, to, in_months, in_years) in [
-        (693862, 738926, 125, 2),
-        (738926, 693862, 125, 2),
-        (693863, 738926, 126, 3),
+    for (from, to, unit, expected) in [
+        (693862, 738926, Days, 1),
+        (693862, 738926, Weeks, 1),
+        (693862, 738926, Months, 125),
+        (693862, 738926, Years, 2),
+        (738926, 693862, Days, 1),
+        (738926, 693862, Weeks, 1),
+        (738926, 693862, Months, 125),
+        (738926, 693862, Years, 2),
+        (693863, 738926, Days, 1),
+        (693863, 738926, Weeks, 1),
+        (693863, 738926, Months, 126),
+        (693863, 738926, Years, 3),
     ] {
-        for (unit, expected) in [
-            (Days, 1),
-            (Weeks, 1),
-            (Months, in_months),
-            (Years, in_years),
-        ] {
-            assert_looked_up(rt, &calendar, &years, (from, to), unit, expected);
-        }
+        assert_day(rt, from);
+        assert_day(rt, to);
+        assert_looked_up(rt, &calendar, &years, (from, to), unit, expected);
     }
 }
 

@@ -3,7 +3,7 @@
 //! The mean years are those of a program in Python that tries the moons and the terms one after another.
 
 ghost use Rattle.std.specs.Prelude.{pos};
-ghost use Rattle.cal_days.specs.Day.{IsBetween};
+ghost use Rattle.cal_days.specs.Day.{IsBetween, IsValidDay};
 ghost use Rattle.cal_east_asian.specs.MeanYears.{IsOffset};
 
 use crate::mean_rules::MeanRules;
@@ -517,33 +517,47 @@ fn row_of_thirties(rt: &impl Abort, related_iso: i32, first: i64) -> EastAsianRo
     year.expect(rt, "the year is there").row()
 }
 
-/// In the row's year of 1912 the first month has 30 days, and in the computed one 29.
+/// A row of 1912 in which the first month has 30 days; in the computed year it has 29.
+fn row_of_1912(rt: &impl Abort) -> EastAsianRow {
+    let year = year_by_turns(1912, 698026, 29);
+    year.expect(rt, "the year is there").row()
+}
+
+/// The place of the month of a day, and its day of the month.
+fn month_and_day(china: ChineseTraditional<'_>, day: RataDie) -> (u8, u8)
+    requires { IsValidDay day }
+{
+    let date = china.from_rata_die(day);
+    (china.month(&date).ordinal, china.day_of_month(&date).0)
+}
+
 #[test]
 fn a_row_takes_the_place_of_a_computed_year(rt: HostRuntime) {
-    let year = year_by_turns(1912, 698026, 29).expect(&rt, "the year is there");
-    let rows = [year.row()];
-    let made = EastAsianTable::try_new(Side::China, &rows);
-    let china = ChineseTraditional::new(made.expect(&rt, "the table is accepted"));
+    let rows = [row_of_1912(&rt)];
+    let table = EastAsianTable::try_new(Side::China, &rows).expect(&rt, "it is accepted");
+    let day = RataDie::new(698055);
+    let by_the_row = month_and_day(ChineseTraditional::new(table), day);
+    assert_same(&rt, by_the_row, (1, 30));
+    let none = EastAsianTable::none(Side::China);
+    let computed = month_and_day(ChineseTraditional::new(none), day);
+    assert_same(&rt, computed, (2, 1));
+}
+
+#[test]
+fn calendars_over_other_rows_are_not_compatible(rt: HostRuntime) {
+    let rows = [row_of_1912(&rt)];
+    let table = EastAsianTable::try_new(Side::China, &rows).expect(&rt, "it is accepted");
+    let china = ChineseTraditional::new(table);
     let computed = ChineseTraditional::new(EastAsianTable::none(Side::China));
-    let last = RataDie::new(698055);
-    let date = china.from_rata_die(last);
-    assert_same(&rt, china.month(&date).ordinal, 1);
-    assert_same(&rt, china.day_of_month(&date).0, 30);
-    assert_same(
-        &rt,
-        computed.month(&computed.from_rata_die(last)).ordinal,
-        2,
-    );
-    assert_holds(
-        &rt,
-        "the same table",
-        china.check_date_compatibility(&china).is_ok(),
-    );
-    assert_holds(
-        &rt,
-        "another table",
-        china.check_date_compatibility(&computed).is_err(),
-    );
+    let same = china.check_date_compatibility(&china).is_ok();
+    assert_holds(&rt, "the same table", same);
+    let other = china.check_date_compatibility(&computed).is_err();
+    assert_holds(&rt, "another table", other);
+}
+
+#[test]
+fn korea_accepts_the_row_too(rt: HostRuntime) {
+    let rows = [row_of_1912(&rt)];
     let korea = EastAsianTable::try_new(Side::Korea, &rows);
     assert_holds(&rt, "Korea", korea.is_ok());
 }

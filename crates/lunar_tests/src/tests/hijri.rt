@@ -147,24 +147,30 @@ fn is_leap_year(hijri: Hijri<TabularAlgorithm>, year: i32) -> Option<bool> {
     }
 }
 
-/// The day before the first day of year 1 lies in the first year before the Hijra.
+/// The tabular calendar of type II, from an epoch on.
+fn type_ii(epoch: TabularAlgorithmEpoch) -> Hijri<TabularAlgorithm> {
+    Hijri::new_tabular(TabularAlgorithmLeapYears::TypeII, epoch)
+}
+
+#[test]
+fn the_day_before_year_1_is_in_the_first_year_before_the_hijra(rt: HostRuntime) {
+    let friday = type_ii(TabularAlgorithmEpoch::Friday);
+    let date = friday.from_rata_die(RataDie::new(227014));
+    let named = friday.year_info(&date);
+    let found = (named.extended_year, named.year, named.era.as_str());
+    assert_same(&rt, found, (0, 1, "bh"));
+    assert_same(&rt, day_of_tabular(friday, &date).to_i64_date(), 227014);
+}
+
 #[test]
 fn a_date_belongs_to_its_own_epoch(rt: HostRuntime) {
-    let leap_years = TabularAlgorithmLeapYears::TypeII;
-    let friday = Hijri::new_tabular(leap_years, TabularAlgorithmEpoch::Friday);
-    let thursday = Hijri::new_tabular(leap_years, TabularAlgorithmEpoch::Thursday);
+    let friday = type_ii(TabularAlgorithmEpoch::Friday);
+    let thursday = type_ii(TabularAlgorithmEpoch::Thursday);
     let date = friday.from_rata_die(RataDie::new(227014));
-    assert_same(&rt, friday.extended_year(&date), 0);
-    assert_same(&rt, friday.year_info(&date).year, 1);
-    assert_same(&rt, friday.year_info(&date).era.as_str(), "bh");
-    assert_holds(&rt, "its own epoch", friday.owns(&date));
-    assert_same(&rt, thursday.owns(&date), false);
-    assert_same(&rt, day_of_tabular(friday, &date).to_i64_date(), 227014);
-    assert_holds(
-        &rt,
-        "another epoch",
-        friday.check_date_compatibility(&thursday).is_err(),
-    );
+    let owners = (friday.owns(&date), thursday.owns(&date));
+    assert_same(&rt, owners, (true, false));
+    let other = friday.check_date_compatibility(&thursday).is_err();
+    assert_holds(&rt, "another epoch", other);
 }
 
 /// The year 1445 of the Umm al-Qura calendar, if its last month ends where it is to.
@@ -309,22 +315,22 @@ fn twice<'t>(calendar: Held<'t>) -> (Held<'t>, Held<'t>)
     (calendar, calendar)
 }
 
+/// The name of a calendar that was passed on.
+fn name_of(calendar: Held<'_>) -> &'static str {
+    match twice(calendar).0 {
+        Held::UmmAlQura(hijri) => hijri.debug_name(),
+        Held::Simulated(hijri) => hijri.debug_name(),
+        Held::Tabular(hijri) => hijri.debug_name(),
+    }
+}
+
 #[test]
 fn a_calendar_is_passed_on_by_value(rt: HostRuntime) {
     let table = HijriTable::none();
-    for calendar in [
-        Held::UmmAlQura(Hijri::new_umm_al_qura(table)),
-        Held::Simulated(Hijri::new_simulated_mecca(table)),
-        Held::Tabular(Hijri::new_tabular(
-            TabularAlgorithmLeapYears::TypeII,
-            TabularAlgorithmEpoch::Thursday,
-        )),
-    ] {
-        let name = match twice(calendar).0 {
-            Held::UmmAlQura(hijri) => hijri.debug_name(),
-            Held::Simulated(hijri) => hijri.debug_name(),
-            Held::Tabular(hijri) => hijri.debug_name(),
-        };
-        assert_holds(&rt, "the name", name.len() > 0);
-    }
+    let umm_al_qura = name_of(Held::UmmAlQura(Hijri::new_umm_al_qura(table)));
+    assert_holds(&rt, "Umm al-Qura", umm_al_qura.len() > 0);
+    let simulated = name_of(Held::Simulated(Hijri::new_simulated_mecca(table)));
+    assert_holds(&rt, "simulated", simulated.len() > 0);
+    let tabular = name_of(Held::Tabular(type_ii(TabularAlgorithmEpoch::Thursday)));
+    assert_holds(&rt, "tabular", tabular.len() > 0);
 }

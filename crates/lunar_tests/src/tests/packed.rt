@@ -1,6 +1,6 @@
 //! The bytes that dates are packed into: those of both ends of the valid days, and of other days.
 
-use crate::tests::expected::{assert_at, assert_packable, assert_year};
+use crate::tests::expected::{assert_at, assert_packable};
 use cal_arith::{PackWithMD, Years};
 use cal_east_asian::{
     ChineseTraditional, EastAsianRow, EastAsianTable, EastAsianTraditionalYear, KoreanTraditional,
@@ -82,66 +82,11 @@ fn hijri_dates_have_the_bytes_of_their_rows(rt: HostRuntime) {
     }
 }
 
-/// The years start on January 19, 3 days after it, and 34 days after it.
-#[test]
-fn east_asian_dates_have_the_bytes_of_their_rows(rt: HostRuntime) {
-    let cases = [
-        (
-            -1000000,
-            0xAAA,
-            0,
-            0,
-            12,
-            30,
-            [170, 10, 0, 158, 129, 123, 225],
-        ),
-        (2023, 0x15B2, 3, 3, 3, 1, [178, 117, 6, 97, 206, 15, 0]),
-        (
-            1000000,
-            0x1FFF,
-            13,
-            34,
-            13,
-            29,
-            [255, 191, 69, 189, 129, 132, 30],
-        ),
-    ];
-    for (related_iso, long_months, leap_month, start_offset, month, day, bytes) in cases {
-        let row = EastAsianRow {
-            related_iso,
-            long_months,
-            leap_month,
-            start_offset,
-        };
-        let year = row.year();
-        assert_packable(&rt, year.related_iso(), month, day);
-        let packed = year.pack(month, day);
-        assert_at(&rt, related_iso, packed, bytes);
-        let kept = EastAsianTraditionalYear::unpack_year(packed);
-        assert_at(&rt, related_iso, kept.related_iso(), related_iso);
-        assert_at(&rt, related_iso, kept.new_year(), year.new_year());
-        assert_at(&rt, related_iso, kept.leap_month(), year.leap_month());
-        assert_at(
-            &rt,
-            related_iso,
-            EastAsianTraditionalYear::unpack_month(packed),
-            month,
-        );
-        assert_at(
-            &rt,
-            related_iso,
-            EastAsianTraditionalYear::unpack_day(packed),
-            day,
-        );
-    }
-}
-
 /// That a date of a year has these bytes, and that they hold it.
 fn assert_bytes(
     rt: &impl Abort,
     year: EastAsianTraditionalYear,
-    month: u8,
-    day: u8,
+    (month, day): (u8, u8),
     bytes: [u8; 7],
 ) {
     let number = year.related_iso();
@@ -158,39 +103,55 @@ fn assert_bytes(
     assert_at(rt, number, unpacked_day, day);
 }
 
-/// The first valid day, a year with a leap month in the place 7, and the last valid day, by mean years. The bytes are
-/// those of a program in Python that tries the moons and the terms one after another.
+/// The year of a row.
+fn year_of_row(
+    related_iso: i32,
+    long_months: u16,
+    leap_month: u8,
+    start_offset: u8,
+) -> EastAsianTraditionalYear {
+    let row = EastAsianRow {
+        related_iso,
+        long_months,
+        leap_month,
+        start_offset,
+    };
+    row.year()
+}
+
+/// The years start on January 19, 3 days after it, and 34 days after it.
 #[test]
-fn computed_east_asian_dates_have_their_bytes(rt: HostRuntime) {
+fn east_asian_dates_have_the_bytes_of_their_rows(rt: HostRuntime) {
+    let first = year_of_row(-1000000, 0xAAA, 0, 0);
+    assert_bytes(&rt, first, (12, 30), [170, 10, 0, 158, 129, 123, 225]);
+    let leap = year_of_row(2023, 0x15B2, 3, 3);
+    assert_bytes(&rt, leap, (3, 1), [178, 117, 6, 97, 206, 15, 0]);
+    let last = year_of_row(1000000, 0x1FFF, 13, 34);
+    assert_bytes(&rt, last, (13, 29), [255, 191, 69, 189, 129, 132, 30]);
+}
+
+/// Where no row says otherwise, Chinese dates have the bytes of mean years: the first valid day, a year with a leap
+/// month in the place 7, and the last valid day. The bytes are those of a program in Python that tries the moons and
+/// the terms one after another.
+#[test]
+fn computed_chinese_dates_have_their_bytes(rt: HostRuntime) {
     let china = ChineseTraditional::new(EastAsianTable::none(Side::China));
+    let first = china.year_info_from_extended(-1000000);
+    assert_bytes(&rt, first, (11, 23), [170, 6, 62, 119, 129, 123, 225]);
+    let leap = china.year_info_from_extended(-999998);
+    assert_bytes(&rt, leap, (12, 1), [173, 234, 16, 129, 133, 123, 225]);
+    let last = china.year_info_from_extended(999999);
+    assert_bytes(&rt, last, (12, 5), [181, 10, 34, 133, 127, 132, 30]);
+}
+
+/// So have Korean dates.
+#[test]
+fn computed_korean_dates_have_their_bytes(rt: HostRuntime) {
     let korea = KoreanTraditional::new(EastAsianTable::none(Side::Korea));
-    for (number, month, day, in_china, in_korea) in [
-        (
-            -1000000,
-            11,
-            23,
-            [170, 6, 62, 119, 129, 123, 225],
-            [170, 6, 62, 119, 129, 123, 225],
-        ),
-        (
-            -999998,
-            12,
-            1,
-            [173, 234, 16, 129, 133, 123, 225],
-            [173, 234, 16, 129, 133, 123, 225],
-        ),
-        (
-            999999,
-            12,
-            5,
-            [181, 10, 34, 133, 127, 132, 30],
-            [173, 10, 34, 133, 127, 132, 30],
-        ),
-    ] {
-        assert_year(&rt, number);
-        let chinese = china.year_info_from_extended(number);
-        assert_bytes(&rt, chinese, month, day, in_china);
-        let korean = korea.year_info_from_extended(number);
-        assert_bytes(&rt, korean, month, day, in_korea);
-    }
+    let first = korea.year_info_from_extended(-1000000);
+    assert_bytes(&rt, first, (11, 23), [170, 6, 62, 119, 129, 123, 225]);
+    let leap = korea.year_info_from_extended(-999998);
+    assert_bytes(&rt, leap, (12, 1), [173, 234, 16, 129, 133, 123, 225]);
+    let last = korea.year_info_from_extended(999999);
+    assert_bytes(&rt, last, (12, 5), [173, 10, 34, 133, 127, 132, 30]);
 }

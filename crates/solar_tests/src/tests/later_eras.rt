@@ -5,6 +5,7 @@ use cal_base::Calendar;
 use cal_days::RataDie;
 use cal_gregory::{EraStartDate, Japanese, JapaneseEras};
 use cal_types::{Month, TinyAsciiStr, YearInput};
+use std::process::Abort;
 
 /// The start of an era on a day.
 fn start(year: i32, month: u8, day: u8) -> EraStartDate {
@@ -28,17 +29,25 @@ fn an_era_after_reiwa_is_listed_last(rt: HostRuntime) {
     assert_same(&rt, last.2, 8);
 }
 
+/// That a day is in an era, and in a year of it.
+fn assert_named(rt: &impl Abort, japanese: &Japanese, day: i64, era: &str, year: i32) {
+    assert_day(rt, day);
+    let named = japanese.year_info(&japanese.from_rata_die(RataDie::new(day)));
+    assert_at(rt, day, (named.era.as_str(), named.year), (era, year));
+}
+
 #[test]
 fn days_about_the_start_of_a_last_era_are_in_their_eras(rt: HostRuntime) {
     let made = eras_with(start(2086, 11, 1), b"fuzu", 8);
     let japanese = Japanese::with_eras(made.expect(&rt, "the era may be listed"));
-    for (day, era, year) in [(761835, "reiwa", 68), (761836, "fuzu", 1)] {
-        assert_day(&rt, day);
-        let date = japanese.from_rata_die(RataDie::new(day));
-        let named = japanese.year_info(&date);
-        assert_at(&rt, day, named.era.as_str(), era);
-        assert_at(&rt, day, named.year, year);
-    }
+    assert_named(&rt, &japanese, 761835, "reiwa", 68);
+    assert_named(&rt, &japanese, 761836, "fuzu", 1);
+}
+
+#[test]
+fn a_date_of_a_last_era_is_on_its_day(rt: HostRuntime) {
+    let made = eras_with(start(2086, 11, 1), b"fuzu", 8);
+    let japanese = Japanese::with_eras(made.expect(&rt, "the era may be listed"));
     let made = japanese.new_date(YearInput::EraYear("fuzu", 1), Month::new(11), 1);
     let date = made.expect(&rt, "the date is there");
     assert_same(&rt, japanese.to_rata_die(&date).to_i64_date(), 761836);

@@ -1,4 +1,4 @@
-use Rattle.std.proofs.Common.{◌≡◌, ◌∙◌, ℕ, ◌<◌, ◌≤◌, ⊎_elim, refl, sym, arith, length, List, slice_get, None}
+use Rattle.std.proofs.Common.{◌≡◌, ◌∙◌, true, false, ℕ, ◌<◌, ◌≤◌, ⊎_elim, refl, sym, arith, length, List, slice_get, None}
 use Rattle.std.proofs.lemmas.List.{length-map}
 use Rattle.std.proofs.lemmas.Option.{slice_get_within, slice_get_cases}
 use Rattle.cal_types.specs.laws.FaultLaws.{fault_refuses}
@@ -10,6 +10,9 @@ use Rattle.cal_east_asian.specs.laws.ComputedLaws.{computed_year}
 use Rattle.cal_east_asian.specs.declared.east_asian_traditional_year.EastAsianTraditionalYear.{EastAsianTraditionalYear}
 use Rattle.cal_east_asian.proofs.table_check.check.Goals as goal
 
+never : {A : Type 0} → false ≡ true → A
+never e = absurd cc
+
 -- where no row stands, the rows are over
 over : (rows : List EastAsianTraditionalYear) (k : ℕ) → slice_get rows k ≡ None → length rows ≤ k
 over rows k none = ⊎_elim {C = length rows ≤ k} (λ there. absurd cc) (λ past. past.0) ((slice_get_cases rows k).1)
@@ -20,7 +23,7 @@ returns-in-Some-first_broken-clause-first c =
 
 pub returns-in-Some-first_broken-clause-exact : goal.returns-in-Some-first_broken-clause-exact
 returns-in-Some-first_broken-clause-exact c =
-    (λ ok. absurd cc, λ accepted. absurd (fault_refuses (meets (computed_year c.args.side) (years_of c.args.rows.now)) (years_of c.args.rows.now) _ (returns-in-Some-first_broken-clause-first c) accepted))
+    (λ ok. never ok, λ accepted. absurd (fault_refuses (meets (computed_year c.args.side) (years_of c.args.rows.now)) (years_of c.args.rows.now) _ (returns-in-Some-first_broken-clause-first c) accepted))
 
 pub overflow_add-index : goal.overflow_add-index
 overflow_add-index c =
