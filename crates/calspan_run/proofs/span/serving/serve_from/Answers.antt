@@ -1,5 +1,6 @@
-use Rattle.std.proofs.Common.{◌++◌, refl, subst, ◌∙◌, inr, arith}
+use Rattle.std.proofs.Common.{◌≡◌, ◌++◌, refl, subst, ◌∙◌, inr, arith}
 use Rattle.byte_io.specs.Lines.{open_line}
+use Rattle.byte_io.specs.declared.reader.Next.TheVariants.{Line, Spent}
 use Rattle.request_lines.specs.Lines.{line_of}
 use Rattle.calspan_run.specs.Progress.{standing_of}
 use Rattle.calspan_run.specs.Answers.{Answering, IsAnswerTo, status_at}
@@ -8,6 +9,10 @@ use Rattle.calspan_run.specs.declared.span.answers.Answered.{Answered}
 use Rattle.calspan_run.specs.declared.status.Status.TheVariants.{TableRefused}
 use Rattle.calspan_run.proofs.UnderwayLemmas.{line_on, chunk_on, write_stopped, read_stopped, too_much, late_ends, input_ends, span_ends, status_is_end}
 use Rattle.calspan_run.proofs.span.serving.serve_from.Goals as goal
+
+-- a chunk that is spent holds no line
+spent : ¬ (Spent ≡ Line)
+spent e = cc
 
 pub returns-in-Err : goal.returns-in-Err
 returns-in-Err g c old rows tables at =
@@ -54,7 +59,7 @@ lines-preserved g c old rows tables at =
     let h = c.lines.invariant old rows tables at in
     let f = c.in-Spent.ensures.gives h.bytes h.lines h.rest h.at h.holds in
     let (x, took, on) = c.in-Some.ensures.some refl in
-    chunk_on old _ _ _ _ _ _ _ rows c.lines.progress.refused h _ _ _ _ _ _ _ _ x f (c.in-Spent.ensures.else_same (λ e. cc)) c.in-Some.ensures.same_lines
+    chunk_on old _ _ _ _ _ _ _ rows c.lines.progress.refused h _ _ _ _ _ _ _ _ x f (c.in-Spent.ensures.else_same spent) c.in-Some.ensures.same_lines
     (c.in-Ok-flush.ensures.text old.taken h.text h.so_far) took (on h.bytes h.lines (open_line h.bytes) f.at) c.in-Some.ensures.later c.in-Ok-flush.ensures.cause.later
 
 pub returns-in-End : goal.returns-in-End
@@ -62,7 +67,7 @@ returns-in-End g c old rows tables at =
     let h = c.lines.invariant old rows tables at in
     let f = c.in-Spent.ensures.gives h.bytes h.lines h.rest h.at h.holds in
     let (took, end) = c.in-End.ensures.end refl in
-    let count = c.lines-in-End.ensures.value ∙ (c.in-End.ensures.same_lines ∙ (c.in-Spent.ensures.else_same (λ e. cc) ∙ h.counted)) in
+    let count = c.lines-in-End.ensures.value ∙ (c.in-End.ensures.same_lines ∙ (c.in-Spent.ensures.else_same spent ∙ h.counted)) in
     let (text, s, behind, ends) = c.finish.ensures old.taken h.lines h.text (open_line h.bytes) rows tables count f.holds h.answers (c.in-Ok-flush.ensures.text old.taken h.text h.so_far) in
     span_ends old _ _ _ _ _ text (status_at s) c.finish.result (status_is_end s) (omega (arith, h.write_later, c.in-Ok-flush.ensures.cause.later))
     (input_ends old _ _ _ _ _ _ _ rows c.lines.progress.refused h _ _ _ text s f took end behind) ends
