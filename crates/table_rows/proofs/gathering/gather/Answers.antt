@@ -1,7 +1,12 @@
-use Rattle.std.proofs.Common.{refl, ◌∙◌, arith}
+use Rattle.std.proofs.Common.{◌≡◌, refl, ◌∙◌, arith}
 use Rattle.byte_io.specs.Lines.{open_line}
+use Rattle.byte_io.specs.declared.reader.Next.TheVariants.{Line, Spent}
 use Rattle.table_rows.proofs.GatheringLemmas.{line_gathered, met_request, line_refused, line_wanted_memory, chunk_gathered, reading_stopped, took_too_many}
 use Rattle.table_rows.proofs.gathering.gather.Goals as goal
+
+-- a chunk that is spent holds no line
+spent : ¬ (Spent ≡ Line)
+spent e = cc
 
 pub lines-preserved-in-GoesOn : goal.lines-preserved-in-GoesOn
 lines-preserved-in-GoesOn g c = record {
@@ -42,7 +47,7 @@ lines-preserved g c = record {
       let h = c.lines.invariant.gathering left at in
       let f = c.in-Spent.ensures.gives h.bytes h.lines h.rest h.at h.holds in
       let (x, took, on) = c.in-Some.ensures.some refl in
-      chunk_gathered left _ _ _ _ h _ _ f _ _ x (c.in-Spent.ensures.else_same (λ e. cc)) c.in-Some.ensures.same_lines took (on h.bytes h.lines (open_line h.bytes) f.at);
+      chunk_gathered left _ _ _ _ h _ _ f _ _ x (c.in-Spent.ensures.else_same spent) c.in-Some.ensures.same_lines took (on h.bytes h.lines (open_line h.bytes) f.at);
   later = omega (arith, c.lines.invariant.later, c.in-Some.ensures.later);
 }
 
@@ -51,7 +56,7 @@ returns-in-End-clause-gathers g c left faults later at =
     let h = c.lines.invariant.gathering left at in
     let f = c.in-Spent.ensures.gives h.bytes h.lines h.rest h.at h.holds in
     let (took, end) = c.in-End.ensures.end refl in
-    let same = c.in-End.ensures.same_lines ∙ c.in-Spent.ensures.else_same (λ e. cc) in
+    let same = c.in-End.ensures.same_lines ∙ c.in-Spent.ensures.else_same spent in
     c.gather_last.ensures left _ _ faults _ _ _ _ _ h f (c.lines-in-End.ensures.value ∙ same) same took end
 
 pub returns-in-Fault-clause-gathers : goal.returns-in-Fault-clause-gathers
