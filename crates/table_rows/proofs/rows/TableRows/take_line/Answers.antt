@@ -1,5 +1,8 @@
-use Rattle.std.proofs.Common.{[], Err, sym, subst, ◌∙◌}
+use Rattle.std.proofs.Common.{◌≡◌, [], Bool, true, Err, length, refl, sym, subst, ◌∙◌}
 use Rattle.byte_io.specs.Buffer.{Holds}
+use Rattle.std.specs.Prelude.{nat_lt}
+use Rattle.std.specs.Str.Lines.{strip_carriage_return}
+use Rattle.request_lines.specs.Lines.{Nothing, SaysAs, is_row, is_silent}
 use Rattle.table_rows.specs.Reading.{IsLineTaken}
 use Rattle.table_rows.specs.RowsSaid.{rows_said}
 use Rattle.table_rows.specs.declared.errors.RowError.{RowError}
@@ -33,3 +36,11 @@ returns-in-NoMemory c =
     let whole = c.args.line.now in
     let held : Holds c.extend.new.self whole = c.extend.ensures [] c.new-buffer.ensures in
     c.in-NoMemory.ensures whole held (sym (c.is_silent.ensures whole held) ∙ c.if-is_silent.false)
+
+pub returns-then-is_silent : goal.returns-then-is_silent
+returns-then-is_silent c =
+    let whole = c.args.line.now in
+    let held : Holds c.extend.new.self whole = c.extend.ensures [] c.new-buffer.ensures in
+    let text = strip_carriage_return whole in
+    let silent : true ≡ is_silent whole = sym c.if-is_silent.true ∙ c.is_silent.ensures whole held in
+    (subst (λ (b : Bool). SaysAs b (nat_lt 512 (length whole)) (is_row text) text Nothing) silent refl, refl)
