@@ -49,7 +49,7 @@ fn print_solar(rt: &HostRuntime, day: &Date<Iso>) -> io::Result<()> {
 
 /// The same day in the calendars of the moon alone.
 fn print_hijri(rt: &HostRuntime, day: &Date<Iso>) -> io::Result<()> {
-    for leap_years in [
+    for &leap_years in &[
         TabularAlgorithmLeapYears::TypeII,
         TabularAlgorithmLeapYears::TypeI,
     ] {

@@ -37,7 +37,7 @@ where
 
 /// The date of a form that is filled in rightly, and the fault of one that isn't.
 fn print_forms(rt: &HostRuntime) -> io::Result<()> {
-    for day in [29, 30] {
+    for &day in &[29, 30] {
         match date_of_form(2020, 2, day, GREGORIAN) {
             Ok(date) => print_form(rt, day, &date)?,
             Err(fault) => println!(rt; "form of 2020-02-{day}: {fault}")?,
@@ -76,7 +76,7 @@ where
 
 /// One month and two months after 2020-01-31.
 fn print_recurrence(rt: &HostRuntime) -> io::Result<()> {
-    for months in [1, 2] {
+    for &months in &[1, 2] {
         let first = Date::from_rata_die(RataDie::new(737455), GREGORIAN);
         match months_later(first, months) {
             Ok(date) => print_later(rt, months, &date)?,
@@ -110,7 +110,7 @@ fn print_order(rt: &HostRuntime) -> io::Result<()> {
 
 /// The day of a text, and why there is none.
 fn print_texts(rt: &HostRuntime) -> io::Result<()> {
-    for text in ["2024-03-01[u-ca=hebrew]", "2024-03-01[u-ca=gregory]"] {
+    for &text in &["2024-03-01[u-ca=hebrew]", "2024-03-01[u-ca=gregory]"] {
         match hebrew_text_in_gregorian(text) {
             Ok(date) => println!(rt; "{text}: {date:?}")?,
             Err(fault) => println!(rt; "{text}: {fault}")?,
@@ -183,7 +183,7 @@ row china 1914 698734 llslslslslssl 6
 /// and a line that is no row.
 fn print_new_years(rt: &HostRuntime) -> io::Result<()> {
     let missing: &[u8] = b"row china 1912 698026 lslsslssllss 0";
-    for text in [PUBLISHED, b"", missing, b"row china 1914"] {
+    for &text in &[PUBLISHED, b"", missing, b"row china 1914"] {
         match new_year_by_rows(rt.alloc(), text, 1914) {
             Ok(new_year) => println!(rt; "new year of 1914: {new_year:?}")?,
             Err(fault) => println!(rt; "new year of 1914: {fault}")?,
@@ -215,7 +215,7 @@ fn print_stored_dates(rt: &HostRuntime) -> io::Result<()> {
     let late: &[u8] = b"row hijri 1445 738720 sllslslslsll
 row hijri 1446 739075 sllslslslsll";
     let (first, second) = (RataDie::new(738749), RataDie::new(739105));
-    for (text, day) in [
+    for &(text, day) in &[
         (TWO_YEARS, first),
         (TWO_YEARS, second),
         (other, first),

@@ -161,7 +161,7 @@ fn assert_found<C: Calendar>(
 #[test]
 fn the_first_index(rt: HostRuntime) {
     let months = rule_of(&rt, DateDurationUnit::Months, 1, Missing::Constrain);
-    for (day, first) in [(737850, 2), (737849, 1), (737821, 0), (-365242499, 0)] {
+    for &(day, first) in &[(737850, 2), (737849, 1), (737821, 0), (-365242499, 0)] {
         let expected = (Some(first), Some(737849));
         assert_found(&rt, &Iso, 737821, months, (day, 1), expected);
     }
@@ -180,7 +180,7 @@ fn past_the_last_valid_day(rt: HostRuntime) {
     assert_alone(&rt, DateDurationUnit::Weeks, 2);
     assert_alone(&rt, DateDurationUnit::Months, 1);
     assert_alone(&rt, DateDurationUnit::Years, 1);
-    for unit in [
+    for &unit in &[
         DateDurationUnit::Days,
         DateDurationUnit::Weeks,
         DateDurationUnit::Months,
@@ -269,8 +269,8 @@ fn assert_parts(rt: &impl Abort, start: i64, rule: Rule) {
 #[test]
 fn windows_of_the_whole(rt: HostRuntime) {
     use DateDurationUnit::{Days, Months, Weeks, Years};
-    for start in [738197, 737821, 738580, 738550] {
-        for (unit, every) in [
+    for &start in &[738197, 737821, 738580, 738550] {
+        for &(unit, every) in &[
             (Years, 1),
             (Years, 3),
             (Months, 1),

@@ -73,7 +73,7 @@ fn assert_date<C: Calendar>(
 
 #[test]
 fn a_day_has_its_date(rt: HostRuntime) {
-    for (rd, iso, taiwanese, month, day, day_of_year, days, of_month, leap) in [
+    for &(rd, iso, taiwanese, month, day, day_of_year, days, of_month, leap) in &[
         (727443, 1992, 81, 9, 2, 246, 366, 30, true),
         (697978, 1912, 1, 1, 1, 1, 366, 31, true),
         (737484, 2020, 109, 2, 29, 60, 366, 29, true),
@@ -143,7 +143,7 @@ fn assert_resolved(
 fn fields_name_a_date_or_have_a_first_fault(rt: HostRuntime) {
     use DateFromFieldsError::{InvalidDay, MonthNotInCalendar, Overflow as OutOfRange};
     use Overflow::{Constrain, Reject};
-    for (iso, taiwanese, month, day, overflow, want) in [
+    for &(iso, taiwanese, month, day, overflow, want) in &[
         (2020, 109, Month::new(2), 29, Reject, Ok(737484)),
         (2021, 110, Month::new(2), 29, Constrain, Ok(737849)),
         (
@@ -203,7 +203,7 @@ fn assert_made(
 #[test]
 fn a_year_a_month_and_a_day_make_a_date_or_have_a_first_fault(rt: HostRuntime) {
     use DateNewError::{InvalidDay, InvalidYear, MonthNotInCalendar};
-    for (iso, taiwanese, month, day, want) in [
+    for &(iso, taiwanese, month, day, want) in &[
         (2020, 109, Month::new(2), 29, Ok(737484)),
         (2021, 110, Month::new(2), 29, Err(InvalidDay { max: 28 })),
         (2021, 110, Month::new(2), 0, Err(InvalidDay { max: 28 })),
@@ -258,7 +258,7 @@ fn assert_sum(
 fn a_sum_is_that_of_a_slow_count(rt: HostRuntime) {
     use DateAddError::{InvalidDay, Overflow as OutOfRange};
     use Overflow::{Constrain, Reject};
-    for (rd, added, overflow, want) in [
+    for &(rd, added, overflow, want) in &[
         (738945, duration(false, 187, 3, 0, 1), Constrain, Ok(807335)),
         (738885, duration(true, 0, 1, 1, 0), Constrain, Ok(738847)),
         (-146403, duration(true, 92, 0, 1, 1), Constrain, Ok(-180014)),
@@ -372,7 +372,7 @@ fn assert_difference(
 #[test]
 fn a_difference_is_that_of_a_slow_count(rt: HostRuntime) {
     use DateDurationUnit::{Days, Months, Weeks, Years};
-    for (from, to, unit, want) in [
+    for &(from, to, unit, want) in &[
         (738945, 739310, Years, duration(false, 0, 11, 0, 30)),
         (739310, 738945, Years, duration(true, 0, 11, 0, 28)),
         (738976, 738579, Months, duration(true, 0, 13, 0, 0)),

@@ -170,8 +170,8 @@ fn a_counted_difference_makes_no_other_look_ups(rt: HostRuntime) {
         others: Cell::new(0),
     };
     // From year 1 to year 1001 of 354 days, and back.
-    for (from, to) in [(1, 354001), (354001, 1)] {
-        for (unit, most) in [(Days, 8), (Weeks, 8), (Months, 1008), (Years, 8)] {
+    for &(from, to) in &[(1, 354001), (354001, 1)] {
+        for &(unit, most) in &[(Days, 8), (Weeks, 8), (Months, 1008), (Years, 8)] {
             let options = DateDifferenceOptions {
                 largest_unit: Some(unit),
             };

@@ -89,7 +89,7 @@ fn each_unit_has_its_difference(rt: HostRuntime) {
 fn dates_have_the_order_of_their_days(rt: HostRuntime) {
     let cal = AlternatingMonths;
     let first = ArithmeticDate::from_rata_die(RataDie::new(30), &cal);
-    for (number, order) in [
+    for &(number, order) in &[
         (29, Ordering::Greater),
         (30, Ordering::Equal),
         (31, Ordering::Less),

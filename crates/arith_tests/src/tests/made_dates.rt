@@ -24,7 +24,7 @@ fn with_overflow(overflow: Option<Overflow>) -> DateFromFieldsOptions {
 #[test]
 fn fields_name_dates(rt: HostRuntime) {
     let cal = AlternatingMonths;
-    for (year, month, day, overflow, number) in [
+    for &(year, month, day, overflow, number) in &[
         (1, 1, 1, None, 1),
         (0, 12, 29, None, 0),
         (2, 2, 29, Some(Overflow::Reject), 354 + 30 + 29),
@@ -44,7 +44,7 @@ fn first_fault_of_fields_is_the_answer(rt: HostRuntime) {
     use DateFromFieldsError::{InvalidDay, MonthNotInCalendar, Overflow as OutOfRange};
     use Overflow::{Constrain, Reject};
     let cal = AlternatingMonths;
-    for (year, month, day, overflow, want) in [
+    for &(year, month, day, overflow, want) in &[
         (1040001, Month::new(13), 0, Constrain, OutOfRange),
         (-1040001, Month::new(1), 1, Reject, OutOfRange),
         (1040000, Month::new(13), 0, Constrain, MonthNotInCalendar),
@@ -62,7 +62,7 @@ fn first_fault_of_fields_is_the_answer(rt: HostRuntime) {
 #[test]
 fn years_months_and_days_make_dates(rt: HostRuntime) {
     let cal = AlternatingMonths;
-    for (year, month, day, number) in [
+    for &(year, month, day, number) in &[
         (1, 2, 1, 31),
         (9999, 12, 29, 3539646),
         (-9999, 1, 1, -3539999),
@@ -81,7 +81,7 @@ fn first_fault_of_a_year_a_month_and_a_day_is_the_answer(rt: HostRuntime) {
     use DateNewError::{InvalidDay, InvalidEra, InvalidYear, MonthNotInCalendar};
     use YearInput::{EraYear, Extended};
     let cal = AlternatingMonths;
-    for (year, month, day, want) in [
+    for &(year, month, day, want) in &[
         (Extended(10000), Month::new(13), 0, InvalidYear),
         (Extended(-10000), Month::new(1), 1, InvalidYear),
         (EraYear("ce", 10000), Month::new(13), 0, InvalidYear),

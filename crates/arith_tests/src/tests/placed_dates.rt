@@ -18,7 +18,7 @@ fn out_of_range(field: &'static str, value: i32, min: i32, max: i32) -> RangeErr
 #[test]
 fn places_and_days_of_years_make_dates(rt: HostRuntime) {
     let cal = AlternatingMonths;
-    for (year, month, day, number) in [
+    for &(year, month, day, number) in &[
         (1, 2, 1, 31),
         (9999, 12, 29, 3539646),
         (-9999, 1, 1, -3539999),
@@ -41,7 +41,7 @@ fn places_and_days_of_years_make_dates(rt: HostRuntime) {
 #[test]
 fn first_argument_out_of_its_range_is_the_answer(rt: HostRuntime) {
     let cal = AlternatingMonths;
-    for (year, month, day, want) in [
+    for &(year, month, day, want) in &[
         (10000, 0, 0, out_of_range("year", 10000, -9999, 9999)),
         (-10000, 1, 1, out_of_range("year", -10000, -9999, 9999)),
         (2024, 0, 0, out_of_range("month", 0, 1, 12)),
@@ -54,7 +54,7 @@ fn first_argument_out_of_its_range_is_the_answer(rt: HostRuntime) {
         let of_era = ArithmeticDate::from_era_year_month_day("am", year, month, day, &cal);
         assert_at(&rt, year, of_era, Err(DateError::from(want)));
     }
-    for (era, year, want) in [
+    for &(era, year, want) in &[
         (
             "ce",
             10000,
@@ -71,7 +71,7 @@ fn first_argument_out_of_its_range_is_the_answer(rt: HostRuntime) {
 fn first_fault_of_a_lunisolar_date_is_the_answer(rt: HostRuntime) {
     use LunisolarDateError::{InvalidDay, InvalidYear, MonthNotInCalendar};
     let cal = AlternatingMonths;
-    for (year, month, day, want) in [
+    for &(year, month, day, want) in &[
         (10000, Month::new(13), 0, InvalidYear),
         (-10000, Month::new(1), 1, InvalidYear),
         (1, Month::leap(2), 0, MonthNotInCalendar),

@@ -21,7 +21,7 @@ fn a_date_shows_its_parts(rt: HostRuntime) {
 #[test]
 fn a_date_is_one_of_its_calendar(rt: HostRuntime) {
     let cal = AlternatingMonths;
-    for number in [-365242499, 0, 418, 365242134] {
+    for &number in &[-365242499, 0, 418, 365242134] {
         assert_day(&rt, number);
         let date = ArithmeticDate::from_rata_die(RataDie::new(number), &cal);
         assert_holds(&rt, number, date.is_date_of(&cal));

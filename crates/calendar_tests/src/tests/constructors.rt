@@ -23,7 +23,7 @@ fn day_made(
 #[test]
 fn constructors_name_known_days(rt: HostRuntime) {
     use DateNewError::{InvalidDay, InvalidEra, InvalidYear, MonthNotInCalendar};
-    for (calendar, era, year, month, day, want) in [
+    for &(calendar, era, year, month, day, want) in &[
         (ISO, None, 1970, 1, 1, Ok(719163)),
         (GREGORIAN, Some("ce"), 1970, 1, 1, Ok(719163)),
         (JULIAN, Some("bc"), 44, 3, 15, Ok(-15999)),

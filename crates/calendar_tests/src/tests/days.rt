@@ -124,7 +124,7 @@ fn eras_of_buddha_and_of_japan_name_known_dates(rt: HostRuntime) {
         Ok(date) => assert!(rt; date.year().extended_year() == 0),
         Err(cause) => assert!(rt; false, "{cause}"),
     }
-    for (era, year) in [("ce", 2024), ("reiwa", 6)] {
+    for &(era, year) in &[("ce", 2024), ("reiwa", 6)] {
         let year = YearInput::EraYear(era, year);
         match Date::try_new(year, Month::new(3), 1, Japanese::new()) {
             Ok(date) => assert!(rt; number_in(&date) == 738946, "of {era}"),
@@ -221,7 +221,7 @@ fn assert_back<A: AsCalendar + Copy>(rt: &impl Abort, calendar: A)
 where
     A::Calendar: Calendar,
 {
-    for first in [-1000i64, 0, 738000, -365242499, 365241133] {
+    for &first in &[-1000i64, 0, 738000, -365242499, 365241133] {
         for after in 0..=1000i64 {
             let day = first.saturating_add(after);
             assert!(rt; is_named_back(day, calendar), "of {day}");

@@ -19,7 +19,7 @@ fn extended_year_of(
 
 #[test]
 fn eras_name_extended_years(rt: HostRuntime) {
-    for (calendar, era, year, want) in [
+    for &(calendar, era, year, want) in &[
         (ISO, "default", 1992, Ok(1992)),
         (ISO, "default", 0, Ok(0)),
         (ISO, "ce", 1992, Err(InvalidEra)),
@@ -50,7 +50,7 @@ fn eras_name_extended_years(rt: HostRuntime) {
 #[test]
 fn years_of_eras_are_known_days(rt: HostRuntime) {
     let last = code("M12");
-    for (calendar, (era, year, same), month, day, want) in [
+    for &(calendar, (era, year, same), month, day, want) in &[
         (GREGORIAN, ("bce", 5, None), month(12), 31, Ok(-1461)),
         (GREGORIAN, ("bc", 5, Some(-4)), last, 31, Ok(-1461)),
         (JULIAN, ("bce", 2, None), month(12), 31, Ok(-368)),
@@ -95,7 +95,7 @@ fn years_of_eras_are_known_days(rt: HostRuntime) {
 
 #[test]
 fn an_era_is_read_before_years_differ(rt: HostRuntime) {
-    for (calendar, era, year, same, want) in [
+    for &(calendar, era, year, same, want) in &[
         (GREGORIAN, "xx", 5, 5, InvalidEra),
         (GREGORIAN, "bc", 5, 5, InconsistentYear),
         // An extended year beside an era has no range of its own.
@@ -107,7 +107,7 @@ fn an_era_is_read_before_years_differ(rt: HostRuntime) {
         (ISO, "ce", 2020, 2021, InvalidEra),
     ] {
         let years = (Some(era), Some(year), Some(same));
-        for options in [STRICT, LENIENT] {
+        for &options in &[STRICT, LENIENT] {
             let fields = bag(years, code("M1"), Some(0));
             assert!(rt;
                 is_day(fields, options, calendar, Err(want)),

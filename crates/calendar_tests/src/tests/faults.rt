@@ -37,7 +37,7 @@ fn assert_fault(
     options: DateFromFieldsOptions,
     want: DateFromFieldsError,
 ) {
-    for calendar in [ISO, GREGORIAN, JULIAN] {
+    for &calendar in &[ISO, GREGORIAN, JULIAN] {
         assert!(rt;
             is_day(fields, options, calendar, Err(want)),
             "{fields:?}, {options:?}"
@@ -48,7 +48,7 @@ fn assert_fault(
 #[test]
 fn the_first_fault_is_the_answer(rt: HostRuntime) {
     let bad_place = InvalidOrdinalMonth { max: 12 };
-    for (year, month, day, options, want) in [
+    for &(year, month, day, options, want) in &[
         // No month, though the year is past its range.
         (PAST, NO_MONTH, 1, LENIENT, NotEnoughFields),
         // Too many months, though the year isn't named.
@@ -95,7 +95,7 @@ fn the_first_fault_is_the_answer(rt: HostRuntime) {
 
 #[test]
 fn the_missing_day_is_the_first_fault(rt: HostRuntime) {
-    for (year, month, options, want) in [
+    for &(year, month, options, want) in &[
         (NO_YEAR, NO_MONTH, STRICT, NotEnoughFields),
         (PAST, twice(), CLAMPS, NotEnoughFields),
         (NO_YEAR, twice(), LENIENT, NotEnoughFields),
@@ -112,7 +112,7 @@ fn the_missing_day_is_the_first_fault(rt: HostRuntime) {
 
 #[test]
 fn months_and_days_are_constrained(rt: HostRuntime) {
-    for (calendar, year, month, day, want) in [
+    for &(calendar, year, month, day, want) in &[
         (GREGORIAN, 2004, ordinal(15), 40, 731946),
         (GREGORIAN, 2005, ordinal(0), 0, 731947),
         (ISO, 2021, month(2), 29, 737849),
@@ -120,7 +120,7 @@ fn months_and_days_are_constrained(rt: HostRuntime) {
         (JULIAN, 2021, ordinal(2), 29, 737862),
         (JULIAN, 1900, (None, Some("M02"), Some(2)), 30, 693667),
     ] {
-        for options in [CLAMPS, LENIENT] {
+        for &options in &[CLAMPS, LENIENT] {
             let fields = bag(extended(year), month, Some(day));
             assert!(rt; is_day(fields, options, calendar, Ok(want)), "in {year}");
         }

@@ -21,7 +21,7 @@ fn year_and_day(
 
 #[test]
 fn a_month_and_a_day_are_in_the_reference_year(rt: HostRuntime) {
-    for (calendar, number, day, options, want) in [
+    for &(calendar, number, day, options, want) in &[
         (ISO, 1, 1, FILLS, Ok((1972, 1))),
         (ISO, 2, 29, FILLS, Ok((1972, 29))),
         (ISO, 12, 40, LENIENT, Ok((1972, 31))),
@@ -45,7 +45,7 @@ fn a_month_and_a_day_are_in_the_reference_year(rt: HostRuntime) {
 
 #[test]
 fn a_year_and_a_month_are_their_first_day(rt: HostRuntime) {
-    for (calendar, named, year, month, want) in [
+    for &(calendar, named, year, month, want) in &[
         (GREGORIAN, "2005", extended(2005), month(1), 731947),
         (GREGORIAN, "2005 ce", of_era("ce", 2005), ordinal(1), 731947),
         (ISO, "2022", of_era("default", 2022), code("M01"), 738156),

@@ -87,7 +87,7 @@ fn wanted(has: Subset, missing: MissingFieldsStrategy) -> Result<i64, DateFromFi
 
 #[test]
 fn subsets_that_name_year_month_and_day_are_dates(rt: HostRuntime) {
-    for (name, options, missing) in [
+    for &(name, options, missing) in &[
         ("strict", STRICT, Reject),
         ("clamps", CLAMPS, Reject),
         ("fills", FILLS, Ecma),

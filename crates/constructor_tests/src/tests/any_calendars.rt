@@ -119,7 +119,7 @@ fn any_calendar_is_itself(rt: HostRuntime) {
 #[test]
 fn dates_are_converted_to_any_calendar(rt: HostRuntime) {
     use AnyCalendarKind::{Buddhist, Ethiopian, EthiopianAmeteAlem, Gregorian, Iso, Julian};
-    for (from, number, to, extended_year, month, day_of_month) in [
+    for &(from, number, to, extended_year, month, day_of_month) in &[
         (Iso, 727443, Buddhist, 2535, 9, 2),
         (Iso, 1155, Gregorian, 4, 2, 29),
         (Iso, 738156, Julian, 2021, 12, 19),

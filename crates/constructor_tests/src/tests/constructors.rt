@@ -95,7 +95,7 @@ fn assert_made(
 #[test]
 fn one_day_is_made_in_five_calendars(rt: HostRuntime) {
     use AnyCalendarKind::{Buddhist, Gregorian, Indian, Iso, Roc};
-    for (kind, year, month, day) in [
+    for &(kind, year, month, day) in &[
         (Iso, 1992, 9, 2),
         (Gregorian, 1992, 9, 2),
         (Buddhist, 2535, 9, 2),
@@ -110,7 +110,7 @@ fn one_day_is_made_in_five_calendars(rt: HostRuntime) {
 #[test]
 fn solar_dates_have_known_days(rt: HostRuntime) {
     use AnyCalendarKind::{Gregorian, Julian, Persian};
-    for (kind, year, month, day, want) in [
+    for &(kind, year, month, day, want) in &[
         (Gregorian, -4, 12, 31, -1461),
         (Julian, -1, 12, 31, -368),
         (Julian, 2021, 12, 19, 738156),
@@ -124,7 +124,7 @@ fn solar_dates_have_known_days(rt: HostRuntime) {
 #[test]
 fn dates_of_thirteen_months_have_known_days(rt: HostRuntime) {
     use AnyCalendarKind::{Coptic, Ethiopian, EthiopianAmeteAlem};
-    for (kind, year, month, day, want) in [
+    for &(kind, year, month, day, want) in &[
         (Ethiopian, 1962, 4, 24, 719164),
         (EthiopianAmeteAlem, 7462, 4, 24, 719164),
         (Ethiopian, 2015, 13, 6, 738774),
@@ -147,7 +147,7 @@ fn hijri_dates_have_known_days(rt: HostRuntime) {
 #[test]
 fn lunisolar_dates_have_known_days(rt: HostRuntime) {
     use AnyCalendarKind::{Chinese, Dangi, Hebrew};
-    for (kind, year, month, is_leap, day, want) in [
+    for &(kind, year, month, is_leap, day, want) in &[
         (Hebrew, 5782, 5, true, 9, 738196),
         (Hebrew, 5783, 1, false, 15, 738438),
         (Chinese, 1900, 8, true, 1, 693862),
@@ -166,7 +166,7 @@ fn japanese_dates_are_made_in_any_era(rt: HostRuntime) {
     };
     let eras = JapaneseEras::with_last_era(start, TinyAsciiStr::of_text(b"fuzu"), 8);
     let later = Japanese::with_eras(eras.expect(&rt, "the era is accepted"));
-    for (era, year, month, day, same_era, same_year) in [
+    for &(era, year, month, day, same_era, same_year) in &[
         ("ce", 2024, 3, 1, "reiwa", 6),
         ("heisei", 1, 1, 1, "showa", 64),
         ("fuzu", 1, 10, 31, "reiwa", 68),
@@ -202,7 +202,7 @@ fn range_error(field: &'static str, value: i32, min: i32, max: i32) -> RangeErro
 
 #[test]
 fn the_first_argument_out_of_its_range_is_named(rt: HostRuntime) {
-    for (year, month, day, field, value, min, max) in [
+    for &(year, month, day, field, value, min, max) in &[
         (2024, 0, 1, "month", 0, 1, 12),
         (10000, 1, 1, "year", 10000, -9999, 9999),
         (-10000, 13, 32, "year", -10000, -9999, 9999),
@@ -293,7 +293,7 @@ where
 #[test]
 fn constructors_give_each_date_back_and_days_give_its_order(rt: HostRuntime) {
     for kind in KINDS {
-        for (first, count) in [(-1000, 2001), (738000, 1001)] {
+        for &(first, count) in &[(-1000, 2001), (738000, 1001)] {
             let mut before = date_on(first - 1, kind);
             for number in first..first + count {
                 let date = date_on(number, kind);

@@ -39,7 +39,7 @@ fn dates_are_compared_in_one_calendar_alone(rt: HostRuntime) {
     let calendars = [(0, GREGORIAN), (1, ISO), (2, JULIAN)];
     for (place, calendar) in calendars {
         for (other_place, other) in calendars {
-            for days in [
+            for &days in &[
                 (1, 1),
                 (1, 2),
                 (2, 1),

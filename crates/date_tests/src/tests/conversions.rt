@@ -24,7 +24,7 @@ fn date_says_its_year_month_and_day(rt: HostRuntime) {
 
 #[test]
 fn known_days_have_known_dates(rt: HostRuntime) {
-    for (calendar, number, era, year, extended_year, month, day_of_month) in [
+    for &(calendar, number, era, year, extended_year, month, day_of_month) in &[
         (ISO, 738156, "default", 2022, 2022, 1, 1),
         (JULIAN, 738156, "ce", 2021, 2021, 12, 19),
         (GREGORIAN, 1155, "ce", 4, 4, 2, 29),
@@ -53,9 +53,9 @@ fn assert_there_and_back(
 
 #[test]
 fn dates_come_back_from_each_calendar(rt: HostRuntime) {
-    for number in [-365242499, -368, -1, 0, 1, 1155, 577735, 738156, 365242134] {
-        for first in [GREGORIAN, ISO, JULIAN] {
-            for second in [GREGORIAN, ISO, JULIAN] {
+    for &number in &[-365242499, -368, -1, 0, 1, 1155, 577735, 738156, 365242134] {
+        for &first in &[GREGORIAN, ISO, JULIAN] {
+            for &second in &[GREGORIAN, ISO, JULIAN] {
                 assert_there_and_back(&rt, number, first, second);
             }
         }
@@ -64,7 +64,7 @@ fn dates_come_back_from_each_calendar(rt: HostRuntime) {
 
 #[test]
 fn days_out_of_range_are_clamped(rt: HostRuntime) {
-    for (number, want) in [
+    for &(number, want) in &[
         (365242135, 365242134),
         (-365342499, -365242499),
         (365242134, 365242134),

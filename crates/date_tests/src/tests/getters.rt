@@ -26,7 +26,7 @@ where
 #[test]
 fn dates_say_their_place_in_year_month_and_week(rt: HostRuntime) {
     use Weekday::{Friday, Saturday, Tuesday, Wednesday};
-    for (calendar, number, weekday, day_of_year, days_in_month, days_in_year, is_leap) in [
+    for &(calendar, number, weekday, day_of_year, days_in_month, days_in_year, is_leap) in &[
         // 1992-09-02, 2020-02-29, 2021-12-31 and -0001-12-31.
         (ISO, 727443, Wednesday, 246, 30, 366, true),
         (GREGORIAN, 737484, Saturday, 60, 29, 366, true),
@@ -53,7 +53,7 @@ where
 
 #[test]
 fn dates_are_written_with_era_and_calendar(rt: HostRuntime) -> Result<(), AllocError> {
-    for (calendar, number, want) in [
+    for &(calendar, number, want) in &[
         (
             ISO,
             737484,

@@ -16,7 +16,7 @@ fn the_last_days_of_months(rt: HostRuntime) {
     assert!(rt; rule.is_some() && window.is_some());
     if let (Some(rule), Some(window)) = (rule, window) {
         let mut items = Date::from_rata_die(day(737821), Iso).recur(rule, window);
-        for (index, number) in [(0, 737821), (1, 737849), (2, 737880), (3, 737910)] {
+        for &(index, number) in &[(0, 737821), (1, 737849), (2, 737880), (3, 737910)] {
             assert!(rt;
                 parts(items.next()) == Some((index, number)),
                 "item {index}"

@@ -30,7 +30,7 @@ fn assert_gregorian(rt: &impl Abort, text: &str, answer: Result<i64, ParseError>
 
 #[test]
 fn texts_name_known_days(rt: HostRuntime) {
-    for (text, day) in [
+    for &(text, day) in &[
         ("2024-03-01", 738946),
         ("2024-02-29", 738945),
         ("0001-01-01", 1),
@@ -52,7 +52,7 @@ fn texts_name_known_days(rt: HostRuntime) {
 
 #[test]
 fn other_texts_are_off_the_form(rt: HostRuntime) {
-    for text in [
+    for &text in &[
         "-000000-01-01",
         "2024-02-30",
         "2023-02-29",
@@ -108,7 +108,7 @@ fn names_of_other_calendars_are_refused(rt: HostRuntime) {
         CalendarAlgorithm::Gregory,
         CalendarAlgorithm::Hebrew,
     );
-    for (text, answer) in [
+    for &(text, answer) in &[
         ("2024-03-01", Ok(738946)),
         ("2024-03-01[u-ca=gregory]", Ok(738946)),
         ("2024-03-01[!u-ca=gregory]", Ok(738946)),
@@ -131,7 +131,7 @@ fn day_in_tabular(text: &str, leap_years: TabularAlgorithmLeapYears) -> Result<i
 #[test]
 fn a_calendar_without_a_name_takes_any_annotation(rt: HostRuntime) {
     use TabularAlgorithmLeapYears::{TypeI, TypeII};
-    for text in [
+    for &text in &[
         "2024-03-01",
         "2024-03-01[u-ca=hebrew]",
         "2024-03-01[!u-ca=islamic-civil]",
@@ -158,7 +158,7 @@ fn is_refused(date: Option<DateRecord>, cause: ParseError) -> bool {
 #[test]
 fn records_are_tested(rt: HostRuntime) {
     assert!(rt; is_refused(None, ParseError::MissingFields));
-    for (year, month, day, field, value, min, max) in [
+    for &(year, month, day, field, value, min, max) in &[
         (2024, 13, 1, "month", 13, 1, 12),
         (2024, 0, 1, "month", 0, 1, 12),
         (2024, 2, 30, "day", 30, 1, 29),

@@ -12,7 +12,7 @@ fn is_in_week(number: i64, year: i32, week: u8) -> bool {
 /// The weeks are those of the examples that ISO 8601 and its Wikipedia article give, and those of Python's isocalendar.
 #[test]
 fn weeks_are_numbered_by_their_thursdays(rt: HostRuntime) {
-    for (day, year, week) in [
+    for &(day, year, week) in &[
         (737791, 2020, 53),
         (737794, 2021, 1),
         (738946, 2024, 9),

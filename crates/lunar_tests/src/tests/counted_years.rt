@@ -222,7 +222,7 @@ fn assert_chinese<R: Rules>(rt: &impl Abort, rules: R) {
         rules,
         years: &years,
     });
-    for (from, to, unit, expected) in [
+    for &(from, to, unit, expected) in &[
         (693862, 738926, Days, 1),
         (693862, 738926, Weeks, 1),
         (693862, 738926, Months, 125),
@@ -267,8 +267,8 @@ fn assert_hijri<R: cal_hijri::Rules>(rt: &impl Abort, rules: R) {
         rules,
         years: &years,
     });
-    for (from, to) in [(693862, 738926), (738926, 693862)] {
-        for unit in [Days, Weeks, Months, Years] {
+    for &(from, to) in &[(693862, 738926), (738926, 693862)] {
+        for &unit in &[Days, Weeks, Months, Years] {
             assert_looked_up(rt, &calendar, &years, (from, to), unit, 1);
         }
     }

@@ -53,7 +53,7 @@ fn assert_year_shape(
 
 #[test]
 fn mean_years_have_known_months(rt: HostRuntime) {
-    for (offset, year, new_year, bits, leap_month) in [
+    for &(offset, year, new_year, bits, leap_month) in &[
         (28_800_000, 1912, 698026, 0b10101101010, 0),
         (32_400_000, 1912, 698026, 0b10101011010, 0),
         (27_940_000, 1899, 693271, 0b101010101101, 0),
@@ -77,7 +77,7 @@ fn mean_years_have_known_months(rt: HostRuntime) {
 
 #[test]
 fn days_lie_in_known_mean_years(rt: HostRuntime) {
-    for (offset, day, year) in [
+    for &(offset, day, year) in &[
         (28_800_000, 738925, 2023),
         (28_800_000, 738926, 2024),
         (28_800_000, 739279, 2024),
@@ -95,7 +95,7 @@ fn days_lie_in_known_mean_years(rt: HostRuntime) {
 
 #[test]
 fn qing_years_have_their_days_and_leap_months(rt: HostRuntime) {
-    for (year, new_year, long, leap_month) in [
+    for &(year, new_year, long, leap_month) in &[
         (1900, 693626, 7, 9),
         (1901, 694010, 6, 0),
         (1902, 694364, 7, 0),
@@ -154,7 +154,7 @@ fn assert_computed_year<R: Rules>(
 fn computed_years_change_at_1900_and_1912(rt: HostRuntime) {
     let china = ChineseTraditional::new(EastAsianTable::none(Side::China));
     let korea = KoreanTraditional::new(EastAsianTable::none(Side::Korea));
-    for (year, in_china, in_korea) in [
+    for &(year, in_china, in_korea) in &[
         (1899, (693271, 0), (693271, 0)),
         (1900, (693626, 9), (693626, 9)),
         (1911, (697642, 7), (697642, 7)),
@@ -182,7 +182,7 @@ fn assert_year_on<R: Rules>(
 fn days_lie_in_known_computed_years(rt: HostRuntime) {
     let china = ChineseTraditional::new(EastAsianTable::none(Side::China));
     let korea = KoreanTraditional::new(EastAsianTable::none(Side::Korea));
-    for (day, year) in [
+    for &(day, year) in &[
         (693625, 1899),
         (693626, 1900),
         (698025, 1911),
@@ -248,7 +248,7 @@ fn months_of_rows_are_those_of_their_years(rt: HostRuntime) {
     let table = EastAsianTable::try_new(Side::China, &rows);
     let china = ChineseTraditional::new(table.expect(&rt, "the table is accepted"));
     let computed = ChineseTraditional::new(EastAsianTable::none(Side::China));
-    for years in [
+    for &years in &[
         (1850, 2100),
         (1912, 2012),
         (1911, 2013),
@@ -279,7 +279,7 @@ fn leap_months_are_shown_over_any_rules(rt: HostRuntime) {
     assert_same(&rt, calendar.year_info(&first).year, 42);
     assert_same(&rt, calendar.months_in_year(&first), 13);
     assert_holds(&rt, "the leap year", calendar.is_in_leap_year(&first));
-    for (month, ordinal, status) in [
+    for &(month, ordinal, status) in &[
         (Month::new(7), 7, LeapStatus::Normal),
         (Month::new(8), 8, LeapStatus::Base),
         (Month::leap(8), 9, LeapStatus::Leap),
@@ -330,7 +330,7 @@ fn a_year_has_the_lengths_between_its_starts(rt: HostRuntime) {
     assert_same(&rt, year.month_len(1), 29);
     assert_same(&rt, year.month_len(2), 30);
     assert_same(&rt, year.leap_month(), Some(3));
-    for place in [1u8, 14] {
+    for &place in &[1u8, 14] {
         let with_no_such_place = EastAsianTraditionalYear::try_new(2024, starts, Some(place));
         assert_same(&rt, with_no_such_place.is_some(), false);
     }
@@ -370,7 +370,7 @@ fn assert_date<R: Rules>(
 fn days_have_known_dates_in_china_and_korea(rt: HostRuntime) {
     let china = ChineseTraditional::new(EastAsianTable::none(Side::China));
     let korea = KoreanTraditional::new(EastAsianTable::none(Side::Korea));
-    for (day, year, cycle, month, ordinal, day_of_month) in [
+    for &(day, year, cycle, month, ordinal, day_of_month) in &[
         (698025, 1911, 48, Month::new(12), 13, 30),
         (698026, 1912, 49, Month::new(1), 1, 1),
         (693862, 1900, 37, Month::leap(8), 9, 1),
@@ -430,7 +430,7 @@ fn months_are_counted_over_all_valid_days(rt: HostRuntime) {
 #[test]
 fn a_leap_month_without_a_reference_year_is_constrained(rt: HostRuntime) {
     let china = ChineseTraditional::new(EastAsianTable::none(Side::China));
-    for (month, overflow, year) in [
+    for &(month, overflow, year) in &[
         (Month::leap(1), Overflow::Constrain, 1972),
         (Month::leap(8), Overflow::Constrain, 1957),
         (Month::new(12), Overflow::Reject, 1971),
@@ -565,7 +565,7 @@ fn korea_accepts_the_row_too(rt: HostRuntime) {
 /// January 19 of 2023 is day 738539, and places of leap months are 2 to 13.
 #[test]
 fn a_row_is_read_as_the_nearest_year(rt: HostRuntime) {
-    for (start_offset, leap_month, start, place) in [
+    for &(start_offset, leap_month, start, place) in &[
         (0, 0, 738539, None),
         (3, 3, 738542, Some(3)),
         (34, 2, 738573, Some(2)),
@@ -583,7 +583,7 @@ fn a_row_is_read_as_the_nearest_year(rt: HostRuntime) {
         assert_at(&rt, leap_month, year.new_year().to_i64_date(), start);
         assert_at(&rt, leap_month, year.leap_month(), place);
     }
-    for (related_iso, number) in [
+    for &(related_iso, number) in &[
         (-8000001, -8000000),
         (-8000000, -8000000),
         (8000000, 8000000),
@@ -609,7 +609,7 @@ fn assert_start_and_end(rt: &impl Abort, first: i64, last: i64)
 
 #[test]
 fn a_single_row_is_refused_for_its_first_fault(rt: HostRuntime) {
-    for (related_iso, first, last, part) in [
+    for &(related_iso, first, last, part) in &[
         (1912, 698026, 30, TablePart::End),
         (1912, 698027, 29, TablePart::Join),
         (1912, 698027, 30, TablePart::Join),
@@ -635,7 +635,7 @@ fn rows_are_refused_for_the_first_fault(rt: HostRuntime) {
     let three = [y1912, y1913, y1914];
     let gap = [y1912, y1914];
     let twice = [y1912, y1912];
-    for (fault, row, part) in [
+    for &(fault, row, part) in &[
         (
             EastAsianTable::try_new(Side::China, &four).err(),
             3,

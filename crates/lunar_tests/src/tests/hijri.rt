@@ -113,7 +113,7 @@ fn eleven_of_thirty_years_are_leap_years(rt: HostRuntime) {
     let type_i = Hijri::new_tabular(TabularAlgorithmLeapYears::TypeI, friday);
     let type_ii = Hijri::new_tabular(TabularAlgorithmLeapYears::TypeII, friday);
     for (place, by_type_i, by_type_ii) in THIRTY_YEARS {
-        for first in [-60, 0, 1440] {
+        for &first in &[-60, 0, 1440] {
             let year = place.wrapping_add(first);
             assert_at(&rt, year, is_leap_year(type_i, year), Some(by_type_i));
             assert_at(&rt, year, is_leap_year(type_ii, year), Some(by_type_ii));
@@ -230,7 +230,7 @@ fn a_row_takes_the_place_of_a_tabular_year(rt: HostRuntime) {
 /// 1445 starts on day 738720, 5 days after the earliest day, and -8000000 and 8000000 are the last years.
 #[test]
 fn a_row_is_read_as_the_nearest_year(rt: HostRuntime) {
-    for (start_offset, start) in [
+    for &(start_offset, start) in &[
         (0, 738715),
         (5, 738720),
         (10, 738725),
@@ -245,7 +245,7 @@ fn a_row_is_read_as_the_nearest_year(rt: HostRuntime) {
         let found = row.year().new_year().to_i64_date();
         assert_at(&rt, start_offset, found, start);
     }
-    for (extended_year, number) in [
+    for &(extended_year, number) in &[
         (-8000001, -8000000),
         (-8000000, -8000000),
         (8000000, 8000000),
@@ -265,7 +265,7 @@ fn a_table_is_refused_for_its_first_fault(rt: HostRuntime) {
     let row = row_of_1445(739075).expect(&rt, "the year is there");
     let short = row_of_1445(739074).expect(&rt, "the year is there");
     assert_holds(&rt, "a month of 31 days", row_of_1445(739076).is_none());
-    for (rows, row, part) in [
+    for &(rows, row, part) in &[
         ([short, short], 2, TablePart::Year),
         ([row, short], 2, TablePart::Year),
     ] {

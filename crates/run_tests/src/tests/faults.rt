@@ -137,8 +137,8 @@ fn assert_faults(
 
 #[test]
 fn each_read_and_each_write_fails_in_turn(rt: HostRuntime) -> Result<(), Fail> {
-    for lines in [[LEAP_DAY, LEAP_DAY].as_slice(), &[ROW, AFTER_ROW]] {
-        for (most, calls) in [(1usize, 260u64), (7, 40), (4096, 5)] {
+    for &lines in &[[LEAP_DAY, LEAP_DAY].as_slice(), &[ROW, AFTER_ROW]] {
+        for &(most, calls) in &[(1usize, 260u64), (7, 40), (4096, 5)] {
             assert_faults(&rt, rt.alloc(), lines, most, calls)?;
         }
     }

@@ -30,7 +30,7 @@ fn assert_holidays(
     text: &[u8],
     status: Status,
 ) -> Result<(), Fail> {
-    for most in [1usize, 7, 4096] {
+    for &most in &[1usize, 7, 4096] {
         let case = Case {
             words,
             input: book,
@@ -98,7 +98,7 @@ fn a_bad_window_and_then_the_first_bad_record_are_refused(rt: HostRuntime) -> Re
 
 #[test]
 fn words_of_another_form_are_no_command(rt: HostRuntime) -> Result<(), Fail> {
-    for words in [
+    for &words in &[
         ["holidays", "1"].as_slice(),
         &["holidays", "1", "2", "3"],
         &["holidays", "1", "x"],
@@ -111,7 +111,7 @@ fn words_of_another_form_are_no_command(rt: HostRuntime) -> Result<(), Fail> {
 
 #[test]
 fn a_failed_read_writes_nothing_and_a_failed_write_a_prefix(rt: HostRuntime) -> Result<(), Fail> {
-    for (call, status, written) in [
+    for &(call, status, written) in &[
         (1u64, Status::ReadFault, 0usize),
         (2, Status::ReadFault, 0),
         (3, Status::Done, HOLIDAYS.len()),

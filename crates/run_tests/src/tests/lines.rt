@@ -63,7 +63,7 @@ const TEXTS: [Answered; 9] = [
 #[test]
 fn answers_in_any_pieces(rt: HostRuntime) -> Result<(), Fail> {
     for case in &TEXTS {
-        for most in [1, 7, 4096] {
+        for &most in &[1, 7, 4096] {
             assert_answers(&rt, rt.alloc(), case.input, most, case.status, case.text)?;
         }
     }
@@ -103,7 +103,7 @@ fn long_lines(rt: HostRuntime) -> Result<(), Fail> {
         b"err line 1 syntax\n".as_slice(),
         b"err line 1 long\n".as_slice(),
     );
-    for (letters, first, end, status, text) in [
+    for &(letters, first, end, status, text) in &[
         (512usize, b'x', "", Status::Refused, syntax),
         (513, b'x', "", Status::Refused, long),
         (512, b'x', "\n", Status::Refused, syntax),
@@ -119,7 +119,7 @@ fn long_lines(rt: HostRuntime) -> Result<(), Fail> {
             input.push(b'x')?;
         }
         input.extend_from_slice(end.as_bytes())?;
-        for most in [1, 4096] {
+        for &most in &[1, 4096] {
             assert_answers(&rt, rt.alloc(), &input, most, status, text)?;
         }
     }
@@ -128,7 +128,7 @@ fn long_lines(rt: HostRuntime) -> Result<(), Fail> {
 
 #[test]
 fn read_fault_keeps_the_answers_to_whole_lines(rt: HostRuntime) -> Result<(), Fail> {
-    for (most, call, text) in [
+    for &(most, call, text) in &[
         (9usize, 1u64, b"".as_slice()),
         (9, 2, b"err line 1 syntax\n".as_slice()),
         (12, 2, b"err line 1 syntax\n".as_slice()),
@@ -151,7 +151,7 @@ fn read_fault_keeps_the_answers_to_whole_lines(rt: HostRuntime) -> Result<(), Fa
 
 #[test]
 fn write_fault_keeps_a_prefix(rt: HostRuntime) -> Result<(), Fail> {
-    for (most, call, text) in [
+    for &(most, call, text) in &[
         (4096usize, 1u64, b"".as_slice()),
         (10, 2, b"err line 1".as_slice()),
         (10, 4, b"err line 1 syntax\nerr line 2 s".as_slice()),
@@ -183,7 +183,7 @@ fn many_answers(rt: HostRuntime) -> Result<(), Fail> {
 
 #[test]
 fn stops_past_the_limit(rt: HostRuntime) -> Result<(), Fail> {
-    for (more, wanted) in [(0usize, Status::Done), (1, Status::TooLong)] {
+    for &(more, wanted) in &[(0usize, Status::Done), (1, Status::TooLong)] {
         let input = vec![in rt.alloc(); b'\n'; LIMIT + more]?;
         assert_count(&rt, rt.alloc(), &input, wanted, 0)?;
     }

@@ -18,7 +18,7 @@ struct List {
 /// That some lists are written so, however the bytes are cut.
 fn assert_lists(rt: &impl Abort, alloc: Global, lists: &[List]) -> Result<(), Fail> {
     for list in lists {
-        for most in [1usize, 7, 4096] {
+        for &most in &[1usize, 7, 4096] {
             let case = Case {
                 words: list.words,
                 input: list.source,
@@ -427,7 +427,7 @@ fn a_failed_read_writes_nothing_and_a_failed_write_a_prefix(rt: HostRuntime) -> 
         "740029",
     ];
     let source: &[u8] = b"# nothing\n";
-    for (call, status, text) in [
+    for &(call, status, text) in &[
         (1u64, Status::ReadFault, b"".as_slice()),
         (2, Status::ReadFault, b""),
         (3, Status::Done, HEBREW_DAYS),
@@ -444,7 +444,7 @@ fn a_failed_read_writes_nothing_and_a_failed_write_a_prefix(rt: HostRuntime) -> 
         };
         let _left = assert_run(&rt, rt.alloc(), case, status, text)?;
     }
-    for (call, status, written) in [
+    for &(call, status, written) in &[
         (1u64, Status::WriteFault, 0usize),
         (3, Status::WriteFault, 14),
     ] {

@@ -215,7 +215,7 @@ fn assert_answer(rt: &impl Abort, alloc: Global, line: &[u8], answer: &[u8]) -> 
     } else {
         Status::Done
     };
-    for most in [1, 13, 4096] {
+    for &most in &[1, 13, 4096] {
         assert_answers(rt, alloc, line, most, status, answer)?;
     }
     Ok(())

@@ -153,7 +153,7 @@ fn assert_pieces(
     text: &[u8],
     status: Status,
 ) -> Result<(), Fail> {
-    for most in [1, 13, 4096] {
+    for &most in &[1, 13, 4096] {
         assert_answers(rt, alloc, input, most, status, text)?;
     }
     Ok(())
@@ -179,11 +179,11 @@ fn bad_rows_end_the_run(rt: HostRuntime) -> Result<(), Fail> {
 /// stands behind it isn't read.
 #[test]
 fn late_rows_end_the_run(rt: HostRuntime) -> Result<(), Fail> {
-    for (first, answer) in [
+    for &(first, answer) in &[
         (LEAP_DAY, LEAP_DAY_ANSWER),
         (b"span iso\n".as_slice(), b"err line 1 syntax\n".as_slice()),
     ] {
-        for late in [
+        for &late in &[
             b"row hijri 1445 738720 sllslslslsll".as_slice(),
             b"row",
             b"row ?",
@@ -219,7 +219,7 @@ fn faults_among_rows(rt: HostRuntime) -> Result<(), Fail> {
         most: 7,
         failing: &[2],
     };
-    for (reads, writes, status, text) in [
+    for &(reads, writes, status, text) in &[
         (failing, calls_of(4096), Status::ReadFault, b"".as_slice()),
         (
             calls_of(4096),

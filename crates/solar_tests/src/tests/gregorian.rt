@@ -23,7 +23,7 @@ fn fields(year: i32, month: Month, day: u8) -> DateFields<'static> {
 #[test]
 fn years_are_named_in_their_eras(rt: HostRuntime) {
     use YearAmbiguity::{CenturyRequired, EraAndCenturyRequired, Unambiguous};
-    for (extended_year, era, year, index, ambiguity) in [
+    for &(extended_year, era, year, index, ambiguity) in &[
         (-999999, "bce", 1000000, 0, EraAndCenturyRequired),
         (-4, "bce", 5, 0, EraAndCenturyRequired),
         (0, "bce", 1, 0, EraAndCenturyRequired),
@@ -52,7 +52,7 @@ fn years_are_named_in_their_eras(rt: HostRuntime) {
 
 #[test]
 fn known_days_have_known_dates(rt: HostRuntime) {
-    for (number, year, month, day) in [
+    for &(number, year, month, day) in &[
         (1155, 4, 2, 29),
         (-1461, -4, 12, 31),
         (738156, 2022, 1, 1),

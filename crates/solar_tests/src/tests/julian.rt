@@ -28,7 +28,7 @@ fn duration(is_negative: bool, years: u32, months: u32, weeks: u32, days: u32) -
 #[test]
 fn a_day_has_its_date_and_its_year_in_an_era(rt: HostRuntime) {
     use YearAmbiguity::{CenturyRequired, EraAndCenturyRequired};
-    for (day, year, month, day_of_month, day_of_year, days, era, era_year, index, ambiguity) in [
+    for &(day, year, month, day_of_month, day_of_year, days, era, era_year, index, ambiguity) in &[
         (
             738156,
             2021,
@@ -95,7 +95,7 @@ fn a_day_has_its_date_and_its_year_in_an_era(rt: HostRuntime) {
 fn fields_name_a_date_or_have_a_first_fault(rt: HostRuntime) {
     use DateFromFieldsError::{InvalidDay, MonthNotInCalendar, Overflow as OutOfRange};
     use Overflow::{Constrain, Reject};
-    for (year, month, day, overflow, want) in [
+    for &(year, month, day, overflow, want) in &[
         (2021, Month::new(12), 19, Reject, Ok(738156)),
         (1582, Month::new(10), 4, Reject, Ok(577735)),
         (1900, Month::new(2), 29, Reject, Ok(693667)),
@@ -119,7 +119,7 @@ fn fields_name_a_date_or_have_a_first_fault(rt: HostRuntime) {
 fn a_year_a_month_and_a_day_make_a_date_or_have_a_first_fault(rt: HostRuntime) {
     use DateNewError::{InvalidDay, InvalidYear, MonthNotInCalendar};
     let leap_day = Julian.from_rata_die(RataDie::new(693667));
-    for (year, month, day, want) in [
+    for &(year, month, day, want) in &[
         (1900, Month::new(2), 29, Ok(leap_day)),
         (2021, Month::new(2), 29, Err(InvalidDay { max: 28 })),
         (2021, Month::leap(2), 1, Err(MonthNotInCalendar)),
@@ -133,7 +133,7 @@ fn a_year_a_month_and_a_day_make_a_date_or_have_a_first_fault(rt: HostRuntime) {
 fn a_sum_is_a_known_day(rt: HostRuntime) {
     use DateAddError::{InvalidDay, Overflow as OutOfRange};
     use Overflow::{Constrain, Reject};
-    for (day, added, overflow, want) in [
+    for &(day, added, overflow, want) in &[
         // 2021-01-31 and a month: 2021-02-28.
         (737834, duration(false, 0, 1, 0, 0), Constrain, Ok(737862)),
         (
@@ -168,7 +168,7 @@ fn a_sum_is_a_known_day(rt: HostRuntime) {
 #[test]
 fn a_difference_is_a_known_duration(rt: HostRuntime) {
     use DateDurationUnit::{Days, Months, Weeks, Years};
-    for (first, second, unit, want) in [
+    for &(first, second, unit, want) in &[
         // 2020-02-29 to 2021-02-28, and back.
         (737497, 737862, Years, duration(false, 0, 11, 0, 30)),
         (737862, 737497, Years, duration(true, 0, 11, 0, 28)),
@@ -202,7 +202,7 @@ fn a_difference_is_a_known_duration(rt: HostRuntime) {
 #[test]
 fn an_iso_date_is_on_the_same_day(rt: HostRuntime) {
     // 1582-10-04, the day before the reform, and the valid days' ends.
-    for (number, year, month, day) in [
+    for &(number, year, month, day) in &[
         (577735, 1582, 10, 14),
         (-365242499, -999999, 1, 1),
         (365242134, 999999, 12, 31),

@@ -55,7 +55,7 @@ fn a_date_of_a_last_era_is_on_its_day(rt: HostRuntime) {
 
 #[test]
 fn an_era_before_2026_lists_those_up_to_reiwa(rt: HostRuntime) {
-    for (last, text, index) in [
+    for &(last, text, index) in &[
         (start(2025, 12, 31), b"fuzu".as_slice(), 7),
         (start(2019, 5, 1), b"reiwa".as_slice(), 6),
         (start(-1, 0, 99), b"".as_slice(), 0),
@@ -67,7 +67,7 @@ fn an_era_before_2026_lists_those_up_to_reiwa(rt: HostRuntime) {
 
 #[test]
 fn an_era_that_cannot_be_the_last_is_refused(rt: HostRuntime) {
-    for (last, text, index) in [
+    for &(last, text, index) in &[
         (start(2030, 4, 1), b"abc".as_slice(), 9),
         (start(2030, 4, 1), b"abc".as_slice(), 6),
         (start(2030, 4, 0), b"abc".as_slice(), 7),
@@ -80,7 +80,7 @@ fn an_era_that_cannot_be_the_last_is_refused(rt: HostRuntime) {
     ] {
         assert_holds(&rt, (text, index), eras_with(last, text, index).is_none());
     }
-    for last in [start(2026, 1, 1), start(2089, 15, 31)] {
+    for &last in &[start(2026, 1, 1), start(2089, 15, 31)] {
         assert_holds(&rt, last.year, eras_with(last, b"abcdefgz", 7).is_some());
     }
 }

@@ -22,7 +22,7 @@ fn assert_packed(rt: &impl Abort, year: NumberedYear, (month, day): (u8, u8), by
 
 #[test]
 fn iso_dates_have_their_bytes(rt: HostRuntime) {
-    for (number, month_and_day, bytes) in [
+    for &(number, month_and_day, bytes) in &[
         (-999999, (1, 1), [33, 130, 123, 225]),
         (-1, (12, 31), [159, 255, 255, 255]),
         (0, (1, 1), [33, 0, 0, 0]),

@@ -28,7 +28,7 @@ fn leap_years_of_the_rule_that_rise_are_accepted(rt: HostRuntime) {
 /// 1403 is a leap year by the rule and 1404 isn't.
 #[test]
 fn years_are_refused_for_their_first_fault(rt: HostRuntime) {
-    for (years, row, part) in [
+    for &(years, row, part) in &[
         ([1404].as_slice(), 1, TablePart::Rule),
         ([0].as_slice(), 1, TablePart::Year),
         ([10000].as_slice(), 1, TablePart::Year),
@@ -47,7 +47,7 @@ fn a_corrected_year_leaves_its_last_day_to_the_next_year(rt: HostRuntime) {
     let corrections = PersianCorrections::try_new(&[1502]).expect(&rt, "the year is accepted");
     let corrected = Persian::new(corrections);
     let plain = Persian::new(PersianCorrections::none());
-    for (calendar, days, start) in [(corrected, 29, 775489), (plain, 30, 775490)] {
+    for &(calendar, days, start) in &[(corrected, 29, 775489), (plain, 30, 775490)] {
         let made = calendar.new_date(YearInput::Extended(1502), Month::new(12), 1);
         let date = made.expect(&rt, "the date is there");
         assert_at(&rt, days, calendar.days_in_month(&date), days);

@@ -13,7 +13,7 @@ use test_dates::{GREGORIAN, IN_DAYS, ISO, JULIAN, date_on, difference, duration,
 
 #[test]
 fn dates_of_two_calendars_have_no_difference(rt: HostRuntime) {
-    for (first, second, is_same) in [
+    for &(first, second, is_same) in &[
         (ISO, GREGORIAN, false),
         (GREGORIAN, ISO, false),
         (JULIAN, GREGORIAN, false),
@@ -37,7 +37,7 @@ fn dates_of_two_calendars_have_no_difference(rt: HostRuntime) {
 #[test]
 fn differences_are_known_durations(rt: HostRuntime) {
     use DateDurationUnit::{Months, Years};
-    for (calendar, first, second, unit, want) in [
+    for &(calendar, first, second, unit, want) in &[
         // 2020-02-29 to 2021-02-28, and back.
         (ISO, 737484, 737849, Years, duration(false, 0, 11, 0, 30)),
         (
@@ -99,8 +99,8 @@ fn assert_leads_back(
 /// That the differences lead back in each unit and calendar.
 fn assert_all_lead_back(rt: &impl Abort, first: i64, second: i64) {
     use DateDurationUnit::{Days, Months, Weeks, Years};
-    for calendar in [GREGORIAN, ISO, JULIAN] {
-        for unit in [None, Some(Years), Some(Months), Some(Weeks), Some(Days)] {
+    for &calendar in &[GREGORIAN, ISO, JULIAN] {
+        for &unit in &[None, Some(Years), Some(Months), Some(Weeks), Some(Days)] {
             assert_leads_back(rt, calendar, first, second, unit);
         }
     }
@@ -108,7 +108,7 @@ fn assert_all_lead_back(rt: &impl Abort, first: i64, second: i64) {
 
 #[test]
 fn differences_lead_back(rt: HostRuntime) {
-    for (first, second) in [
+    for &(first, second) in &[
         (-365242499, 365242134),
         (365242134, -365242499),
         (-368, 300000000),
@@ -142,7 +142,7 @@ fn counted<L: Ledger>(
 #[test]
 fn counted_differences_are_the_same(rt: HostRuntime) {
     use DateDurationUnit::{Days, Months, Weeks, Years};
-    for (unit, want) in [
+    for &(unit, want) in &[
         (None, duration(false, 0, 0, 0, 365)),
         (Some(Years), duration(false, 0, 11, 0, 30)),
         (Some(Months), duration(false, 0, 11, 0, 30)),

@@ -83,7 +83,7 @@ fn assert_span(
 
 #[test]
 fn span_has_the_days_and_both_dates(rt: HostRuntime) {
-    for (from, to, is_negative, days) in [
+    for &(from, to, is_negative, days) in &[
         (LEAP_DAY, YEAR_LATER, false, 365),
         (YEAR_LATER, LEAP_DAY, true, 365),
         ((1, 1, 1), (2022, 1, 1), false, 738155),
@@ -155,7 +155,7 @@ fn parts_of_two_named_days_are_shown_in_another_calendar(rt: HostRuntime) {
 #[test]
 fn spans_are_counted_in_each_unit(rt: HostRuntime) {
     use DateDurationUnit::{Days, Months, Weeks, Years};
-    for (from, to, largest_unit, (is_negative, years, months, weeks, days)) in [
+    for &(from, to, largest_unit, (is_negative, years, months, weeks, days)) in &[
         (LEAP_DAY, YEAR_LATER, Some(Years), (false, 0, 11, 0, 30)),
         (LEAP_DAY, YEAR_LATER, Some(Months), (false, 0, 11, 0, 30)),
         (LEAP_DAY, YEAR_LATER, Some(Weeks), (false, 0, 0, 52, 1)),
@@ -217,7 +217,7 @@ fn first_bag_at_fault_is_named(rt: HostRuntime) {
     let no_day = (2021, 2, 29);
     let no_month = (2021, 13, 1);
     let no_date = DateFromFieldsError::InvalidDay { max: 28 };
-    for (from, to, side, cause) in [
+    for &(from, to, side, cause) in &[
         (no_day, good, BagSide::From, no_date),
         (good, no_day, BagSide::To, no_date),
         (no_day, no_month, BagSide::From, no_date),
@@ -257,7 +257,7 @@ fn assert_named(rt: &impl Abort, date: &AnyDate, extended_year: i32, (era, year)
 fn each_calendar_names_the_year(rt: HostRuntime) {
     let in_iso: (Named, Named) = (("default", 2020), ("default", -4));
     let in_gregorian: (Named, Named) = (("ce", 2020), ("bce", 5));
-    for (calendar, shown, (from, to), (from_shown, to_shown)) in [
+    for &(calendar, shown, (from, to), (from_shown, to_shown)) in &[
         (ISO, GREGORIAN, in_iso, in_gregorian),
         (GREGORIAN, ISO, in_gregorian, in_iso),
         (GREGORIAN, GREGORIAN, in_gregorian, in_gregorian),

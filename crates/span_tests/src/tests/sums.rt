@@ -55,7 +55,7 @@ fn assert_sum(
 
 #[test]
 fn sums_past_the_last_day_are_refused(rt: HostRuntime) {
-    for added in [
+    for &added in &[
         duration(false, 0, 0, 0, 1),
         duration(false, 2080001, 0, 0, 0),
         duration(false, 0, 0, 4294967295, 0),
@@ -70,7 +70,7 @@ fn sums_past_the_last_day_are_refused(rt: HostRuntime) {
 fn sums_are_known_days(rt: HostRuntime) {
     let (year, month) = (duration(false, 1, 0, 0, 0), duration(false, 0, 1, 0, 0));
     let no_leap_day = DateAddError::InvalidDay { max: 28 };
-    for (calendar, number, added, overflow, want) in [
+    for &(calendar, number, added, overflow, want) in &[
         // 2020-02-29 and a year: 2021-02-28.
         (ISO, 737484, year, None, Ok(737849)),
         (

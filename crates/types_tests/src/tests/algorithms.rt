@@ -23,7 +23,7 @@ fn names_are_those_of_cldr(rt: HostRuntime) {
 
 #[test]
 fn other_texts_name_no_algorithm(rt: HostRuntime) {
-    for name in [
+    for &name in &[
         "",
         "klingon",
         "Gregory",
@@ -48,7 +48,7 @@ fn what_is_left_open_is_the_default(rt: HostRuntime) {
     };
     let umalqura = CalendarAlgorithm::Hijri(Some(HijriCalendarAlgorithm::Umalqura));
     let civil = CalendarAlgorithm::Hijri(Some(HijriCalendarAlgorithm::Civil));
-    for (unresolved, want) in [
+    for &(unresolved, want) in &[
         (None, CalendarAlgorithm::Persian),
         (Some(CalendarAlgorithm::Hijri(None)), umalqura),
         (Some(civil), civil),

@@ -22,7 +22,7 @@ fn the_default_is_zero(rt: HostRuntime) {
 
 #[test]
 fn durations_are_read(rt: HostRuntime) {
-    for (text, is_negative, parts) in [
+    for &(text, is_negative, parts) in &[
         ("P1Y3M5W7D", false, [1, 3, 5, 7]),
         ("-P9W", true, [0, 0, 9, 0]),
         ("P7D5W", false, [0, 0, 5, 7]),

@@ -11,7 +11,7 @@ use cal_days::hebrew::{
 
 #[test]
 fn years_have_known_starts_and_lengths(rt: HostRuntime) {
-    for (year, first, length, is_leap) in [
+    for &(year, first, length, is_leap) in &[
         (1, -1373427, 355, false),
         (5782, 738040, 384, true),
         (5783, 738424, 355, false),
@@ -29,7 +29,7 @@ fn years_have_known_starts_and_lengths(rt: HostRuntime) {
 
 #[test]
 fn days_lie_in_known_years(rt: HostRuntime) {
-    for (day, year, day_of_year, length) in [
+    for &(day, year, day_of_year, length) in &[
         (740255, 5787, 384, 385),
         (740256, 5788, 0, 355),
         (740610, 5788, 354, 355),
@@ -51,7 +51,7 @@ fn days_lie_in_known_years(rt: HostRuntime) {
 
 #[test]
 fn lengths_come_as_often_as_another_program_counts(rt: HostRuntime) {
-    for (length, count) in [
+    for &(length, count) in &[
         (353, 49),
         (354, 123),
         (355, 144),

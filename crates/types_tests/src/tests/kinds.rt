@@ -42,7 +42,7 @@ fn names_of_kinds(rt: HostRuntime) {
         "islamic-type1-thursday",
         Kind::HijriTabularTypeIThursday,
     );
-    for name in [
+    for &name in &[
         "",
         "ISO",
         "iso ",

@@ -98,7 +98,7 @@ fn refuses_what_is_not_listed(rt: HostRuntime) {
         let number = list.day_number(ListedDate { year, month, day });
         assert_at(&rt, (year, month, day), number, None);
     }
-    for number in [738520, 739617, i64::MIN, i64::MAX] {
+    for &number in &[738520, 739617, i64::MIN, i64::MAX] {
         assert_at(&rt, number, list.date_on(number), None);
     }
 }

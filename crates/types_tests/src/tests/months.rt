@@ -10,7 +10,7 @@ use std::alloc::AllocError;
 
 #[test]
 fn month_codes_are_read(rt: HostRuntime) {
-    for (text, want) in [
+    for &(text, want) in &[
         ("M01", Month::new(1)),
         ("M13", Month::new(13)),
         ("M00", Month::new(0)),
@@ -25,7 +25,7 @@ fn month_codes_are_read(rt: HostRuntime) {
 
 #[test]
 fn other_texts_are_no_month_codes(rt: HostRuntime) {
-    for text in [
+    for &text in &[
         "", "M", "M1", "M1L", "m01", "N01", "M001", "M01l", "M01LL", "M01 ", "M 1", "MA1", "M1A",
         "M-1", "01", "M/1", "M:1", "M0:", "M\u{661}",
     ] {
@@ -36,7 +36,7 @@ fn other_texts_are_no_month_codes(rt: HostRuntime) {
 
 #[test]
 fn month_codes_are_written(rt: HostRuntime) -> Result<(), AllocError> {
-    for (month, want) in [
+    for &(month, want) in &[
         (Month::new(1), "M01"),
         (Month::from(12), "M12"),
         (Month::leap(5), "M05L"),
@@ -86,7 +86,7 @@ fn code(text: &str) -> Option<MonthCode> {
 
 #[test]
 fn leap_codes_have_a_normal_code(rt: HostRuntime) {
-    for (leap, normal) in [("M05L", "M05"), ("M12L", "M12"), ("abcL", "abc")] {
+    for &(leap, normal) in &[("M05L", "M05"), ("M12L", "M12"), ("abcL", "abc")] {
         assert_at(
             &rt,
             leap,
@@ -94,7 +94,7 @@ fn leap_codes_have_a_normal_code(rt: HostRuntime) {
             code(normal),
         );
     }
-    for text in ["M05", "M05l", "L", "M0L", ""] {
+    for &text in &["M05", "M05l", "L", "M0L", ""] {
         assert_at(
             &rt,
             text,
@@ -106,7 +106,7 @@ fn leap_codes_have_a_normal_code(rt: HostRuntime) {
 
 #[test]
 fn codes_are_parsed(rt: HostRuntime) {
-    for (text, want) in [
+    for &(text, want) in &[
         ("M05L", Some((5, true))),
         ("M13", Some((13, false))),
         ("m01", None),

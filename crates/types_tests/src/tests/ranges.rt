@@ -8,7 +8,7 @@ use cal_days::ranges::{
 
 #[test]
 fn valid_days_go_to_the_years_999999(rt: HostRuntime) {
-    for (day, is_valid) in [
+    for &(day, is_valid) in &[
         // -1000000-12-31, -999999-01-01, 999999-12-31 and 1000000-01-01.
         (-365242500, false),
         (-365242499, true),
@@ -21,7 +21,7 @@ fn valid_days_go_to_the_years_999999(rt: HostRuntime) {
 
 #[test]
 fn years_have_their_ranges(rt: HostRuntime) {
-    for (year, is_field, is_rule, is_constructor, is_covered) in [
+    for &(year, is_field, is_rule, is_constructor, is_covered) in &[
         (-8000001, false, false, false, false),
         (-8000000, false, true, false, false),
         (-1040001, false, true, false, false),
@@ -48,13 +48,13 @@ fn years_have_their_ranges(rt: HostRuntime) {
 
 #[test]
 fn more_is_added_to_no_date(rt: HostRuntime) {
-    for (years, are_added) in [(0, true), (2080000, true), (2080001, false)] {
+    for &(years, are_added) in &[(0, true), (2080000, true), (2080001, false)] {
         assert_at(&rt, years, are_addable_years(years), are_added);
     }
-    for (months, are_added) in [(0, true), (27040000, true), (27040001, false)] {
+    for &(months, are_added) in &[(0, true), (27040000, true), (27040001, false)] {
         assert_at(&rt, months, are_addable_months(months), are_added);
     }
-    for (days, are_added) in [(0, true), (838240000, true), (838240001, false)] {
+    for &(days, are_added) in &[(0, true), (838240000, true), (838240001, false)] {
         assert_at(&rt, days, are_addable_days(days), are_added);
     }
 }

@@ -5,7 +5,7 @@ use cal_types::{TinyAsciiStr, TinyStrError};
 
 #[test]
 fn texts_are_held(rt: HostRuntime) {
-    for text in ["", "a", "ce", "M05L", "\u{1}\u{7f}"] {
+    for &text in &["", "a", "ce", "M05L", "\u{1}\u{7f}"] {
         let tiny = TinyAsciiStr::<4>::try_from_utf8(text.as_bytes());
         if let Ok(tiny) = tiny {
             assert_same(&rt, tiny.as_str(), text);

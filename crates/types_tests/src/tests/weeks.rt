@@ -6,7 +6,7 @@ use cal_types::{DayOfMonth, DayOfWeekInMonth, WeekInformation, Weekday, WeekdayS
 
 #[test]
 fn known_days_have_known_weekdays(rt: HostRuntime) {
-    for (number, want) in [
+    for &(number, want) in &[
         // 1992-09-02, 2000-01-01, 1969-12-31 and 0001-01-01.
         (727443, Weekday::Wednesday),
         (730120, Weekday::Saturday),
@@ -30,7 +30,7 @@ fn known_days_have_known_weekdays(rt: HostRuntime) {
 
 #[test]
 fn weekdays_are_numbered_from_monday_on(rt: HostRuntime) {
-    for (number, day) in [
+    for &(number, day) in &[
         (1, Weekday::Monday),
         (2, Weekday::Tuesday),
         (3, Weekday::Wednesday),
@@ -49,7 +49,7 @@ fn a_set_has_its_days_in_any_order(rt: HostRuntime) {
     let turned = WeekdaySet::new(&[Weekday::Sunday, Weekday::Saturday, Weekday::Sunday]);
     assert_same(&rt, weekend, turned);
     assert_same(&rt, weekend == WeekdaySet::new(&[Weekday::Saturday]), false);
-    for (name, day, is_in_it) in [
+    for &(name, day, is_in_it) in &[
         ("Monday", Weekday::Monday, false),
         ("Friday", Weekday::Friday, false),
         ("Saturday", Weekday::Saturday, true),
@@ -63,7 +63,7 @@ fn a_set_has_its_days_in_any_order(rt: HostRuntime) {
 #[test]
 fn a_weekend_begins_with_the_first_of_its_days_in_the_week(rt: HostRuntime) {
     let weekend = WeekdaySet::new(&[Weekday::Saturday, Weekday::Sunday]);
-    for (first, days) in [
+    for &(first, days) in &[
         (Weekday::Sunday, [Weekday::Sunday, Weekday::Saturday]),
         (Weekday::Monday, [Weekday::Saturday, Weekday::Sunday]),
         (Weekday::Saturday, [Weekday::Saturday, Weekday::Sunday]),
@@ -85,7 +85,7 @@ fn a_week_without_a_weekend_has_no_days_of_it(rt: HostRuntime) {
 
 #[test]
 fn a_weekday_comes_again_after_seven_days(rt: HostRuntime) {
-    for (day, want) in [(0, 1), (1, 1), (7, 1), (8, 2), (31, 5), (255, 37)] {
+    for &(day, want) in &[(0, 1), (1, 1), (7, 1), (8, 2), (31, 5), (255, 37)] {
         assert_at(
             &rt,
             day,
