@@ -1,5 +1,6 @@
 //! A date of each calendar, made by that calendar's constructor, compared with another day and shown in ISO.
 
+use icu_calendar::hijri::Rules;
 use icu_calendar::{
     AsCalendar, Calendar, ChineseTraditional, Date, EastAsianTable, EthiopianEraStyle, Hijri,
     HijriTable, Iso, Japanese, KoreanTraditional, Month, Persian, PersianCorrections, RataDie,
@@ -47,6 +48,16 @@ fn print_solar(rt: &HostRuntime, day: &Date<Iso>) -> io::Result<()> {
     print_made(rt, Date::try_new_persian(1402, 12, 11, persian), day)
 }
 
+/// 20 Sha'ban 1445 under some rules of the Hijri calendar.
+fn print_under<R: Rules + Copy>(
+    rt: &HostRuntime,
+    calendar: Hijri<R>,
+    day: &Date<Iso>,
+) -> io::Result<()> {
+    let made = Date::try_new_hijri_with_calendar(1445, 8, 20, calendar);
+    print_made(rt, made, day)
+}
+
 /// The same day in the calendars of the moon alone.
 fn print_hijri(rt: &HostRuntime, day: &Date<Iso>) -> io::Result<()> {
     for &leap_years in &[
@@ -54,12 +65,9 @@ fn print_hijri(rt: &HostRuntime, day: &Date<Iso>) -> io::Result<()> {
         TabularAlgorithmLeapYears::TypeI,
     ] {
         let tabular = Hijri::new_tabular(leap_years, TabularAlgorithmEpoch::Friday);
-        let made = Date::try_new_hijri_with_calendar(1445, 8, 20, tabular);
-        print_made(rt, made, day)?;
+        print_under(rt, tabular, day)?;
     }
-    let umm_al_qura = Hijri::new_umm_al_qura(HijriTable::none());
-    let computed = Date::try_new_hijri_with_calendar(1445, 8, 20, umm_al_qura);
-    print_made(rt, computed, day)
+    print_under(rt, Hijri::new_umm_al_qura(HijriTable::none()), day)
 }
 
 /// The same day in the Hebrew calendar, and older days in the Chinese and the Korean one.

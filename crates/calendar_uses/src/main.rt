@@ -16,7 +16,7 @@ use feasts::{hebrew_text_in_gregorian, next_easter};
 use icu_calendar::rows::TableRows;
 use icu_calendar::{
     AnyCalendar, AsCalendar, Calendar, Date, DateDuration, EastAsianTraditional, Gregorian, Hebrew,
-    Hijri, HijriRow, HijriTable, Iso, Julian, LengthenFault, RataDie, Window,
+    Hijri, HijriRow, HijriTable, Iso, Julian, LengthenFault, RataDie, Rebased, Window,
 };
 use mean_rules::MeanRules;
 use std::io;
@@ -237,36 +237,23 @@ fn print_stored_date(
     day: RataDie,
 ) -> io::Result<()> {
     let stored = Date::from_rata_die(day, Hijri::new_umm_al_qura(*table));
-    match updated_date(&stored, table, rows) {
-        Ok(rebased) => print_rebased(rt, &stored, &rebased.date, rebased.moved),
-        Err(fault) => print_not_rebased(rt, &stored, fault),
-    }
+    print_update(rt, &stored, updated_date(&stored, table, rows))
 }
 
-/// A stored date, and why there is no longer table.
-fn print_not_rebased<A: AsCalendar>(
+/// A stored date, the date of its day under the longer table, and whether it has moved; or why there is no longer table.
+fn print_update<A: AsCalendar, B: AsCalendar>(
     rt: &HostRuntime,
     stored: &Date<A>,
-    fault: LengthenFault,
-) -> io::Result<()>
-where
-    A::Calendar: Calendar,
-{
-    println!(rt; "stored {stored:?}: {fault}")
-}
-
-/// A stored date, the date of its day under the longer table, and whether it has moved.
-fn print_rebased<A: AsCalendar, B: AsCalendar>(
-    rt: &HostRuntime,
-    stored: &Date<A>,
-    date: &Date<B>,
-    moved: bool,
+    updated: Result<Rebased<B>, LengthenFault>,
 ) -> io::Result<()>
 where
     A::Calendar: Calendar,
     B::Calendar: Calendar,
 {
-    println!(rt; "stored {stored:?}: {date:?}, moved: {moved}")
+    match updated {
+        Ok(Rebased { date, moved }) => println!(rt; "stored {stored:?}: {date:?}, moved: {moved}"),
+        Err(fault) => println!(rt; "stored {stored:?}: {fault}"),
+    }
 }
 
 fn main(rt: HostRuntime) -> io::Result<()> {

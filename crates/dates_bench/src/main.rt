@@ -16,27 +16,42 @@ use cal_gregory::{Buddhist, Gregorian, Japanese, Roc};
 use cal_hebrew::Hebrew;
 use cal_hijri::{
     Hijri, HijriTable, TabularAlgorithm, TabularAlgorithmEpoch, TabularAlgorithmLeapYears,
+    UmmAlQura,
 };
 use cal_julian::{Indian, Julian, Persian, PersianCorrections};
 use measure::measure;
 use published_years::{chinese, korean, umm_al_qura};
 use std::env;
 use std::process::ExitCode;
-use words::{CalendarName, Work, read_words};
+use words::{CalendarName, Work, Years, read_words};
 
 /// The tabular Hijri calendar with these leap years, from Friday on.
 fn tabular(leap_years: TabularAlgorithmLeapYears) -> Hijri<TabularAlgorithm> {
     Hijri::new_tabular(leap_years, TabularAlgorithmEpoch::Friday)
 }
 
-/// The Chinese calendar without rows of a table.
-fn computed_chinese() -> ChineseTraditional<'static> {
-    ChineseTraditional::new(EastAsianTable::none(Side::China))
+/// The Umm al-Qura calendar over these years.
+fn umm_al_qura_over(years: Years) -> Hijri<UmmAlQura<'static>> {
+    match years {
+        Years::Computed => Hijri::new_umm_al_qura(HijriTable::none()),
+        Years::Published => umm_al_qura(),
+    }
 }
 
-/// The Korean calendar without rows of a table.
-fn computed_korean() -> KoreanTraditional<'static> {
-    KoreanTraditional::new(EastAsianTable::none(Side::Korea))
+/// The Chinese calendar over these years.
+fn chinese_over(years: Years) -> ChineseTraditional<'static> {
+    match years {
+        Years::Computed => ChineseTraditional::new(EastAsianTable::none(Side::China)),
+        Years::Published => chinese(),
+    }
+}
+
+/// The Korean calendar over these years.
+fn korean_over(years: Years) -> KoreanTraditional<'static> {
+    match years {
+        Years::Computed => KoreanTraditional::new(EastAsianTable::none(Side::Korea)),
+        Years::Published => korean(),
+    }
 }
 
 /// The checksum of the work.
@@ -60,21 +75,10 @@ fn checksum(work: Work) -> i64 {
             measure(operation, count, Persian::new(PersianCorrections::none()))
         }
         CalendarName::Hebrew => measure(operation, count, Hebrew),
-        CalendarName::HijriTabular => {
-            measure(operation, count, tabular(TabularAlgorithmLeapYears::TypeII))
-        }
-        CalendarName::HijriTypeI => {
-            measure(operation, count, tabular(TabularAlgorithmLeapYears::TypeI))
-        }
-        CalendarName::HijriUmmAlQura => {
-            let calendar = Hijri::new_umm_al_qura(HijriTable::none());
-            measure(operation, count, calendar)
-        }
-        CalendarName::Chinese => measure(operation, count, computed_chinese()),
-        CalendarName::Dangi => measure(operation, count, computed_korean()),
-        CalendarName::HijriUmmAlQuraPublished => measure(operation, count, umm_al_qura()),
-        CalendarName::ChinesePublished => measure(operation, count, chinese()),
-        CalendarName::DangiPublished => measure(operation, count, korean()),
+        CalendarName::HijriTabular(leap_years) => measure(operation, count, tabular(leap_years)),
+        CalendarName::HijriUmmAlQura(years) => measure(operation, count, umm_al_qura_over(years)),
+        CalendarName::Chinese(years) => measure(operation, count, chinese_over(years)),
+        CalendarName::Dangi(years) => measure(operation, count, korean_over(years)),
     }
 }
 

@@ -1,7 +1,9 @@
 //! What the words of the command line ask for.
 
+use cal_hijri::TabularAlgorithmLeapYears;
+
 /// What is done to each date.
-#[derive(Clone, Copy, Debug, PartialEq, Eq)]
+#[derive(Clone, Copy)]
 pub enum Operation {
     /// From the day number to the year, the month and the day, and back to the day number.
     Day,
@@ -37,8 +39,17 @@ pub enum Operation {
     FirstIndex,
 }
 
+/// Where the years of a calendar over a table come from.
+#[derive(Clone, Copy)]
+pub enum Years {
+    /// All years are computed.
+    Computed,
+    /// Published years stand in place of computed ones.
+    Published,
+}
+
 /// A calendar's name.
-#[derive(Clone, Copy, Debug, PartialEq, Eq)]
+#[derive(Clone, Copy)]
 pub enum CalendarName {
     /// The ISO calendar.
     Iso,
@@ -62,25 +73,18 @@ pub enum CalendarName {
     Persian,
     /// The Hebrew calendar.
     Hebrew,
-    /// The tabular Hijri calendar from Friday on.
-    HijriTabular,
-    HijriTypeI,
-    /// The Umm al-Qura calendar, without rows of a table.
-    HijriUmmAlQura,
-    /// The Chinese calendar, without rows of a table.
-    Chinese,
-    /// The Korean calendar, without rows of a table.
-    Dangi,
-    /// The Umm al-Qura calendar with its published years.
-    HijriUmmAlQuraPublished,
-    /// The Chinese calendar with its published years.
-    ChinesePublished,
-    /// The Korean calendar with its published years.
-    DangiPublished,
+    /// The tabular Hijri calendar with these leap years, from Friday on.
+    HijriTabular(TabularAlgorithmLeapYears),
+    /// The Umm al-Qura calendar.
+    HijriUmmAlQura(Years),
+    /// The Chinese calendar.
+    Chinese(Years),
+    /// The Korean calendar.
+    Dangi(Years),
 }
 
 /// An operation, the calendar of its dates, and how often it is done.
-#[derive(Clone, Copy, Debug, PartialEq, Eq)]
+#[derive(Clone, Copy)]
 pub struct Work {
     /// What is done to each date.
     pub operation: Operation,
@@ -125,14 +129,16 @@ fn read_calendar(word: &str) -> Option<CalendarName> {
         "indian" => Some(CalendarName::Indian),
         "persian" => Some(CalendarName::Persian),
         "hebrew" => Some(CalendarName::Hebrew),
-        "islamic-civil" => Some(CalendarName::HijriTabular),
-        "islamic-type1-friday" => Some(CalendarName::HijriTypeI),
-        "islamic-umalqura" => Some(CalendarName::HijriUmmAlQura),
-        "chinese" => Some(CalendarName::Chinese),
-        "dangi" => Some(CalendarName::Dangi),
-        "islamic-umalqura-published" => Some(CalendarName::HijriUmmAlQuraPublished),
-        "chinese-published" => Some(CalendarName::ChinesePublished),
-        "dangi-published" => Some(CalendarName::DangiPublished),
+        "islamic-civil" => Some(CalendarName::HijriTabular(TabularAlgorithmLeapYears::TypeII)),
+        "islamic-type1-friday" => Some(CalendarName::HijriTabular(
+            TabularAlgorithmLeapYears::TypeI,
+        )),
+        "islamic-umalqura" => Some(CalendarName::HijriUmmAlQura(Years::Computed)),
+        "chinese" => Some(CalendarName::Chinese(Years::Computed)),
+        "dangi" => Some(CalendarName::Dangi(Years::Computed)),
+        "islamic-umalqura-published" => Some(CalendarName::HijriUmmAlQura(Years::Published)),
+        "chinese-published" => Some(CalendarName::Chinese(Years::Published)),
+        "dangi-published" => Some(CalendarName::Dangi(Years::Published)),
         _ => None,
     }
 }
