@@ -6,7 +6,22 @@ use icu_calendar::{
     HijriTable, Iso, Japanese, KoreanTraditional, Month, Persian, PersianCorrections, RataDie,
     Side, TabularAlgorithmEpoch, TabularAlgorithmLeapYears,
 };
+use std::cmp::Ordering;
 use std::{fmt, io};
+
+/// A date, the same day in another calendar, and how it stands to another day.
+fn print_shown<A: AsCalendar, B: AsCalendar>(
+    rt: &HostRuntime,
+    date: &Date<A>,
+    shown: &Date<B>,
+    order: Ordering,
+) -> io::Result<()>
+where
+    A::Calendar: Calendar,
+    B::Calendar: Calendar,
+{
+    println!(rt; "{date:?} is {shown:?}: {order:?}")
+}
 
 /// A date that was made, the same day in ISO, and how it stands to another day; or why there is none.
 fn print_made<A: AsCalendar, E: fmt::Display + Drop>(
@@ -20,7 +35,7 @@ where
     match made {
         Ok(date) => {
             let iso = date.to_calendar(Iso);
-            println!(rt; "{date:?} is {iso:?}: {:?}", iso.cmp(day))
+            print_shown(rt, &date, &iso, iso.cmp(day))
         }
         Err(fault) => println!(rt; "{fault}"),
     }

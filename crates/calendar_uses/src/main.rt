@@ -19,29 +19,56 @@ use icu_calendar::{
     Hijri, HijriRow, HijriTable, Iso, Julian, LengthenFault, RataDie, Rebased, Window,
 };
 use mean_rules::MeanRules;
-use std::io;
+use std::{fmt, io};
 use stored_dates::updated_date;
 use uses::{age, date_of_form, in_chosen_calendar, is_earlier, months_later, there_and_back};
 
 const GREGORIAN: AnyCalendar<'static> = AnyCalendar::Gregorian(Gregorian);
 
-// What is printed of a date whose calendar is chosen at run time is printed by a function over any calendar.
+// What is printed of dates is printed by functions over any calendar.
 
-/// The date of a form.
-fn print_form<A: AsCalendar>(rt: &HostRuntime, day: u8, date: &Date<A>) -> io::Result<()>
+/// A date, and what it is.
+fn print_date<A: AsCalendar>(rt: &HostRuntime, what: &str, date: &Date<A>) -> io::Result<()>
 where
     A::Calendar: Calendar,
 {
-    println!(rt; "form of 2020-02-{day}: {date:?}, a {:?}", date.weekday())
+    println!(rt; "{what}: {date:?}")
 }
 
-/// The date of a form that is filled in rightly, and the fault of one that isn't.
+/// A date or the fault in its place, and what it is.
+fn print_answer<A: AsCalendar, E: fmt::Display + Drop>(
+    rt: &HostRuntime,
+    what: &str,
+    answer: Result<Date<A>, E>,
+) -> io::Result<()>
+where
+    A::Calendar: Calendar,
+{
+    match answer {
+        Ok(date) => print_date(rt, what, &date),
+        Err(fault) => println!(rt; "{what}: {fault}"),
+    }
+}
+
+/// The date of a form with its weekday, or the fault of the form.
+fn print_form<A: AsCalendar, E: fmt::Display + Drop>(
+    rt: &HostRuntime,
+    day: u8,
+    made: Result<Date<A>, E>,
+) -> io::Result<()>
+where
+    A::Calendar: Calendar,
+{
+    match made {
+        Ok(date) => println!(rt; "form of 2020-02-{day}: {date:?}, a {:?}", date.weekday()),
+        Err(fault) => println!(rt; "form of 2020-02-{day}: {fault}"),
+    }
+}
+
+/// A form that is filled in rightly, and one that isn't.
 fn print_forms(rt: &HostRuntime) -> io::Result<()> {
     for &day in &[29, 30] {
-        match date_of_form(2020, 2, day, GREGORIAN) {
-            Ok(date) => print_form(rt, day, &date)?,
-            Err(fault) => println!(rt; "form of 2020-02-{day}: {fault}")?,
-        }
+        print_form(rt, day, date_of_form(2020, 2, day, GREGORIAN))?;
     }
     Ok(())
 }
@@ -66,22 +93,26 @@ fn print_chosen_calendar(rt: &HostRuntime) -> io::Result<()> {
     print_same_day(rt, &iso, &julian)
 }
 
-/// The date so many months after the first.
-fn print_later<A: AsCalendar>(rt: &HostRuntime, months: u32, date: &Date<A>) -> io::Result<()>
+/// The date so many months after the first, or why there is none.
+fn print_later<A: AsCalendar, E: fmt::Display + Drop>(
+    rt: &HostRuntime,
+    months: u32,
+    later: Result<Date<A>, E>,
+) -> io::Result<()>
 where
     A::Calendar: Calendar,
 {
-    println!(rt; "{months} months after the first: {date:?}")
+    match later {
+        Ok(date) => println!(rt; "{months} months after the first: {date:?}"),
+        Err(fault) => println!(rt; "{months} months after the first: {fault}"),
+    }
 }
 
 /// One month and two months after 2020-01-31.
 fn print_recurrence(rt: &HostRuntime) -> io::Result<()> {
     for &months in &[1, 2] {
         let first = Date::from_rata_die(RataDie::new(737455), GREGORIAN);
-        match months_later(first, months) {
-            Ok(date) => print_later(rt, months, &date)?,
-            Err(fault) => println!(rt; "{months} months after the first: {fault}")?,
-        }
+        print_later(rt, months, months_later(first, months))?;
     }
     Ok(())
 }
@@ -97,44 +128,66 @@ fn print_age(rt: &HostRuntime) -> io::Result<()> {
         ..
     } = age(&birth, &today);
     println!(rt; "age: {years} years, {months} months and {days} days")?;
-    println!(rt; "there and back: {:?}", there_and_back(birth, &today))
+    print_date(rt, "there and back", &there_and_back(birth, &today))
+}
+
+/// Whether a date is earlier than another one.
+fn print_earlier<A: AsCalendar, B: AsCalendar>(
+    rt: &HostRuntime,
+    first: &Date<A>,
+    second: &Date<B>,
+) -> io::Result<()>
+where
+    A::Calendar: Calendar,
+    B::Calendar: Calendar,
+{
+    let order = is_earlier(first, second);
+    println!(rt; "{first:?} is earlier than {second:?}: {order}")
 }
 
 /// The last Julian and the first Gregorian day of Britain.
 fn print_order(rt: &HostRuntime) -> io::Result<()> {
     let last = Date::from_rata_die(RataDie::new(639796), Julian);
     let first = Date::from_rata_die(RataDie::new(639797), Gregorian);
-    let order = is_earlier(&last, &first);
-    println!(rt; "{last:?} is earlier than {first:?}: {order}")
+    print_earlier(rt, &last, &first)
 }
 
 /// The day of a text, and why there is none.
 fn print_texts(rt: &HostRuntime) -> io::Result<()> {
     for &text in &["2024-03-01[u-ca=hebrew]", "2024-03-01[u-ca=gregory]"] {
-        match hebrew_text_in_gregorian(text) {
-            Ok(date) => println!(rt; "{text}: {date:?}")?,
-            Err(fault) => println!(rt; "{text}: {fault}")?,
-        }
+        print_answer(rt, text, hebrew_text_in_gregorian(text))?;
     }
     Ok(())
+}
+
+/// Two Easters.
+fn print_easters<A: AsCalendar>(
+    rt: &HostRuntime,
+    first: &Date<A>,
+    second: &Date<A>,
+) -> io::Result<()>
+where
+    A::Calendar: Calendar,
+{
+    println!(rt; "Easter: {first:?}, and then {second:?}")
 }
 
 /// The next Easter after 2024-03-01, and the next one after that.
 fn print_feasts(rt: &HostRuntime) -> io::Result<()> {
     let first = next_easter(&Date::from_rata_die(RataDie::new(738946), Gregorian));
-    println!(rt; "Easter: {first:?}, and then {:?}", next_easter(&first))
+    print_easters(rt, &first, &next_easter(&first))
 }
 
 /// The new year of 2024, 738926, under a caller's own rules.
 fn print_own_rules(rt: &HostRuntime) -> io::Result<()> {
     let calendar = EastAsianTraditional(MeanRules::new(28_800_000));
     let date = Date::from_rata_die(RataDie::new(738926), calendar);
-    println!(rt; "under rules of its own: {date:?}")
+    print_date(rt, "under rules of its own", &date)
 }
 
 /// A day as a date of ISO.
 fn print_day(rt: &HostRuntime, what: &str, day: RataDie) -> io::Result<()> {
-    println!(rt; "{what}: {:?}", Date::from_rata_die(day, Iso))
+    print_date(rt, what, &Date::from_rata_die(day, Iso))
 }
 
 /// The birthdays after 2023-01-01 of someone born on 10 Adar I, of which ICU 78.2 and hebcal 4.31 have the days.
@@ -184,10 +237,8 @@ row china 1914 698734 llslslslslssl 6
 fn print_new_years(rt: &HostRuntime) -> io::Result<()> {
     let missing: &[u8] = b"row china 1912 698026 lslsslssllss 0";
     for &text in &[PUBLISHED, b"", missing, b"row china 1914"] {
-        match new_year_by_rows(rt.alloc(), text, 1914) {
-            Ok(new_year) => println!(rt; "new year of 1914: {new_year:?}")?,
-            Err(fault) => println!(rt; "new year of 1914: {fault}")?,
-        }
+        let new_year = new_year_by_rows(rt.alloc(), text, 1914);
+        print_answer(rt, "new year of 1914", new_year)?;
     }
     Ok(())
 }
