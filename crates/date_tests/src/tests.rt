@@ -2,6 +2,7 @@
 
 mod comparing;
 mod conversions;
+mod expected;
 mod getters;
 mod rebasing;
 mod recurrences;

@@ -1,5 +1,6 @@
 //! Which dates are equal, and which are ordered.
 
+use crate::tests::expected::assert_holds;
 use icu_calendar::{AnyCalendarKind, AnyDateInner, Calendar};
 use std::process::Abort;
 use test_dates::{GREGORIAN, ISO, JULIAN, calendar_of, day};
@@ -25,20 +26,15 @@ fn assert_order(
         None
     };
     let is_equal = is_same && days.0 == days.1;
-    assert!(rt;
-        first.partial_cmp(&second) == order,
-        "{} and {}",
-        days.0,
-        days.1
-    );
-    assert!(rt; (first == second) == is_equal, "{} and {}", days.0, days.1);
+    assert_holds(rt, days, first.partial_cmp(&second) == order);
+    assert_holds(rt, days, (first == second) == is_equal);
 }
 
 #[test]
 fn dates_are_compared_in_one_calendar_alone(rt: HostRuntime) {
     let calendars = [(0, GREGORIAN), (1, ISO), (2, JULIAN)];
-    for (place, calendar) in calendars {
-        for (other_place, other) in calendars {
+    for &(place, calendar) in &calendars {
+        for &(other_place, other) in &calendars {
             for &days in &[
                 (1, 1),
                 (1, 2),

@@ -1,26 +1,41 @@
 //! What dates say of their year, month and day, and how they are written.
 
+use crate::tests::expected::assert_holds;
 use icu_calendar::{AsCalendar, Calendar, Date, Iso, RataDie, Weekday};
 use std::alloc::{AllocError, Global};
+use std::process::Abort;
 use test_dates::{GREGORIAN, ISO, JULIAN, date_on};
 
-/// Whether a date is on this day of the week and of the year, has these days in its month and in its year, and is in
+/// That a date is on this day of the week and of the year, has these days in its month and in its year, and is in
 /// a leap year or not; the year has twelve months.
-fn is_placed<A: AsCalendar>(
+fn assert_placed<A: AsCalendar>(
+    rt: &impl Abort,
     date: &Date<A>,
     (weekday, day_of_year): (Weekday, u16),
     (days_in_month, days_in_year): (u8, u16),
     is_leap: bool,
-) -> bool
+)
 where
     A::Calendar: Calendar,
 {
-    date.weekday() == weekday
-        && date.day_of_year().0 == day_of_year
-        && date.days_in_month() == days_in_month
-        && date.days_in_year() == days_in_year
-        && date.is_in_leap_year() == is_leap
-        && date.months_in_year() == 12
+    assert_holds(rt, "the day of the week", date.weekday() == weekday);
+    assert_holds(
+        rt,
+        "the day of the year",
+        date.day_of_year().0 == day_of_year,
+    );
+    assert_holds(
+        rt,
+        "the days of the month",
+        date.days_in_month() == days_in_month,
+    );
+    assert_holds(
+        rt,
+        "the days of the year",
+        date.days_in_year() == days_in_year,
+    );
+    assert_holds(rt, "the leap year", date.is_in_leap_year() == is_leap);
+    assert_holds(rt, "the months of the year", date.months_in_year() == 12);
 }
 
 #[test]
@@ -39,16 +54,23 @@ fn dates_say_their_place_in_year_month_and_week(rt: HostRuntime) {
         let date = date_on(number, calendar);
         let place = (weekday, day_of_year);
         let lengths = (days_in_month, days_in_year);
-        assert!(rt; is_placed(&date, place, lengths, is_leap), "on {number}");
+        assert_placed(&rt, &date, place, lengths, is_leap);
     }
 }
 
-/// The text of a date, by its Debug.
-fn written<A: AsCalendar>(alloc: Global, date: &Date<A>) -> Result<String, AllocError>
+/// That a date is written like this by its Debug.
+fn assert_written<A: AsCalendar>(
+    rt: &impl Abort,
+    alloc: Global,
+    date: &Date<A>,
+    want: &str,
+) -> Result<(), AllocError>
 where
     A::Calendar: Calendar,
 {
-    format!(in alloc; "{date:?}")
+    let text = format!(in alloc; "{date:?}")?;
+    assert_holds(rt, want, text.as_str() == want);
+    Ok(())
 }
 
 #[test]
@@ -70,11 +92,12 @@ fn dates_are_written_with_era_and_calendar(rt: HostRuntime) -> Result<(), AllocE
             "Date(1752-9-2, ce era, for calendar AnyCalendar (Julian))",
         ),
     ] {
-        let date = date_on(number, calendar);
-        let text = written(rt.alloc(), &date)?;
-        assert!(rt; text.as_str() == want, "{want}");
+        assert_written(&rt, rt.alloc(), &date_on(number, calendar), want)?;
     }
-    let text = written(rt.alloc(), &Date::from_rata_die(RataDie::new(737484), Iso))?;
-    assert!(rt; text.as_str() == "Date(2020-2-29, default era, for calendar ISO)");
-    Ok(())
+    assert_written(
+        &rt,
+        rt.alloc(),
+        &Date::from_rata_die(RataDie::new(737484), Iso),
+        "Date(2020-2-29, default era, for calendar ISO)",
+    )
 }

@@ -1,11 +1,15 @@
 //! Dates that were stored under a table of years, under the longer table.
 
+ghost use Rattle.std.specs.Prelude.{◌≡◌};
+
+use crate::tests::expected::assert_holds;
 use icu_calendar::published::{china_table, korea_table, umm_al_qura_table};
 use icu_calendar::{
     AsCalendar, Calendar, ChineseTraditional, Date, EastAsianRow, EastAsianTable, Hijri, HijriRow,
-    HijriTable, KoreanTraditional, Month, RataDie, Side,
+    HijriTable, KoreanTraditional, Month, RataDie, Rebased, Side, UmmAlQura,
 };
 use std::process::Abort;
+use test_dates::number_in;
 
 /// `row hijri 1445 738720 sllslslslsll`
 const YEAR_1445: HijriRow = HijriRow {
@@ -21,36 +25,68 @@ const YEAR_1446: HijriRow = HijriRow {
     start_offset: 6,
 };
 
-/// That the first day of the second month of a year lies on a day, and what the day is under the longer table.
-fn assert_second_month(rt: &impl Abort, year: i32, number: i64, day: u8, moved: bool) {
-    let table = HijriTable::try_new(&[YEAR_1445]).expect(rt, "the table is accepted");
-    let rows = [YEAR_1445, YEAR_1446];
-    let longer = table.lengthened(&rows).expect(rt, "it is lengthened");
-    let before = Hijri::new_umm_al_qura(table);
-    let stored = Date::try_new(year.into(), Month::new(2), 1, before);
-    let stored = stored.expect(rt, "the date is there");
-    assert!(rt; stored.to_rata_die().to_i64_date() == number, "in {year}");
-    let rebased = stored.rebase(Hijri::new_umm_al_qura(longer));
-    assert!(rt;
-        rebased.date.to_rata_die().to_i64_date() == number,
-        "in {year}"
-    );
-    assert!(rt; rebased.date.month().ordinal == 2, "in {year}");
-    assert!(rt; rebased.date.day_of_month().0 == day, "in {year}");
-    assert!(rt; rebased.moved == moved, "in {year}");
+/// The calendars under a table of rows, and under the longer table.
+fn calendars_of<'t>(
+    rt: &impl Abort,
+    rows: &'t [HijriRow],
+    more_rows: &'t [HijriRow],
+) -> (Hijri<UmmAlQura<'t>>, Hijri<UmmAlQura<'t>>) {
+    let table = HijriTable::try_new(rows).expect(rt, "the table is accepted");
+    let longer = table.lengthened(more_rows).expect(rt, "it is lengthened");
+    (
+        Hijri::new_umm_al_qura(table),
+        Hijri::new_umm_al_qura(longer),
+    )
+}
+
+/// That a date was brought over to this day of the second month, on this day number, and was moved or not.
+fn assert_rebased<A: AsCalendar>(
+    rt: &impl Abort,
+    rebased: &Rebased<A>,
+    number: i64,
+    day: u8,
+    moved: bool,
+)
+where
+    A::Calendar: Calendar,
+{
+    assert_holds(rt, number, number_in(&rebased.date) == number);
+    assert_holds(rt, number, rebased.date.month().ordinal == 2);
+    assert_holds(rt, number, rebased.date.day_of_month().0 == day);
+    assert_holds(rt, number, rebased.moved == moved);
+}
+
+/// That the first day of the second month of each year lies on a day, and what the day is by the second calendar.
+fn assert_second_months<A: AsCalendar + Copy>(
+    rt: &impl Abort,
+    before: A,
+    after: A,
+    cases: &[(i32, i64, u8, bool)],
+)
+where
+    A::Calendar: Calendar,
+{
+    for &(year, number, day, moved) in cases {
+        let stored = Date::try_new(year.into(), Month::new(2), 1, before);
+        let stored = stored.expect(rt, "the date is there");
+        assert_holds(rt, year, number_in(&stored) == number);
+        assert_rebased(rt, &stored.rebase(after), number, day, moved);
+    }
 }
 
 #[test]
 fn dates_of_the_added_year_are_moved(rt: HostRuntime) {
-    assert_second_month(&rt, 1445, 738749, 1, false);
-    assert_second_month(&rt, 1446, 739105, 2, true);
+    let row = [YEAR_1445];
+    let rows = [YEAR_1445, YEAR_1446];
+    let (before, after) = calendars_of(&rt, &row, &rows);
+    let cases = [(1445, 738749, 1, false), (1446, 739105, 2, true)];
+    assert_second_months(&rt, before, after, &cases);
 }
 
 /// Whether a day is another date by the second calendar.
-fn is_moved<A: AsCalendar, B: AsCalendar>(rt: &impl Abort, before: A, after: B, number: i64) -> bool
+fn is_moved<A: AsCalendar>(rt: &impl Abort, before: A, after: A, number: i64) -> bool
 where
     A::Calendar: Calendar,
-    B::Calendar: Calendar,
 {
     assert!(rt; -400000000 <= number && number <= 400000000);
     Date::from_rata_die(RataDie::new(number), before)
@@ -59,16 +95,15 @@ where
 }
 
 /// How many days from one to another are other dates by the second calendar.
-fn count_moved<A: AsCalendar + Copy, B: AsCalendar + Copy>(
+fn count_moved<A: AsCalendar + Copy>(
     rt: &impl Abort,
     before: A,
-    after: B,
+    after: A,
     first: i64,
     last: i64,
 ) -> u32
 where
     A::Calendar: Calendar,
-    B::Calendar: Calendar,
 {
     let mut moved = 0u32;
     for number in first..=last {
@@ -79,6 +114,23 @@ where
     moved
 }
 
+/// That so many days from one to another are other dates by the second calendar, for each first day, last day and
+/// count.
+fn assert_moved<A: AsCalendar + Copy>(
+    rt: &impl Abort,
+    before: A,
+    after: A,
+    counts: &[(i64, i64, u32)],
+)
+where
+    A::Calendar: Calendar,
+{
+    for &(first, last, count) in counts {
+        let moved = count_moved(rt, before, after, first, last);
+        assert_holds(rt, first, moved == count);
+    }
+}
+
 // The counts of moved days, and the days of the added years, are those of a program of its own that reads `rows/` and
 // computes the years beside them from their formulas. Of the years before and behind no day is moved.
 
@@ -87,44 +139,55 @@ where
 fn days_of_added_hijri_years_are_moved(rt: HostRuntime) {
     let rows: &'static [HijriRow] = umm_al_qura_table().rows();
     let first_50 = rows.get(..50).expect(&rt, "there are 301 rows");
-    let table = HijriTable::try_new(first_50).expect(&rt, "the years meet the next one");
-    let longer = table.lengthened(rows).expect(&rt, "the others are added");
-    let before = Hijri::new_umm_al_qura(table);
-    let after = Hijri::new_umm_al_qura(longer);
-    assert!(rt; count_moved(&rt, before, after, 704056, 705055) == 0);
-    assert!(rt; count_moved(&rt, before, after, 705056, 794001) == 35269);
-    assert!(rt; count_moved(&rt, before, after, 794002, 795001) == 0);
+    let (before, after) = calendars_of(&rt, first_50, rows);
+    let counts = [
+        (704056, 705055, 0),
+        (705056, 794001, 35269),
+        (794002, 795001, 0),
+    ];
+    assert_moved(&rt, before, after, &counts);
 }
 
-/// The first 50 of some rows.
-fn first_50(rt: &impl Abort, rows: &'static [EastAsianRow]) -> &'static [EastAsianRow] {
-    rows.get(..50).expect(rt, "there are more rows")
+/// The table of the first 50 of some rows, and that of all of them.
+fn tables_of(
+    rt: &impl Abort,
+    side: Side,
+    rows: &'static [EastAsianRow],
+) -> (EastAsianTable<'static>, EastAsianTable<'static>)
+    ensures first { result.0.side ≡ side }
+    ensures longer { result.1.side ≡ side }
+{
+    let first_50 = rows.get(..50).expect(rt, "there are more rows");
+    let table = EastAsianTable::try_new(side, first_50);
+    let table = table.expect(rt, "the years meet the next one");
+    let longer = table.lengthened(rows).expect(rt, "the others are added");
+    (table, longer)
 }
 
 /// The years 1912 to 1961, and then 1962 to 2099, which have the days 716276 to 766683.
 #[test]
 fn days_of_added_chinese_years_are_moved(rt: HostRuntime) {
-    let rows = china_table().rows();
-    let table = EastAsianTable::try_new(Side::China, first_50(&rt, rows));
-    let table = table.expect(&rt, "the years meet the next one");
-    let longer = table.lengthened(rows).expect(&rt, "the others are added");
+    let (table, longer) = tables_of(&rt, Side::China, china_table().rows());
     let before = ChineseTraditional::new(table);
     let after = ChineseTraditional::new(longer);
-    assert!(rt; count_moved(&rt, before, after, 715276, 716275) == 0);
-    assert!(rt; count_moved(&rt, before, after, 716276, 766683) == 16613);
-    assert!(rt; count_moved(&rt, before, after, 766684, 767683) == 0);
+    let counts = [
+        (715276, 716275, 0),
+        (716276, 766683, 16613),
+        (766684, 767683, 0),
+    ];
+    assert_moved(&rt, before, after, &counts);
 }
 
 /// The years 1912 to 1961, and then 1962 to 2097, which have the days 716276 to 765945.
 #[test]
 fn days_of_added_korean_years_are_moved(rt: HostRuntime) {
-    let rows = korea_table().rows();
-    let table = EastAsianTable::try_new(Side::Korea, first_50(&rt, rows));
-    let table = table.expect(&rt, "the years meet the next one");
-    let longer = table.lengthened(rows).expect(&rt, "the others are added");
+    let (table, longer) = tables_of(&rt, Side::Korea, korea_table().rows());
     let before = KoreanTraditional::new(table);
     let after = KoreanTraditional::new(longer);
-    assert!(rt; count_moved(&rt, before, after, 715276, 716275) == 0);
-    assert!(rt; count_moved(&rt, before, after, 716276, 765945) == 16256);
-    assert!(rt; count_moved(&rt, before, after, 765946, 766945) == 0);
+    let counts = [
+        (715276, 716275, 0),
+        (716276, 765945, 16256),
+        (765946, 766945, 0),
+    ];
+    assert_moved(&rt, before, after, &counts);
 }

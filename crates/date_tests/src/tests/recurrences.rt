@@ -1,5 +1,6 @@
 //! Recurrences from a date on.
 
+use crate::tests::expected::assert_holds;
 use icu_calendar::{Date, DateDurationUnit, Iso, Missing, Occurrence, Rule, Window};
 use test_dates::day;
 
@@ -17,10 +18,7 @@ fn the_last_days_of_months(rt: HostRuntime) {
     if let (Some(rule), Some(window)) = (rule, window) {
         let mut items = Date::from_rata_die(day(737821), Iso).recur(rule, window);
         for &(index, number) in &[(0, 737821), (1, 737849), (2, 737880), (3, 737910)] {
-            assert!(rt;
-                parts(items.next()) == Some((index, number)),
-                "item {index}"
-            );
+            assert_holds(&rt, index, parts(items.next()) == Some((index, number)));
         }
         assert!(rt; items.next().is_none());
     }

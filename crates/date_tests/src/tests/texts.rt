@@ -1,5 +1,6 @@
 //! Dates from texts of RFC 9557 and from records: known days, and the first fault.
 
+use crate::tests::expected::assert_holds;
 use icu_calendar::{
     AsCalendar, Calendar, CalendarAlgorithm, Date, DateRecord, Gregorian, Hebrew, Hijri, Iso,
     IxdtfRecord, ParseError, RangeError, TabularAlgorithmEpoch, TabularAlgorithmLeapYears,
@@ -20,12 +21,12 @@ where
 
 /// That a text names a day in the ISO calendar, or that this is wrong with it.
 fn assert_iso(rt: &impl Abort, text: &str, answer: Result<i64, ParseError>) {
-    assert!(rt; day_named(text, Iso) == answer, "{text}");
+    assert_holds(rt, text, day_named(text, Iso) == answer);
 }
 
 /// The same in the Gregorian calendar, which has a name.
 fn assert_gregorian(rt: &impl Abort, text: &str, answer: Result<i64, ParseError>) {
-    assert!(rt; day_named(text, Gregorian) == answer, "{text}");
+    assert_holds(rt, text, day_named(text, Gregorian) == answer);
 }
 
 #[test]
@@ -97,7 +98,7 @@ fn is_read(text: &[u8]) -> bool {
 fn no_text_that_is_cut_off_is_read(rt: HostRuntime) {
     let text = b"-002024-03-01[!u-ca=islamic-civil]";
     for end in 0..text.len() {
-        assert!(rt; is_read(&text[..end]) == (end == 13), "{end} bytes");
+        assert_holds(&rt, end, is_read(&text[..end]) == (end == 13));
     }
     assert!(rt; is_read(text));
 }
@@ -137,7 +138,7 @@ fn a_calendar_without_a_name_takes_any_annotation(rt: HostRuntime) {
         "2024-03-01[!u-ca=islamic-civil]",
         "2024-03-01[u-ca=klingon]",
     ] {
-        assert!(rt; day_in_tabular(text, TypeI) == Ok(738946), "{text}");
+        assert_holds(&rt, text, day_in_tabular(text, TypeI) == Ok(738946));
     }
     assert!(rt; day_in_tabular("2024-03-01[u-ca=islamic-civil]", TypeII) == Ok(738946));
     assert!(rt; day_in_tabular("2024-03-01[u-ca=hebrew]", TypeII).is_err());
@@ -173,9 +174,10 @@ fn records_are_tested(rt: HostRuntime) {
             max,
         };
         let date = DateRecord { year, month, day };
-        assert!(rt;
+        assert_holds(
+            &rt,
+            (field, value),
             is_refused(Some(date), ParseError::Range(out)),
-            "{field} {value}"
         );
     }
 }
