@@ -3,10 +3,12 @@
 mod constructors;
 mod days;
 mod eras;
+mod expected;
 mod faults;
 mod reference_years;
 mod subsets;
 
+use crate::tests::expected::assert_holds;
 use icu_calendar::{
     AnyCalendar, AnyCalendarKind, Date, DateFields, DateFromFieldsError, DateFromFieldsOptions,
     Gregorian, Iso, Julian, MissingFieldsStrategy, Month, Overflow,

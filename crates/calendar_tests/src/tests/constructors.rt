@@ -42,10 +42,6 @@ fn constructors_name_known_days(rt: HostRuntime) {
         ),
     ] {
         let found = day_made(era, year, (month, day), calendar);
-        let era = era.unwrap_or("extended year");
-        assert!(rt;
-            found == want,
-            "of {era} {year}, month {month} and day {day}"
-        );
+        assert_holds(&rt, (era, year), found == want);
     }
 }

@@ -5,9 +5,10 @@ use EthiopianEraStyle::{AmeteAlem, AmeteMihret};
 use TabularAlgorithmEpoch::{Friday, Thursday};
 use TabularAlgorithmLeapYears::{TypeI, TypeII};
 use icu_calendar::{
-    AsCalendar, Buddhist, Calendar, ChineseTraditional, Coptic, EastAsianTable, Ethiopian,
-    EthiopianEraStyle, Hebrew, Hijri, HijriTable, Indian, Japanese, KoreanTraditional, Persian,
-    PersianCorrections, Roc, Side, TabularAlgorithmEpoch, TabularAlgorithmLeapYears, YearInput,
+    AsCalendar, Buddhist, Calendar, ChineseTraditional, Coptic, DateNewError, EastAsianTable,
+    Ethiopian, EthiopianEraStyle, Hebrew, Hijri, HijriTable, Indian, Japanese, KoreanTraditional,
+    Persian, PersianCorrections, Roc, Side, TabularAlgorithmEpoch, TabularAlgorithmLeapYears,
+    YearInput,
 };
 use std::cmp::Ordering;
 use test_dates::{day, number_in};
@@ -67,7 +68,7 @@ where
 }
 
 #[test]
-fn known_days_have_known_dates(rt: HostRuntime) {
+fn known_days_have_known_dates_of_gregorian_months(rt: HostRuntime) {
     assert_known(&rt, Buddhist, &[(727443, (2535, "M09", 2, "be", 2535))]);
     let roc = [
         (738946, (113, "M03", 1, "roc", 113)),
@@ -82,6 +83,10 @@ fn known_days_have_known_dates(rt: HostRuntime) {
         (683369, (1872, "M01", 1, "ce", 1872)),
     ];
     assert_known(&rt, Japanese::new(), &japanese);
+}
+
+#[test]
+fn known_days_have_known_dates_of_thirteen_months(rt: HostRuntime) {
     assert_known(&rt, Coptic, &[(719781, (1687, "M13", 6, "am", 1687))]);
     let mihret = [
         (719164, (1962, "M04", 24, "am", 1962)),
@@ -90,6 +95,10 @@ fn known_days_have_known_dates(rt: HostRuntime) {
     assert_known(&rt, Ethiopian::new_with_era_style(AmeteMihret), &mihret);
     let alem = [(719164, (7462, "M04", 24, "aa", 7462))];
     assert_known(&rt, Ethiopian::new_with_era_style(AmeteAlem), &alem);
+}
+
+#[test]
+fn known_days_have_known_dates(rt: HostRuntime) {
     let indian = [
         (727443, (1914, "M06", 11, "shaka", 1914)),
         (738946, (1945, "M12", 11, "shaka", 1945)),
@@ -110,6 +119,31 @@ fn known_days_have_known_dates(rt: HostRuntime) {
     assert_known(&rt, Hebrew, &hebrew);
 }
 
+/// The extended year of the date that a bag names in a calendar, or its first fault.
+fn year_named<A: AsCalendar>(
+    fields: DateFields<'_>,
+    calendar: A,
+) -> Result<i32, DateFromFieldsError>
+where
+    A::Calendar: Calendar,
+{
+    match Date::try_from_fields(fields, STRICT, calendar) {
+        Ok(date) => Ok(date.year().extended_year()),
+        Err(cause) => Err(cause),
+    }
+}
+
+/// The day number of March 1 of a year of a calendar, or the first fault.
+fn march_first<A: AsCalendar>(year: YearInput<'_>, calendar: A) -> Result<i64, DateNewError>
+where
+    A::Calendar: Calendar,
+{
+    match Date::try_new(year, Month::new(3), 1, calendar) {
+        Ok(date) => Ok(number_in(&date)),
+        Err(cause) => Err(cause),
+    }
+}
+
 #[test]
 fn eras_of_buddha_and_of_japan_name_known_dates(rt: HostRuntime) {
     let year_0 = DateFields {
@@ -120,17 +154,21 @@ fn eras_of_buddha_and_of_japan_name_known_dates(rt: HostRuntime) {
         day: Some(1),
         ..DateFields::default()
     };
-    match Date::try_from_fields(year_0, STRICT, Buddhist) {
-        Ok(date) => assert!(rt; date.year().extended_year() == 0),
-        Err(cause) => assert!(rt; false, "{cause}"),
-    }
+    assert!(rt; year_named(year_0, Buddhist) == Ok(0));
     for &(era, year) in &[("ce", 2024), ("reiwa", 6)] {
-        let year = YearInput::EraYear(era, year);
-        match Date::try_new(year, Month::new(3), 1, Japanese::new()) {
-            Ok(date) => assert!(rt; number_in(&date) == 738946, "of {era}"),
-            Err(cause) => assert!(rt; false, "{cause}"),
-        }
+        let found = march_first(YearInput::EraYear(era, year), Japanese::new());
+        assert_holds(&rt, era, found == Ok(738946));
     }
+}
+
+/// That dates of days in a tabular Hijri calendar show what is known of them.
+fn assert_tabular(
+    rt: &impl Abort,
+    leap_years: TabularAlgorithmLeapYears,
+    epoch: TabularAlgorithmEpoch,
+    known: &[(i64, Shown)],
+) {
+    assert_known(rt, Hijri::new_tabular(leap_years, epoch), known);
 }
 
 #[test]
@@ -142,12 +180,12 @@ fn known_days_have_known_hijri_dates(rt: HostRuntime) {
         (227015, (1, "M01", 1, "ah", 1)),
         (227014, (0, "M12", 29, "bh", 1)),
     ];
-    assert_known(&rt, Hijri::new_tabular(TypeII, Friday), &civil);
+    assert_tabular(&rt, TypeII, Friday, &civil);
     let tabular = [
         (742617, (1456, "M01", 1, "ah", 1456)),
         (227014, (1, "M01", 1, "ah", 1)),
     ];
-    assert_known(&rt, Hijri::new_tabular(TypeII, Thursday), &tabular);
+    assert_tabular(&rt, TypeII, Thursday, &tabular);
     let simulated = [(738750, (1445, "M02", 1, "ah", 1445))];
     assert_known(
         &rt,
@@ -162,10 +200,10 @@ fn known_days_have_known_hijri_dates(rt: HostRuntime) {
 fn a_published_day_has_its_dates_in_the_tabular_calendars(rt: HostRuntime) {
     let friday = [(710347, (1364, "M12", 6, "ah", 1364))];
     let thursday = [(710347, (1364, "M12", 7, "ah", 1364))];
-    assert_known(&rt, Hijri::new_tabular(TypeII, Friday), &friday);
-    assert_known(&rt, Hijri::new_tabular(TypeI, Friday), &friday);
-    assert_known(&rt, Hijri::new_tabular(TypeII, Thursday), &thursday);
-    assert_known(&rt, Hijri::new_tabular(TypeI, Thursday), &thursday);
+    assert_tabular(&rt, TypeII, Friday, &friday);
+    assert_tabular(&rt, TypeI, Friday, &friday);
+    assert_tabular(&rt, TypeII, Thursday, &thursday);
+    assert_tabular(&rt, TypeI, Thursday, &thursday);
 }
 
 /// The first days of years 1, 16, 17 and 31 by the leap years of types I and II, as R. H. van Gent's page on the
@@ -179,21 +217,21 @@ fn the_leap_years_of_types_i_and_ii_part_after_the_fifteenth(rt: HostRuntime) {
         (232685, (17, "M01", 1, "ah", 17)),
         (237646, (31, "M01", 1, "ah", 31)),
     ];
-    assert_known(&rt, Hijri::new_tabular(TypeI, Friday), &first_days);
+    assert_tabular(&rt, TypeI, Friday, &first_days);
     let a_day_before = [
         (227014, (1, "M01", 1, "ah", 1)),
         (232330, (16, "M01", 1, "ah", 16)),
         (232684, (17, "M01", 1, "ah", 17)),
         (237645, (31, "M01", 1, "ah", 31)),
     ];
-    assert_known(&rt, Hijri::new_tabular(TypeI, Thursday), &a_day_before);
+    assert_tabular(&rt, TypeI, Thursday, &a_day_before);
     let of_type_ii = [
         (232330, (16, "M01", 1, "ah", 16)),
         (232684, (16, "M12", 30, "ah", 16)),
         (232685, (17, "M01", 1, "ah", 17)),
         (237646, (31, "M01", 1, "ah", 31)),
     ];
-    assert_known(&rt, Hijri::new_tabular(TypeII, Friday), &of_type_ii);
+    assert_tabular(&rt, TypeII, Friday, &of_type_ii);
 }
 
 /// Whether the date of a day comes before that of the next day.
@@ -224,33 +262,50 @@ where
     for &first in &[-1000i64, 0, 738000, -365242499, 365241133] {
         for after in 0..=1000i64 {
             let day = first.saturating_add(after);
-            assert!(rt; is_named_back(day, calendar), "of {day}");
-            assert!(rt; is_before_next(day, calendar), "of {day}");
+            assert_holds(rt, day, is_named_back(day, calendar));
+            assert_holds(rt, day, is_before_next(day, calendar));
         }
     }
     let last = 365242134;
-    assert!(rt; is_named_back(last, calendar), "of {last}");
+    assert_holds(rt, last, is_named_back(last, calendar));
 }
 
 #[test]
-fn days_come_back_from_their_fields(rt: HostRuntime) {
+fn days_of_gregorian_months_come_back_from_their_fields(rt: HostRuntime) {
     assert_back(&rt, Iso);
     assert_back(&rt, Gregorian);
     assert_back(&rt, Buddhist);
     assert_back(&rt, Roc);
     assert_back(&rt, Japanese::new());
+}
+
+#[test]
+fn days_come_back_from_their_fields(rt: HostRuntime) {
     assert_back(&rt, Julian);
     assert_back(&rt, Coptic);
-    assert_back(&rt, Ethiopian::new_with_era_style(AmeteMihret));
-    assert_back(&rt, Ethiopian::new_with_era_style(AmeteAlem));
+    for &style in &[AmeteMihret, AmeteAlem] {
+        assert_back(&rt, Ethiopian::new_with_era_style(style));
+    }
     assert_back(&rt, Indian);
     assert_back(&rt, Persian::new(PersianCorrections::none()));
-    assert_back(&rt, Hebrew);
-    assert_back(&rt, Hijri::new_tabular(TypeII, Friday));
-    assert_back(&rt, Hijri::new_tabular(TypeII, Thursday));
-    assert_back(&rt, Hijri::new_tabular(TypeI, Friday));
-    assert_back(&rt, Hijri::new_tabular(TypeI, Thursday));
+}
+
+#[test]
+fn hijri_days_come_back_from_their_fields(rt: HostRuntime) {
+    for &(leap_years, epoch) in &[
+        (TypeII, Friday),
+        (TypeII, Thursday),
+        (TypeI, Friday),
+        (TypeI, Thursday),
+    ] {
+        assert_back(&rt, Hijri::new_tabular(leap_years, epoch));
+    }
     assert_back(&rt, Hijri::new_umm_al_qura(HijriTable::none()));
+}
+
+#[test]
+fn lunisolar_days_come_back_from_their_fields(rt: HostRuntime) {
+    assert_back(&rt, Hebrew);
     assert_back(
         &rt,
         ChineseTraditional::new(EastAsianTable::none(Side::China)),

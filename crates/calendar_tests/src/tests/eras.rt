@@ -40,10 +40,7 @@ fn eras_name_extended_years(rt: HostRuntime) {
         (JULIAN, "", 1992, Err(InvalidEra)),
     ] {
         let fields = bag(of_era(era, year), month(12), Some(31));
-        assert!(rt;
-            extended_year_of(fields, calendar) == want,
-            "of {era} {year}"
-        );
+        assert_holds(&rt, (era, year), extended_year_of(fields, calendar) == want);
     }
 }
 
@@ -89,7 +86,7 @@ fn years_of_eras_are_known_days(rt: HostRuntime) {
         ),
     ] {
         let fields = bag((Some(era), Some(year), same), month, Some(day));
-        assert!(rt; is_day(fields, STRICT, calendar, want), "of {era} {year}");
+        assert_holds(&rt, (era, year), is_day(fields, STRICT, calendar, want));
     }
 }
 
@@ -109,9 +106,10 @@ fn an_era_is_read_before_years_differ(rt: HostRuntime) {
         let years = (Some(era), Some(year), Some(same));
         for &options in &[STRICT, LENIENT] {
             let fields = bag(years, code("M1"), Some(0));
-            assert!(rt;
+            assert_holds(
+                &rt,
+                (era, year),
                 is_day(fields, options, calendar, Err(want)),
-                "of {era} {year} and {same}"
             );
         }
     }

@@ -38,9 +38,10 @@ fn assert_fault(
     want: DateFromFieldsError,
 ) {
     for &calendar in &[ISO, GREGORIAN, JULIAN] {
-        assert!(rt;
+        assert_holds(
+            rt,
+            (fields, options),
             is_day(fields, options, calendar, Err(want)),
-            "{fields:?}, {options:?}"
         );
     }
 }
@@ -122,7 +123,7 @@ fn months_and_days_are_constrained(rt: HostRuntime) {
     ] {
         for &options in &[CLAMPS, LENIENT] {
             let fields = bag(extended(year), month, Some(day));
-            assert!(rt; is_day(fields, options, calendar, Ok(want)), "in {year}");
+            assert_holds(&rt, year, is_day(fields, options, calendar, Ok(want)));
         }
     }
 }

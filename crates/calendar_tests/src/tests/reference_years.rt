@@ -39,7 +39,7 @@ fn a_month_and_a_day_are_in_the_reference_year(rt: HostRuntime) {
     ] {
         let fields = bag(NO_YEAR, month(number), Some(day));
         let found = year_and_day(fields, options, calendar);
-        assert!(rt; found == want, "{number} and {day}");
+        assert_holds(&rt, (number, day), found == want);
     }
 }
 
@@ -52,10 +52,8 @@ fn a_year_and_a_month_are_their_first_day(rt: HostRuntime) {
         (JULIAN, "1", extended(1), month(1), -1),
     ] {
         let of_year = bag(year, month, None);
-        assert!(rt; is_day(of_year, FILLS, calendar, Ok(want)), "of {named}");
-        assert!(rt;
-            is_day(of_year, STRICT, calendar, Err(NotEnoughFields)),
-            "of {named}"
-        );
+        assert_holds(&rt, named, is_day(of_year, FILLS, calendar, Ok(want)));
+        let refused = Err(NotEnoughFields);
+        assert_holds(&rt, named, is_day(of_year, STRICT, calendar, refused));
     }
 }

@@ -97,10 +97,8 @@ fn subsets_that_name_year_month_and_day_are_dates(rt: HostRuntime) {
         for number in 0u8..128 {
             let has = of_number(number);
             let want = wanted(has, missing);
-            assert!(rt;
-                is_day(fields_of(has), options, GREGORIAN, want),
-                "of {number} under {name} options"
-            );
+            let holds = is_day(fields_of(has), options, GREGORIAN, want);
+            assert_holds(&rt, (number, name), holds);
         }
     }
 }
