@@ -2,4 +2,5 @@
 
 mod any_calendars;
 mod constructors;
+mod expected;
 mod kinds;

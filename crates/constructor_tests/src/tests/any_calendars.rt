@@ -1,5 +1,6 @@
 //! Dates of one calendar as dates of any, and dates of any calendar in another.
 
+use crate::tests::expected::assert_holds;
 use icu_calendar::{
     AnyCalendar, AnyCalendarKind, Buddhist, ChineseTraditional, Coptic, Date, EastAsianTable,
     Ethiopian, EthiopianEraStyle, Gregorian, Hebrew, Hijri, HijriTable, Indian, IntoAnyCalendar,
@@ -88,20 +89,16 @@ fn dates_of_hijri_calendars_are_dates_of_any(rt: HostRuntime) {
     use AnyCalendarKind as kind;
     use TabularAlgorithmEpoch::{Friday, Thursday};
     use TabularAlgorithmLeapYears::{TypeI, TypeII};
-    let (civil, tabular) = (
-        Hijri::new_tabular(TypeII, Friday),
-        Hijri::new_tabular(TypeII, Thursday),
-    );
+    for &(leap_years, epoch, kind) in &[
+        (TypeII, Friday, kind::HijriTabularTypeIIFriday),
+        (TypeII, Thursday, kind::HijriTabularTypeIIThursday),
+        (TypeI, Friday, kind::HijriTabularTypeIFriday),
+        (TypeI, Thursday, kind::HijriTabularTypeIThursday),
+    ] {
+        assert_any(&rt, Hijri::new_tabular(leap_years, epoch), kind, 1420);
+    }
     let simulated = Hijri::new_simulated_mecca(HijriTable::none());
     let umm_al_qura = Hijri::new_umm_al_qura(HijriTable::none());
-    assert_any(&rt, civil, kind::HijriTabularTypeIIFriday, 1420);
-    assert_any(&rt, tabular, kind::HijriTabularTypeIIThursday, 1420);
-    let (friday, thursday) = (
-        Hijri::new_tabular(TypeI, Friday),
-        Hijri::new_tabular(TypeI, Thursday),
-    );
-    assert_any(&rt, friday, kind::HijriTabularTypeIFriday, 1420);
-    assert_any(&rt, thursday, kind::HijriTabularTypeIThursday, 1420);
     assert_any(&rt, simulated, kind::HijriSimulatedMecca, 1420);
     assert_any(&rt, umm_al_qura, kind::HijriUmmAlQura, 1420);
 }
@@ -132,9 +129,10 @@ fn dates_are_converted_to_any_calendar(rt: HostRuntime) {
         let date = date_on(number, from);
         let shown = calendar_of(to);
         let there = date.convert_any(&shown);
-        assert!(rt;
+        assert_holds(
+            &rt,
+            number,
             has_parts_in(&there, number, extended_year, month, day_of_month),
-            "on {number}"
         );
     }
 }

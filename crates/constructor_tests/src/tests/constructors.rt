@@ -1,5 +1,6 @@
 //! Dates of one calendar's own fields.
 
+use crate::tests::expected::assert_holds;
 use cal_hijri::Rules;
 use icu_calendar::{
     AnyCalendar, AnyCalendarKind, AsCalendar, Calendar, Date, DateError, EraStartDate, Hijri,
@@ -7,6 +8,7 @@ use icu_calendar::{
     TabularAlgorithmLeapYears, TinyAsciiStr,
 };
 use std::cmp::Ordering;
+use std::fmt::Debug;
 use std::process::Abort;
 use test_dates::{calendar_of, date_on, number_in, parts_in, parts_of};
 
@@ -88,7 +90,7 @@ fn assert_made(
         Month::new(number)
     };
     let found = day_made(&calendar_of(kind), year, (number, month), day);
-    assert!(rt; found == Some(want), "day {want}");
+    assert_holds(rt, want, found == Some(want));
 }
 
 /// 1992-09-02 of the ISO calendar.
@@ -173,22 +175,23 @@ fn japanese_dates_are_made_in_any_era(rt: HostRuntime) {
     ] {
         let made = day_in_era((era, year), month, day, later);
         let same = day_in_era((same_era, same_year), month, day, Ref(&later));
-        assert!(rt; made.is_some(), "in {era}");
-        assert!(rt; made == same, "in {era}");
+        assert_holds(&rt, era, made.is_some());
+        assert_holds(&rt, era, made == same);
     }
     let heisei = day_in_era(("heisei", 1), 1, 1, Japanese::new());
     assert!(rt; heisei == Some(726103));
 }
 
 /// That no date was made, with this error.
-fn assert_range<A: AsCalendar>(rt: &impl Abort, made: Result<Date<A>, RangeError>, want: RangeError)
+fn assert_fault<A: AsCalendar, E: PartialEq + Debug + Copy>(
+    rt: &impl Abort,
+    made: Result<Date<A>, E>,
+    want: E,
+)
 where
     A::Calendar: Calendar,
 {
-    match made {
-        Ok(_) => assert!(rt; false, "a date of {}", want.value),
-        Err(e) => assert!(rt; e == want, "{e}"),
-    }
+    assert_holds(rt, want, made.err() == Some(want));
 }
 
 fn range_error(field: &'static str, value: i32, min: i32, max: i32) -> RangeError {
@@ -209,9 +212,9 @@ fn the_first_argument_out_of_its_range_is_named(rt: HostRuntime) {
         (2021, 2, 29, "day", 29, 1, 28),
     ] {
         let made = Date::try_new_iso(year, month, day);
-        assert_range(&rt, made, range_error(field, value, min, max));
+        assert_fault(&rt, made, range_error(field, value, min, max));
     }
-    assert_range(
+    assert_fault(
         &rt,
         Date::try_new_coptic(1686, 14, 7),
         range_error("month", 14, 1, 13),
@@ -220,14 +223,16 @@ fn the_first_argument_out_of_its_range_is_named(rt: HostRuntime) {
 
 #[test]
 fn a_month_or_an_era_that_is_not_there_is_named(rt: HostRuntime) {
-    match Date::try_new_hebrew_v2(5783, Month::leap(5), 1) {
-        Ok(_) => assert!(rt; false, "5783 has no leap month"),
-        Err(e) => assert!(rt; e == LunisolarDateError::MonthNotInYear),
-    }
-    match Date::try_new_japanese_with_calendar("edo", 1, 0, 1, Japanese::new()) {
-        Ok(_) => assert!(rt; false, "an era before Meiji"),
-        Err(e) => assert!(rt; e == DateError::UnknownEra),
-    }
+    assert_fault(
+        &rt,
+        Date::try_new_hebrew_v2(5783, Month::leap(5), 1),
+        LunisolarDateError::MonthNotInYear,
+    );
+    assert_fault(
+        &rt,
+        Date::try_new_japanese_with_calendar("edo", 1, 0, 1, Japanese::new()),
+        DateError::UnknownEra,
+    );
 }
 
 const KINDS: [AnyCalendarKind; 20] = [
@@ -292,13 +297,13 @@ where
 /// Days from -1000 to 1000 and from 738000 to 739000.
 #[test]
 fn constructors_give_each_date_back_and_days_give_its_order(rt: HostRuntime) {
-    for kind in KINDS {
+    for &kind in &KINDS {
         for &(first, count) in &[(-1000, 2001), (738000, 1001)] {
             let mut before = date_on(first - 1, kind);
             for number in first..first + count {
                 let date = date_on(number, kind);
-                assert!(rt; day_made_again(&date) == Some(number), "on {number}");
-                assert!(rt; is_before(&before, &date), "on {number}");
+                assert_holds(&rt, number, day_made_again(&date) == Some(number));
+                assert_holds(&rt, number, is_before(&before, &date));
                 before = date;
             }
         }

@@ -1,12 +1,13 @@
 //! Dates in the calendar of each kind.
 
+use crate::tests::expected::assert_holds;
 use icu_calendar::AnyCalendarKind;
 use test_dates::{date_on, parts_of};
 
 /// The year that each kind gives to January 1, 2000 of the ISO calendar (day 730120).
 #[test]
 fn year_2000_by_kind(rt: HostRuntime) {
-    let years = [
+    for &(kind, year) in &[
         (AnyCalendarKind::Buddhist, 2543),
         (AnyCalendarKind::Chinese, 1999),
         (AnyCalendarKind::Coptic, 1716),
@@ -28,9 +29,8 @@ fn year_2000_by_kind(rt: HostRuntime) {
         (AnyCalendarKind::Roc, 89),
         (AnyCalendarKind::HijriTabularTypeIFriday, 1420),
         (AnyCalendarKind::HijriTabularTypeIThursday, 1420),
-    ];
-    for (kind, year) in years {
+    ] {
         let date = date_on(730120, kind);
-        assert!(rt; parts_of(&date).0 == year);
+        assert_holds(&rt, year, parts_of(&date).0 == year);
     }
 }
