@@ -22,22 +22,6 @@ where
     assert_holds(rt, "the month", code.0.as_str() == "M02");
 }
 
-/// That a calendar names February 29, 2020, and that the second calendar shows the same.
-fn assert_leap_day_named<A: AsCalendar, B: AsCalendar>(rt: &impl Abort, calendar: A, other: B)
-where
-    A::Calendar: Calendar,
-    B::Calendar: Calendar,
-{
-    match date_named(2020, 2, 29, calendar) {
-        Ok(date) => {
-            assert_leap_day(rt, &date);
-            let shown = date.to_calendar(other);
-            assert_holds(rt, "shown", has_parts_in(&shown, 737484, 2020, 2, 29));
-        }
-        Err(cause) => assert_holds(rt, cause, false),
-    }
-}
-
 /// What is wrong with a year, a plain month and a day in a calendar.
 fn fault_of<A: AsCalendar>(
     year: i32,
@@ -48,12 +32,26 @@ fn fault_of<A: AsCalendar>(
 where
     A::Calendar: Calendar,
 {
-    date_named(year, month, day, calendar).err()
+    match date_named(year, month, day, calendar) {
+        Ok(_) => None,
+        Err(cause) => Some(cause),
+    }
+}
+
+/// The day of an ISO date in the calendar of a kind.
+fn iso_shown_in(date: &Date<Iso>, kind: AnyCalendarKind) -> Date<AnyCalendar<'static>> {
+    date.to_calendar(calendar_of(kind))
 }
 
 #[test]
 fn date_says_its_year_month_and_day(rt: HostRuntime) {
-    assert_leap_day_named(&rt, Iso, calendar_of(ISO));
+    match date_named(2020, 2, 29, Iso) {
+        Ok(date) => {
+            assert_leap_day(&rt, &date);
+            assert!(rt; has_parts(&iso_shown_in(&date, ISO), 737484, 2020, 2, 29));
+        }
+        Err(cause) => assert_holds(&rt, cause, false),
+    }
     let fault = fault_of(2021, 2, 29, Iso);
     assert!(rt; fault == Some(DateFromFieldsError::InvalidDay { max: 28 }));
 }
@@ -105,7 +103,8 @@ fn assert_there_and_back(
     let date = date_on(number, first);
     let there = shown_in(&date, second);
     assert_holds(rt, number, number_of(&there) == number);
-    assert_parts_of(rt, &shown_in(&there, first), number, &date);
+    let back = shown_in(&there, first);
+    assert_parts_of(rt, &back, number, &date);
 }
 
 #[test]
@@ -140,17 +139,18 @@ fn days_out_of_range_are_clamped(rt: HostRuntime) {
     }
 }
 
-/// The difference of two days in turn, of which the first is December 19, 2021 of the Julian calendar.
-fn difference_of_days<A: AsCalendar, B: AsCalendar<Calendar = A::Calendar>>(
+/// The difference of two days in turn, of which the first is December 19, 2021 of the Julian calendar, which its date
+/// borrows.
+fn difference_of_days<A: AsCalendar>(
     rt: &impl Abort,
-    calendar: A,
-    other: B,
+    calendar: &A,
+    owned: A,
 ) -> Option<DateDuration>
 where
     A::Calendar: Calendar,
 {
-    let date = Date::from_rata_die(RataDie::new(738156), calendar);
-    let next = Date::from_rata_die(RataDie::new(738157), other);
+    let date = Date::from_rata_die(RataDie::new(738156), Ref(calendar));
+    let next = Date::from_rata_die(RataDie::new(738157), owned);
     assert_holds(rt, "the first", has_parts_in(&date, 738156, 2021, 12, 19));
     date.try_until_with_options(&next, IN_DAYS).ok()
 }
@@ -158,6 +158,6 @@ where
 #[test]
 fn a_date_may_borrow_its_calendar(rt: HostRuntime) {
     let calendar = Julian;
-    let between = difference_of_days(&rt, Ref(&calendar), Julian);
+    let between = difference_of_days(&rt, &calendar, Julian);
     assert!(rt; between == Some(duration(false, 0, 0, 0, 1)));
 }
