@@ -10,6 +10,16 @@ use icu_calendar::{
 use std::process::Abort;
 use test_dates::{JULIAN, calendar_of, date_on, day, has_parts, has_parts_in, parts_in};
 
+/// The calendar of a date of any calendar.
+fn calendar_in<'a, 't>(date: &'a Date<AnyCalendar<'t>>) -> &'a AnyCalendar<'t> {
+    date.calendar()
+}
+
+/// The kind of the calendar of a date of any calendar.
+fn kind_in(date: &Date<AnyCalendar<'_>>) -> AnyCalendarKind {
+    date.calendar().kind()
+}
+
 /// That a date of a calendar is the same one as a date of any calendar, that the calendar comes back from its variant,
 /// and that another variant is handed back.
 fn assert_any<'t, C: IntoAnyCalendar<'t> + Copy>(
@@ -22,9 +32,30 @@ fn assert_any<'t, C: IntoAnyCalendar<'t> + Copy>(
     let (_, month, day_of_month) = parts_in(&date);
     let any = date.to_any();
     assert!(rt; has_parts(&any, 730120, extended_year, month, day_of_month));
-    assert!(rt; any.calendar().kind() == kind);
-    assert!(rt; C::from_any_ref(any.calendar()).is_some());
+    assert!(rt; kind_in(&any) == kind);
+    assert!(rt; C::from_any_ref(calendar_in(&any)).is_some());
     assert_variant(rt, calendar, kind);
+}
+
+/// That a calendar is of this kind, and is the one that any calendar holds.
+fn assert_held<'t, C: IntoAnyCalendar<'t>>(
+    rt: &impl Abort,
+    calendar: &C,
+    any: AnyCalendar<'t>,
+    kind: AnyCalendarKind,
+) {
+    assert!(rt; calendar.kind() == kind);
+    assert!(rt; C::from_any_ref(&any).is_some());
+    assert!(rt; C::from_any(any).is_ok());
+}
+
+/// The Gregorian calendar for the kind of ISO's, and ISO's calendar for any other kind.
+fn other_than(kind: AnyCalendarKind) -> AnyCalendar<'static> {
+    if kind == AnyCalendarKind::Iso {
+        AnyCalendar::Gregorian(Gregorian)
+    } else {
+        AnyCalendar::Iso(Iso)
+    }
 }
 
 /// That a calendar is of its kind, comes back from its variant, and hands another one back.
@@ -33,13 +64,8 @@ fn assert_variant<'t, C: IntoAnyCalendar<'t> + Copy>(
     calendar: C,
     kind: AnyCalendarKind,
 ) {
-    assert!(rt; calendar.kind() == kind);
-    assert!(rt; C::from_any(calendar.to_any()).is_ok());
-    let other = if kind == AnyCalendarKind::Iso {
-        AnyCalendar::Gregorian(Gregorian)
-    } else {
-        AnyCalendar::Iso(Iso)
-    };
+    assert_held(rt, &calendar, calendar.to_any(), kind);
+    let other = other_than(kind);
     assert!(rt; C::from_any_ref(&other).is_none());
     assert!(rt; C::from_any(other).is_err());
 }
@@ -105,11 +131,10 @@ fn dates_of_hijri_calendars_are_dates_of_any(rt: HostRuntime) {
 
 #[test]
 fn any_calendar_is_itself(rt: HostRuntime) {
+    let date = date_on(738156, JULIAN).to_any();
+    assert!(rt; has_parts(&date, 738156, 2021, 12, 19));
     let julian = calendar_of(JULIAN);
-    assert!(rt; has_parts(&date_on(738156, JULIAN).to_any(), 738156, 2021, 12, 19));
-    assert!(rt; IntoAnyCalendar::kind(&julian) == AnyCalendarKind::Julian);
-    assert!(rt; AnyCalendar::from_any_ref(&julian).is_some());
-    assert!(rt; AnyCalendar::from_any(julian).is_ok());
+    assert_held(&rt, &julian, julian, AnyCalendarKind::Julian);
 }
 
 /// Days of the ISO calendar in others, and a date that is kept in another style of its calendar.

@@ -3,14 +3,14 @@
 use crate::tests::expected::assert_holds;
 use cal_hijri::Rules;
 use icu_calendar::{
-    AnyCalendar, AnyCalendarKind, AsCalendar, Calendar, Date, DateError, EraStartDate, Hijri,
-    Japanese, JapaneseEras, LunisolarDateError, Month, RangeError, Ref, TabularAlgorithmEpoch,
-    TabularAlgorithmLeapYears, TinyAsciiStr,
+    AnyCalendar, AnyCalendarKind, AsCalendar, Calendar, Date, DateError, EraStartDate, EraYear,
+    Hijri, Japanese, JapaneseEras, LunisolarDateError, Month, RangeError, Ref,
+    TabularAlgorithmEpoch, TabularAlgorithmLeapYears, TinyAsciiStr,
 };
 use std::cmp::Ordering;
 use std::fmt::Debug;
 use std::process::Abort;
-use test_dates::{calendar_of, date_on, number_in, parts_in, parts_of};
+use test_dates::{calendar_of, date_on, number_in, parts_of};
 
 /// The day number of a date that was made.
 fn day_of<A: AsCalendar, E: Drop>(made: Result<Date<A>, E>) -> Option<i64>
@@ -159,15 +159,20 @@ fn lunisolar_dates_have_known_days(rt: HostRuntime) {
     }
 }
 
-#[test]
-fn japanese_dates_are_made_in_any_era(rt: HostRuntime) {
+/// The Japanese calendar with an era of 2086 after those that it has.
+fn japanese_with_a_later_era(rt: &impl Abort) -> Japanese {
     let start = EraStartDate {
         year: 2086,
         month: 11,
         day: 1,
     };
     let eras = JapaneseEras::with_last_era(start, TinyAsciiStr::of_text(b"fuzu"), 8);
-    let later = Japanese::with_eras(eras.expect(&rt, "the era is accepted"));
+    Japanese::with_eras(eras.expect(rt, "the era is accepted"))
+}
+
+#[test]
+fn japanese_dates_are_made_in_any_era(rt: HostRuntime) {
+    let later = japanese_with_a_later_era(&rt);
     for &(era, year, month, day, same_era, same_year) in &[
         ("ce", 2024, 3, 1, "reiwa", 6),
         ("heisei", 1, 1, 1, "showa", 64),
@@ -266,13 +271,23 @@ where
     date.month().to_input()
 }
 
-/// The day number of the date that a Japanese calendar makes of the parts of a date.
-fn day_of_japanese<A: AsCalendar>(date: &Date<A>, calendar: &Japanese) -> Option<i64>
+/// The month of a date of any calendar as a constructor takes it.
+fn month_of(date: &Date<AnyCalendar<'_>>) -> Month {
+    input_of(date)
+}
+
+/// The year of a date in its era, where it has one.
+fn era_of<A: AsCalendar>(date: &Date<A>) -> Option<EraYear>
 where
     A::Calendar: Calendar,
 {
-    let (_, place, day) = parts_in(date);
-    let named = date.year().era()?;
+    date.year().era()
+}
+
+/// The day number of the date that a Japanese calendar makes of the parts of a date.
+fn day_of_japanese(date: &Date<AnyCalendar<'_>>, calendar: &Japanese) -> Option<i64> {
+    let (_, place, day) = parts_of(date);
+    let named = era_of(date)?;
     day_in_era((named.era.as_str(), named.year), place, day, Ref(calendar))
 }
 
@@ -280,9 +295,8 @@ where
 fn day_made_again(date: &Date<AnyCalendar<'static>>) -> Option<i64> {
     let (year, place, day) = parts_of(date);
     match date.calendar() {
-        AnyCalendar::Japanese(c) => day_of_japanese(date, c),
-        AnyCalendar::JapaneseExtended(c) => day_of_japanese(date, c),
-        other => day_made(other, year, (place, input_of(date)), day),
+        AnyCalendar::Japanese(c) | AnyCalendar::JapaneseExtended(c) => day_of_japanese(date, c),
+        other => day_made(other, year, (place, month_of(date)), day),
     }
 }
 
@@ -294,18 +308,27 @@ where
     date.date_cmp(other) == Some(Ordering::Less)
 }
 
+/// Whether a date of any calendar comes before another.
+fn comes_before(date: &Date<AnyCalendar<'static>>, other: &Date<AnyCalendar<'static>>) -> bool {
+    is_before(date, other)
+}
+
+/// That each of so many days from one on has a date after that of the day before, which its own constructor makes.
+fn assert_made_again(rt: &impl Abort, kind: AnyCalendarKind, first: i64, count: i64) {
+    let mut before = date_on(first.saturating_sub(1), kind);
+    for number in first..first.saturating_add(count) {
+        let date = date_on(number, kind);
+        assert_holds(rt, number, day_made_again(&date) == Some(number));
+        assert_holds(rt, number, comes_before(&before, &date));
+        before = date;
+    }
+}
+
 /// Days from -1000 to 1000 and from 738000 to 739000.
 #[test]
 fn constructors_give_each_date_back_and_days_give_its_order(rt: HostRuntime) {
     for &kind in &KINDS {
-        for &(first, count) in &[(-1000, 2001), (738000, 1001)] {
-            let mut before = date_on(first - 1, kind);
-            for number in first..first + count {
-                let date = date_on(number, kind);
-                assert_holds(&rt, number, day_made_again(&date) == Some(number));
-                assert_holds(&rt, number, is_before(&before, &date));
-                before = date;
-            }
-        }
+        assert_made_again(&rt, kind, -1000, 2001);
+        assert_made_again(&rt, kind, 738000, 1001);
     }
 }
