@@ -1,6 +1,6 @@
 //! Each read and each write of a run failed in its turn, however the bytes are cut.
 
-use crate::tests::runs::{Calls, Case, assert_run, calls_of};
+use crate::tests::runs::{Case, SPAN, assert_read_fault, assert_write_fault};
 use calspan_run::Status;
 use std::alloc::Global;
 use std::process::Abort;
@@ -50,27 +50,6 @@ fn answers_within(alloc: Global, lines: &[Line], taken: usize) -> Result<Vec<u8>
     Ok(text)
 }
 
-/// That some lines are answered by a text, and the run ends with a status, where these calls fail.
-fn assert_lines(
-    rt: &impl Abort,
-    alloc: Global,
-    lines: &[Line],
-    reads: Calls<'_>,
-    writes: Calls<'_>,
-    status: Status,
-    text: &[u8],
-) -> Result<(), Fail> {
-    let input = input_of(alloc, lines)?;
-    let case = Case {
-        words: &["span"],
-        input: &input,
-        reads,
-        writes,
-    };
-    let _left = assert_run(rt, alloc, case, status, text)?;
-    Ok(())
-}
-
 /// That a read which fails, the one of this number, keeps the answers to the whole lines that came before it.
 fn assert_read(
     rt: &impl Abort,
@@ -79,21 +58,22 @@ fn assert_read(
     most: usize,
     call: u64,
 ) -> Result<(), Fail> {
-    let size = input_of(alloc, lines)?.len();
+    let input = input_of(alloc, lines)?;
     let taken = most.saturating_mul(call.saturating_sub(1) as usize);
     let text = answers_within(alloc, lines, taken)?;
     // The source gives its bytes in reads of at most so many, and a last one gives none.
-    let status = if taken < size.saturating_add(most) {
+    let status = if taken < input.len().saturating_add(most) {
         Status::ReadFault
     } else {
         Status::Done
     };
-    let failing = [call];
-    let reads = Calls {
-        most,
-        failing: &failing,
+    let case = Case {
+        words: SPAN,
+        input: &input,
+        text: &text,
+        status,
     };
-    assert_lines(rt, alloc, lines, reads, calls_of(4096), status, &text)
+    assert_read_fault(rt, alloc, case, most, call)
 }
 
 /// That a write which fails, the one of this number, keeps what was written before it.
@@ -104,6 +84,7 @@ fn assert_write(
     most: usize,
     call: u64,
 ) -> Result<(), Fail> {
+    let input = input_of(alloc, lines)?;
     let all = answers_within(alloc, lines, usize::MAX)?;
     let taken = most.saturating_mul(call.saturating_sub(1) as usize);
     let status = if taken < all.len() {
@@ -111,16 +92,16 @@ fn assert_write(
     } else {
         Status::Done
     };
-    let written = &all[..taken.min(all.len())];
-    let failing = [call];
-    let writes = Calls {
-        most,
-        failing: &failing,
+    let case = Case {
+        words: SPAN,
+        input: &input,
+        text: &all[..taken.min(all.len())],
+        status,
     };
-    assert_lines(rt, alloc, lines, calls_of(4096), writes, status, written)
+    assert_write_fault(rt, alloc, case, most, call)
 }
 
-/// Both, of each call up to one that isn't reached.
+/// That each read and each write of some lines fails in its turn, up to a call that isn't reached.
 fn assert_faults(
     rt: &impl Abort,
     alloc: Global,
@@ -135,12 +116,15 @@ fn assert_faults(
     Ok(())
 }
 
+/// That each read and each write of some lines fails in its turn, in calls of three sizes.
+fn assert_all_faults(rt: &impl Abort, alloc: Global, lines: &[Line]) -> Result<(), Fail> {
+    assert_faults(rt, alloc, lines, 1, 260)?;
+    assert_faults(rt, alloc, lines, 7, 40)?;
+    assert_faults(rt, alloc, lines, 4096, 5)
+}
+
 #[test]
 fn each_read_and_each_write_fails_in_turn(rt: HostRuntime) -> Result<(), Fail> {
-    for &lines in &[[LEAP_DAY, LEAP_DAY].as_slice(), &[ROW, AFTER_ROW]] {
-        for &(most, calls) in &[(1usize, 260u64), (7, 40), (4096, 5)] {
-            assert_faults(&rt, rt.alloc(), lines, most, calls)?;
-        }
-    }
-    Ok(())
+    assert_all_faults(&rt, rt.alloc(), &[LEAP_DAY, LEAP_DAY])?;
+    assert_all_faults(&rt, rt.alloc(), &[ROW, AFTER_ROW])
 }

@@ -1,6 +1,9 @@
 //! Request lines and their answers, which were computed by an independent implementation.
 
-use crate::tests::runs::{Calls, Case, assert_answers, assert_run, calls_of};
+use crate::tests::runs::{
+    Case, SPAN, assert_pieces, assert_read_faults, assert_run, assert_write_faults, calls_of,
+    joined,
+};
 use calspan_run::Status;
 use std::alloc::Global;
 use std::process::Abort;
@@ -18,10 +21,8 @@ struct Answered {
     answer: &'static [u8],
 }
 
-/// Years, months and days of all kinds, the units, a shorter month, months back, the widest difference, bags of all
-/// kinds, leap months, a year of 355 days that the rule of the new year lengthens, reference years, eras that begin
-/// within a year, the seam of 1912, and the other calendars.
-const CASES: [Answered; 46] = [
+/// Years, months and days of all kinds.
+const DAYS: [Answered; 13] = [
     Answered {
         line: b"span iso iso none none reject from year=2020 month=M02 day=29 to year=2021 month=M02 day=28",
         answer: b"ok 2020/default.2020/M02/29@737484 2020/default.2020/M02/29@737484 2021/default.2021/M02/28@737849 2021/default.2021/M02/28@737849 P365D\n",
@@ -74,6 +75,10 @@ const CASES: [Answered; 46] = [
         line: b"span iso iso days none none from year=1000000 month=M01 day=1 to year=1 month=M01 day=1",
         answer: b"err from Overflow\n",
     },
+];
+
+/// The units, a shorter month, months back and the widest difference.
+const UNITS: [Answered; 10] = [
     Answered {
         line: b"span iso gregorian years reject none from year=2020 month=M02 day=29 to year=2021 month=M02 day=28",
         answer: b"ok 2020/default.2020/M02/29@737484 2020/ce.2020/M02/29@737484 2021/default.2021/M02/28@737849 2021/ce.2021/M02/28@737849 P11M30D\n",
@@ -114,6 +119,10 @@ const CASES: [Answered; 46] = [
         line: b"span iso julian days none none from year=2022 month=M01 day=1 to year=2022 month=M01 day=1",
         answer: b"ok 2022/default.2022/M01/01@738156 2021/ce.2021/M12/19@738156 2022/default.2022/M01/01@738156 2021/ce.2021/M12/19@738156 P0D\n",
     },
+];
+
+/// Bags of all kinds.
+const BAGS: [Answered; 10] = [
     Answered {
         line: b"span iso iso days none none from year=1 month=M01 month-code=M01 day=1 to",
         answer: b"err from TooManyFields\n",
@@ -154,6 +163,11 @@ const CASES: [Answered; 46] = [
         line: b"span iso iso days none none from era=a=b era-year=000000001 to year=1 month=M01 day=1\r",
         answer: b"err from NotEnoughFields\n",
     },
+];
+
+/// Leap months, a year of 355 days that the rule of the new year lengthens, reference years, eras that begin within a
+/// year, the seam of 1912, and the other calendars.
+const OTHER_CALENDARS: [Answered; 13] = [
     Answered {
         line: b"span hebrew iso years reject none from year=5782 month=M05L day=9 to year=5783 month=M01 day=15",
         answer: b"ok 5782/am.5782/M05L/09@738196 2022/default.2022/M02/10@738196 5783/am.5783/M01/15@738438 2022/default.2022/M10/10@738438 P8M6D\n",
@@ -209,24 +223,55 @@ const CASES: [Answered; 46] = [
 ];
 
 /// What the line alone is answered, in pieces of any size.
-fn assert_answer(rt: &impl Abort, alloc: Global, line: &[u8], answer: &[u8]) -> Result<(), Fail> {
-    let status = if answer.starts_with(b"err ") {
+fn assert_answer(rt: &impl Abort, alloc: Global, input: &[u8], text: &[u8]) -> Result<(), Fail> {
+    let status = if text.starts_with(b"err ") {
         Status::Refused
     } else {
         Status::Done
     };
-    for &most in &[1, 13, 4096] {
-        assert_answers(rt, alloc, line, most, status, answer)?;
+    let case = Case {
+        words: SPAN,
+        input,
+        text,
+        status,
+    };
+    assert_pieces(rt, alloc, &[1, 13, 4096], case)
+}
+
+/// That each line alone has its answer.
+fn assert_answers(rt: &impl Abort, alloc: Global, cases: &[Answered]) -> Result<(), Fail> {
+    for case in cases {
+        assert_answer(rt, alloc, case.line, case.answer)?;
+    }
+    Ok(())
+}
+
+/// That each line alone has the same answer.
+fn assert_each(rt: &impl Abort, alloc: Global, lines: &[&[u8]], answer: &[u8]) -> Result<(), Fail> {
+    for &line in lines {
+        assert_answer(rt, alloc, line, answer)?;
     }
     Ok(())
 }
 
 #[test]
 fn requests_in_any_pieces(rt: HostRuntime) -> Result<(), Fail> {
-    for case in &CASES {
-        assert_answer(&rt, rt.alloc(), case.line, case.answer)?;
-    }
-    Ok(())
+    assert_answers(&rt, rt.alloc(), &DAYS)
+}
+
+#[test]
+fn requests_of_units_in_any_pieces(rt: HostRuntime) -> Result<(), Fail> {
+    assert_answers(&rt, rt.alloc(), &UNITS)
+}
+
+#[test]
+fn requests_of_bags_in_any_pieces(rt: HostRuntime) -> Result<(), Fail> {
+    assert_answers(&rt, rt.alloc(), &BAGS)
+}
+
+#[test]
+fn requests_of_other_calendars_in_any_pieces(rt: HostRuntime) -> Result<(), Fail> {
+    assert_answers(&rt, rt.alloc(), &OTHER_CALENDARS)
 }
 
 /// The 15th of each thirty years is a leap year by the rules of type I, and by those of type II it isn't.
@@ -243,10 +288,7 @@ const LEAP_YEAR_OF_TYPE_I: [Answered; 2] = [
 
 #[test]
 fn a_leap_year_of_type_i_has_a_day_that_type_ii_lacks(rt: HostRuntime) -> Result<(), Fail> {
-    for case in &LEAP_YEAR_OF_TYPE_I {
-        assert_answer(&rt, rt.alloc(), case.line, case.answer)?;
-    }
-    Ok(())
+    assert_answers(&rt, rt.alloc(), &LEAP_YEAR_OF_TYPE_I)
 }
 
 /// The leap day's request, written in other ways.
@@ -259,10 +301,7 @@ const LEAP_DAYS: [&[u8]; 4] = [
 
 #[test]
 fn fields_in_any_order(rt: HostRuntime) -> Result<(), Fail> {
-    for line in LEAP_DAYS {
-        assert_answer(&rt, rt.alloc(), line, LEAP_DAY_ANSWER)?;
-    }
-    Ok(())
+    assert_each(&rt, rt.alloc(), &LEAP_DAYS, LEAP_DAY_ANSWER)
 }
 
 /// Lines off the grammar.
@@ -305,56 +344,28 @@ const MALFORMED: [&[u8]; 34] = [
 
 #[test]
 fn lines_on_and_off_the_grammar(rt: HostRuntime) -> Result<(), Fail> {
-    for line in MALFORMED {
-        assert_answer(&rt, rt.alloc(), line, b"err line 1 syntax\n")?;
-    }
-    Ok(())
+    assert_each(&rt, rt.alloc(), &MALFORMED, b"err line 1 syntax\n")
 }
 
-/// That the leap day's request, twice, is answered by a text, where these calls fail.
-fn assert_twice(
-    rt: &impl Abort,
-    alloc: Global,
-    reads: Calls<'_>,
-    writes: Calls<'_>,
-    status: Status,
-    text: &[u8],
-) -> Result<(), Fail> {
-    let mut input = Vec::new(alloc);
-    input.extend_from_slice(LEAP_DAY)?;
-    input.extend_from_slice(LEAP_DAY)?;
+/// That the leap day's request, twice, is answered up to the second read, which fails, in pieces of one byte, and by
+/// nothing where no write is taken.
+fn assert_twice(rt: &impl Abort, alloc: Global, input: &[u8], text: &[u8]) -> Result<(), Fail> {
+    let cut = &[(LEAP_DAY.len(), 2, Status::ReadFault, LEAP_DAY_ANSWER)];
+    assert_read_faults(rt, alloc, SPAN, input, cut)?;
     let case = Case {
-        words: &["span"],
-        input: &input,
-        reads,
-        writes,
+        words: SPAN,
+        input,
+        text,
+        status: Status::Done,
     };
-    let _left = assert_run(rt, alloc, case, status, text)?;
-    Ok(())
+    let _left = assert_run(rt, alloc, case, calls_of(1), calls_of(4096))?;
+    let none = &[(4096, 1, Status::WriteFault, b"".as_slice())];
+    assert_write_faults(rt, alloc, SPAN, input, none)
 }
 
 #[test]
 fn faults_keep_the_answers_to_whole_lines(rt: HostRuntime) -> Result<(), Fail> {
-    let cut_read = Calls {
-        most: LEAP_DAY.len(),
-        failing: &[2],
-    };
-    let no_write = Calls {
-        most: 4096,
-        failing: &[1],
-    };
-    let whole = calls_of(4096);
-    let mut answers = Vec::new(rt.alloc());
-    answers.extend_from_slice(LEAP_DAY_ANSWER)?;
-    answers.extend_from_slice(LEAP_DAY_ANSWER)?;
-    assert_twice(
-        &rt,
-        rt.alloc(),
-        cut_read,
-        whole,
-        Status::ReadFault,
-        LEAP_DAY_ANSWER,
-    )?;
-    assert_twice(&rt, rt.alloc(), calls_of(1), whole, Status::Done, &answers)?;
-    assert_twice(&rt, rt.alloc(), whole, no_write, Status::WriteFault, b"")
+    let input = joined(rt.alloc(), &[LEAP_DAY, LEAP_DAY])?;
+    let text = joined(rt.alloc(), &[LEAP_DAY_ANSWER, LEAP_DAY_ANSWER])?;
+    assert_twice(&rt, rt.alloc(), &input, &text)
 }
