@@ -2,34 +2,36 @@
 
 ghost use Rattle.std.specs.Prelude.{◌≡◌, ◌<◌};
 
+use crate::tests::sums::{Day, added_on};
 use icu_calendar::{
-    AnyCalendar, AnyCalendarKind, AsCalendar, Calendar, Date, DateAddOptions,
-    DateDifferenceOptions, DateDuration, DateDurationUnit, Overflow, Steps,
+    AnyCalendar, AnyCalendarKind, Date, DateAddOptions, DateDifferenceOptions, DateDuration,
+    DateDurationUnit, Overflow, Steps,
 };
 use std::marker::Brand;
 use std::process::Abort;
 use std::sync::ledger::{Blank, Ledger};
-use test_dates::{GREGORIAN, IN_DAYS, ISO, JULIAN, date_on, difference, duration, number_in};
+use test_dates::{GREGORIAN, IN_DAYS, ISO, JULIAN, date_on, difference, duration};
+
+/// The difference of two days; none where their calendars can't be compared.
+fn between(from: Day, to: Day, largest_unit: Option<DateDurationUnit>) -> Option<DateDuration> {
+    let from = date_on(from.1, from.0);
+    let to = date_on(to.1, to.0);
+    difference(&from, &to, DateDifferenceOptions { largest_unit })
+}
 
 #[test]
 fn dates_of_two_calendars_have_no_difference(rt: HostRuntime) {
-    for &(first, second, is_same) in &[
-        (ISO, GREGORIAN, false),
-        (GREGORIAN, ISO, false),
-        (JULIAN, GREGORIAN, false),
-        (ISO, JULIAN, false),
-        (ISO, ISO, true),
-        (GREGORIAN, GREGORIAN, true),
-        (JULIAN, JULIAN, true),
+    let day = Some(duration(false, 0, 0, 0, 1));
+    for &(first, second, want) in &[
+        (ISO, GREGORIAN, None),
+        (GREGORIAN, ISO, None),
+        (JULIAN, GREGORIAN, None),
+        (ISO, JULIAN, None),
+        (ISO, ISO, day),
+        (GREGORIAN, GREGORIAN, day),
+        (JULIAN, JULIAN, day),
     ] {
-        let from = date_on(738156, first);
-        let to = date_on(738157, second);
-        let want = if is_same {
-            Some(duration(false, 0, 0, 0, 1))
-        } else {
-            None
-        };
-        let found = difference(&from, &to, IN_DAYS);
+        let found = between((first, 738156), (second, 738157), IN_DAYS.largest_unit);
         assert!(rt; found == want);
     }
 }
@@ -55,28 +57,17 @@ fn differences_are_known_durations(rt: HostRuntime) {
             duration(false, 0, 11, 0, 30),
         ),
     ] {
-        let from = date_on(first, calendar);
-        let to = date_on(second, calendar);
-        let options = DateDifferenceOptions {
-            largest_unit: Some(unit),
-        };
-        let found = difference(&from, &to, options);
+        let found = between((calendar, first), (calendar, second), Some(unit));
         assert!(rt; found == Some(want), "from {first}");
     }
 }
 
-/// The day number of a date with a difference to another added.
-fn led_to<A: AsCalendar>(date: Date<A>, difference: Option<DateDuration>) -> Option<i64>
-where
-    A::Calendar: Calendar,
-{
+/// The day number of a day with a difference to another added.
+fn led_to(day: Day, difference: Option<DateDuration>) -> Option<i64> {
     let constrain = DateAddOptions {
         overflow: Some(Overflow::Constrain),
     };
-    match date.try_added_with_options(difference?, constrain) {
-        Ok(sum) => Some(number_in(&sum)),
-        Err(_) => None,
-    }
+    added_on(day, difference?, constrain).sum.ok()
 }
 
 /// That the difference of two days, added to the first, gives the second.
@@ -87,11 +78,9 @@ fn assert_leads_back(
     second: i64,
     largest_unit: Option<DateDurationUnit>,
 ) {
-    let from = date_on(first, calendar);
-    let to = date_on(second, calendar);
-    let between = difference(&from, &to, DateDifferenceOptions { largest_unit });
+    let length = between((calendar, first), (calendar, second), largest_unit);
     assert!(rt;
-        led_to(from, between) == Some(second),
+        led_to((calendar, first), length) == Some(second),
         "from {first} to {second}"
     );
 }

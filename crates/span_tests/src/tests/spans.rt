@@ -5,14 +5,14 @@ ghost use Rattle.cal_days.specs.Day.{IsValidDay};
 use calspan_run::{TwoDays, name_dates, show_days};
 use date_parts::{DayParts, SpanParts};
 use icu_calendar::{
-    AnyCalendar, AnyCalendarKind, BagSide, Date, DateDifferenceOptions, DateDuration,
-    DateDurationUnit, DateFromFieldsError, DateFromFieldsOptions, Overflow, Span, SpanError,
-    Tables, named_dates, span,
+    AnyCalendar, AnyCalendarKind, AsCalendar, BagSide, Calendar, Date, DateDifferenceOptions,
+    DateDuration, DateDurationUnit, DateFromFieldsError, DateFromFieldsOptions, Overflow, Span,
+    SpanError, Tables, named_dates, span,
 };
 use std::process::Abort;
 use test_dates::{
     GREGORIAN, IN_DAYS, ISO, JULIAN, REJECT, calendar_of, date_named, duration, fields, has_parts,
-    is_named, number_of, parts_of,
+    is_named, number_of, parts_in,
 };
 
 /// A year, a month and a day.
@@ -44,6 +44,17 @@ fn span_of(
     )
 }
 
+/// The span of two dates that have one.
+fn span_found(
+    rt: &impl Abort,
+    dates: (Ymd, Ymd),
+    options: DateFromFieldsOptions,
+    difference: DateDifferenceOptions,
+    (calendar, shown): (AnyCalendarKind, AnyCalendarKind),
+) -> Span<'static> {
+    span_of(dates, options, difference, calendar, shown).expect(rt, "no span")
+}
+
 /// The span of two ISO dates, where each fault is an error.
 fn iso_span(
     from: Ymd,
@@ -53,11 +64,16 @@ fn iso_span(
     span_of((from, to), REJECT, difference, ISO, ISO)
 }
 
-type AnyDate = Date<AnyCalendar<'static>>;
-
 /// Whether a date is shown as the same day, in this ISO year.
-fn is_shown(date: &AnyDate, shown: &AnyDate, year: i32) -> bool {
+fn is_shown(date: &Date<AnyCalendar<'_>>, shown: &Date<AnyCalendar<'_>>, year: i32) -> bool {
     number_of(date) == number_of(shown) && is_named(shown, year, "default", year)
+}
+
+/// Whether a span of two ISO dates is this long, and shows both.
+fn is_span(found: &Span<'_>, (from, to): (i32, i32), want: DateDuration) -> bool {
+    found.duration == want
+        && is_shown(&found.from, &found.from_shown, from)
+        && is_shown(&found.to, &found.to_shown, to)
 }
 
 /// That the span of two ISO dates is this long, and shows both.
@@ -67,18 +83,13 @@ fn assert_span(
     difference: DateDifferenceOptions,
     want: DateDuration,
 ) {
-    match iso_span(from, to, difference) {
-        Ok(found) => {
-            assert!(rt; found.duration == want, "from {} to {}", from.0, to.0);
-            assert!(rt;
-                is_shown(&found.from, &found.from_shown, from.0),
-                "from {}",
-                from.0
-            );
-            assert!(rt; is_shown(&found.to, &found.to_shown, to.0), "to {}", to.0);
-        }
-        Err(fault) => assert!(rt; false, "{}", fault.cause),
-    }
+    let found = span_found(rt, (from, to), REJECT, difference, (ISO, ISO));
+    assert!(rt;
+        is_span(&found, (from.0, to.0), want),
+        "from {} to {}",
+        from.0,
+        to.0
+    );
 }
 
 #[test]
@@ -94,16 +105,34 @@ fn span_has_the_days_and_both_dates(rt: HostRuntime) {
     }
 }
 
+/// The two dates that two bags name in a calendar, and the days between them.
+fn named_in<A: AsCalendar + Copy>(
+    from: Ymd,
+    to: Ymd,
+    calendar: A,
+) -> Result<(Ymd, Ymd, DateDuration), DateFromFieldsError>
+where
+    A::Calendar: Calendar,
+{
+    let (first, second) = (fields(from.0, from.1, from.2), fields(to.0, to.1, to.2));
+    match named_dates(first, second, REJECT, calendar) {
+        Ok(dates) => Ok((
+            parts_in(dates.from()),
+            parts_in(dates.to()),
+            dates.duration(IN_DAYS),
+        )),
+        Err(fault) => Err(fault.cause),
+    }
+}
+
 #[test]
 fn two_bags_name_two_dates_of_a_calendar(rt: HostRuntime) {
-    let (from, to) = (fields(2020, 2, 29), fields(2021, 2, 28));
-    match named_dates(from, to, REJECT, calendar_of(GREGORIAN)) {
-        Ok(dates) => {
-            assert!(rt; parts_of(dates.from()) == LEAP_DAY);
-            assert!(rt; parts_of(dates.to()) == YEAR_LATER);
-            assert!(rt; dates.duration(IN_DAYS) == duration(false, 0, 0, 0, 365));
+    match named_in(LEAP_DAY, YEAR_LATER, calendar_of(GREGORIAN)) {
+        Ok(found) => {
+            let days = duration(false, 0, 0, 0, 365);
+            assert!(rt; found == (LEAP_DAY, YEAR_LATER, days));
         }
-        Err(fault) => assert!(rt; false, "{}", fault.cause),
+        Err(cause) => assert!(rt; false, "{cause}"),
     }
 }
 
@@ -180,27 +209,23 @@ fn spans_are_counted_in_each_unit(rt: HostRuntime) {
     }
 }
 
+/// Whether a span is from the last day of February 2021, which is shown in the Julian calendar, to that of January.
+fn is_constrained(found: &Span<'_>) -> bool {
+    has_parts(&found.from, 737849, 2021, 2, 28)
+        && has_parts(&found.from_shown, 737849, 2021, 2, 15)
+        && has_parts(&found.to, 737821, 2021, 1, 31)
+        && found.duration == duration(true, 0, 0, 0, 28)
+}
+
 #[test]
 fn a_day_past_its_month_is_constrained(rt: HostRuntime) {
     let constrain = DateFromFieldsOptions {
         overflow: Some(Overflow::Constrain),
         missing_fields_strategy: None,
     };
-    match span_of(
-        ((2021, 2, 31), (2021, 1, 31)),
-        constrain,
-        IN_DAYS,
-        ISO,
-        JULIAN,
-    ) {
-        Ok(found) => {
-            assert!(rt; has_parts(&found.from, 737849, 2021, 2, 28));
-            assert!(rt; has_parts(&found.from_shown, 737849, 2021, 2, 15));
-            assert!(rt; has_parts(&found.to, 737821, 2021, 1, 31));
-            assert!(rt; found.duration == duration(true, 0, 0, 0, 28));
-        }
-        Err(fault) => assert!(rt; false, "{}", fault.cause),
-    }
+    let dates = ((2021, 2, 31), (2021, 1, 31));
+    let found = span_found(&rt, dates, constrain, IN_DAYS, (ISO, JULIAN));
+    assert!(rt; is_constrained(&found));
 }
 
 /// Whether there is no span, for this reason.
@@ -209,6 +234,17 @@ fn is_at_fault(answer: Result<Span<'static>, SpanError>, want: SpanError) -> boo
         Ok(_) => false,
         Err(fault) => fault == want,
     }
+}
+
+/// That two ISO dates have no span, for this reason.
+fn assert_at_fault(rt: &impl Abort, from: Ymd, to: Ymd, want: SpanError) {
+    assert!(rt;
+        is_at_fault(iso_span(from, to, IN_DAYS), want),
+        "from {}-{} to {}",
+        from.0,
+        from.1,
+        to.0
+    );
 }
 
 #[test]
@@ -234,49 +270,61 @@ fn first_bag_at_fault_is_named(rt: HostRuntime) {
             DateFromFieldsError::Overflow,
         ),
     ] {
-        let answer = iso_span(from, to, IN_DAYS);
-        assert!(rt;
-            is_at_fault(answer, SpanError { side, cause }),
-            "from {}-{} to {}",
-            from.0,
-            from.1,
-            to.0
-        );
+        assert_at_fault(&rt, from, to, SpanError { side, cause });
     }
 }
 
 /// Eras and years of the dates that were shown in a calendar.
 type Named = (&'static str, i32);
 
-/// That the year of a date is named so.
-fn assert_named(rt: &impl Abort, date: &AnyDate, extended_year: i32, (era, year): Named) {
-    assert!(rt; is_named(date, extended_year, era, year), "{era} {year}");
+/// Whether the years of two dates, 2020 and -4, are named so.
+fn are_named(
+    from: &Date<AnyCalendar<'_>>,
+    to: &Date<AnyCalendar<'_>>,
+    names: (Named, Named),
+) -> bool {
+    let ((from_era, from_year), (to_era, to_year)) = names;
+    is_named(from, 2020, from_era, from_year) && is_named(to, -4, to_era, to_year)
+}
+
+/// Whether the years of both dates of a span are named so, and as they are shown.
+fn has_names(found: &Span<'_>, names: (Named, Named), names_shown: (Named, Named)) -> bool {
+    are_named(&found.from, &found.to, names)
+        && are_named(&found.from_shown, &found.to_shown, names_shown)
+}
+
+/// Whether a span ends on the last day of the year -4, 738945 days before it starts.
+fn ends_early(found: &Span<'_>) -> bool {
+    number_of(&found.to) == -1461
+        && found.duration == duration(true, 0, 0, 0, 738945)
+        && has_parts(&found.to_shown, -1461, -4, 12, 31)
+}
+
+/// That the two dates of a span have these years in the two calendars.
+fn assert_names(
+    rt: &impl Abort,
+    (calendar, names): (AnyCalendarKind, (Named, Named)),
+    (shown, names_shown): (AnyCalendarKind, (Named, Named)),
+) {
+    let dates = (LEAP_DAY, (-4, 12, 31));
+    let found = span_found(rt, dates, REJECT, IN_DAYS, (calendar, shown));
+    assert!(rt; has_names(&found, names, names_shown));
+    assert!(rt; ends_early(&found));
 }
 
 #[test]
 fn each_calendar_names_the_year(rt: HostRuntime) {
-    let in_iso: (Named, Named) = (("default", 2020), ("default", -4));
-    let in_gregorian: (Named, Named) = (("ce", 2020), ("bce", 5));
-    for &(calendar, shown, (from, to), (from_shown, to_shown)) in &[
-        (ISO, GREGORIAN, in_iso, in_gregorian),
-        (GREGORIAN, ISO, in_gregorian, in_iso),
-        (GREGORIAN, GREGORIAN, in_gregorian, in_gregorian),
-    ] {
-        match span_of((LEAP_DAY, (-4, 12, 31)), REJECT, IN_DAYS, calendar, shown) {
-            Ok(found) => {
-                assert_named(&rt, &found.from, 2020, from);
-                assert_named(&rt, &found.from_shown, 2020, from_shown);
-                assert_named(&rt, &found.to, -4, to);
-                assert_named(&rt, &found.to_shown, -4, to_shown);
-                assert!(rt; number_of(&found.to) == -1461);
-                assert!(rt; found.duration == duration(true, 0, 0, 0, 738945));
-                assert!(rt; has_parts(&found.to_shown, -1461, -4, 12, 31));
-            }
-            Err(fault) => assert!(rt; false, "{}", fault.cause),
-        }
+    let iso: (AnyCalendarKind, (Named, Named)) = (ISO, (("default", 2020), ("default", -4)));
+    let gregorian: (AnyCalendarKind, (Named, Named)) = (GREGORIAN, (("ce", 2020), ("bce", 5)));
+    for &(calendar, shown) in &[(iso, gregorian), (gregorian, iso), (gregorian, gregorian)] {
+        assert_names(&rt, calendar, shown);
     }
+}
+
+#[test]
+fn the_year_0_is_the_first_before_the_common_era(rt: HostRuntime) {
     match date_named(0, 1, 1, calendar_of(GREGORIAN)) {
-        Ok(date) => assert_named(&rt, &date, 0, ("bce", 1)),
+        Ok(date) => assert!(rt; is_named(&date, 0, "bce", 1)),
         Err(cause) => assert!(rt; false, "{cause}"),
     }
 }
