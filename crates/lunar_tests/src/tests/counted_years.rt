@@ -5,13 +5,15 @@ ghost use Rattle.cal_days.specs.Day.{IsRuleYear, IsValidDay};
 
 use crate::late_rules::Late;
 use crate::mean_rules::MeanRules;
+use crate::tests::east_asian::{hundred_rows, table_of};
 use crate::tests::expected::{assert_at, assert_day};
+use crate::tests::hijri;
 use cal_arith::Steps;
 use cal_base::Calendar;
 use cal_base::scaffold::UnstableSealed;
 use cal_days::RataDie;
 use cal_east_asian::{
-    China, EastAsianTable, EastAsianTraditional, EastAsianTraditionalYear, Rules, Side, mean_year,
+    China, EastAsianTable, EastAsianTraditional, EastAsianTraditionalYear, Rules, Side,
 };
 use cal_hijri::{
     Hijri, HijriRow, HijriTable, HijriYear, TabularAlgorithm, TabularAlgorithmEpoch,
@@ -244,18 +246,12 @@ fn assert_chinese<R: Rules>(rt: &impl Abort, rules: R) {
 
 #[test]
 fn years_of_a_longer_table_are_looked_up_no_more_often(rt: HostRuntime) {
-    let first_row = mean_year(28_800_000, 1912).row();
-    let one = [first_row];
-    let mut hundred = [first_row; 100];
-    for place in 0u8..100 {
-        hundred[usize::from(place)] = mean_year(28_800_000, 1912 + i32::from(place)).row();
-    }
-    let short = EastAsianTable::try_new(Side::China, &one);
-    let long = EastAsianTable::try_new(Side::China, &hundred);
+    let hundred = hundred_rows();
+    let one = [hundred[0]];
     assert_chinese(&rt, MeanRules::new(28_800_000));
     assert_chinese(&rt, China::new(EastAsianTable::none(Side::China)));
-    assert_chinese(&rt, China::new(short.expect(&rt, "the table is accepted")));
-    assert_chinese(&rt, China::new(long.expect(&rt, "the table is accepted")));
+    assert_chinese(&rt, China::new(table_of(&rt, &one)));
+    assert_chinese(&rt, China::new(table_of(&rt, &hundred)));
 }
 
 /// That a difference of Hijri dates looks up one year by some rules: the calendar counts the months of years by their
@@ -278,7 +274,7 @@ fn assert_hijri<R: cal_hijri::Rules>(rt: &impl Abort, rules: R) {
 fn a_hijri_difference_looks_up_one_year(rt: HostRuntime) {
     let row = tabular_row(1445).expect(&rt, "the year has a row");
     let rows = [row];
-    let table = HijriTable::try_new(&rows).expect(&rt, "the table is accepted");
+    let table = hijri::table_of(&rt, &rows);
     assert_hijri(&rt, Late);
     assert_hijri(&rt, UmmAlQura::new(HijriTable::none()));
     assert_hijri(&rt, UmmAlQura::new(table));

@@ -2,16 +2,18 @@
 //!
 //! The mean years are those of a program in Python that tries the moons and the terms one after another.
 
-ghost use Rattle.std.specs.Prelude.{pos};
+ghost use Rattle.std.specs.Prelude.{◌≡◌, IsTrue, pos};
 ghost use Rattle.cal_days.specs.Day.{IsBetween, IsValidDay};
+ghost use Rattle.cal_east_asian.specs.EastAsianSystem.{east_asian_belongs};
 ghost use Rattle.cal_east_asian.specs.MeanYears.{IsOffset};
+ghost use Rattle.cal_east_asian.specs.declared.sides.Side.TheVariants as side;
 
 use crate::mean_rules::MeanRules;
 use crate::tests::expected::{assert_at, assert_day, assert_holds, assert_same, assert_year};
 use cal_base::Calendar;
 use cal_days::RataDie;
 use cal_east_asian::{
-    ChineseTraditional, EastAsianRow, EastAsianTable, EastAsianTraditional,
+    ChineseDateInner, ChineseTraditional, EastAsianRow, EastAsianTable, EastAsianTraditional,
     EastAsianTraditionalYear, KoreanTraditional, Rules, Side, mean_year, qing_year,
 };
 use cal_types::{
@@ -118,6 +120,47 @@ fn qing_years_have_their_days_and_leap_months(rt: HostRuntime) {
         "the years about them",
         qing_year(1899).is_none() && qing_year(1912).is_none(),
     );
+}
+
+/// The table of Chinese rows.
+pub(super) fn table_of<'t>(rt: &impl Abort, rows: &'t [EastAsianRow]) -> EastAsianTable<'t>
+    ensures { result.side ≡ side.China }
+{
+    let table = EastAsianTable::try_new(Side::China, rows);
+    table.expect(rt, "the table is accepted")
+}
+
+/// The rows of a hundred years from 1912 on.
+pub(super) fn hundred_rows() -> [EastAsianRow; 100] {
+    let mut rows = [mean_year(28_800_000, 1912).row(); 100];
+    for place in 0u8..100 {
+        rows[usize::from(place)] = mean_year(28_800_000, 1912 + i32::from(place)).row();
+    }
+    rows
+}
+
+/// The date of an extended year, a month and a day.
+fn dated<R: Rules>(
+    rt: &impl Abort,
+    calendar: &EastAsianTraditional<R>,
+    date: (i32, Month, u8),
+) -> ChineseDateInner<R>
+    ensures { IsTrue (east_asian_belongs (R.year_of calendar.now.0) result.0.parts) }
+{
+    let (year, month, day) = date;
+    let made = calendar.new_date(YearInput::Extended(year), month, day);
+    made.expect(rt, "the date is there")
+}
+
+/// That the date of an extended year, a month and a day has a day number.
+pub(super) fn assert_dated<R: Rules>(
+    rt: &impl Abort,
+    calendar: &EastAsianTraditional<R>,
+    date: (i32, Month, u8),
+    number: i64,
+) {
+    let made = dated(rt, calendar, date);
+    assert_same(rt, calendar.to_rata_die(&made).to_i64_date(), number);
 }
 
 /// The first day of a year, and the place of its leap month, or 0.
@@ -241,12 +284,8 @@ fn months_of_computed_years_are_counted(rt: HostRuntime) {
 /// Rows that are computed years change no count of months, whether all rows lie between the years or some.
 #[test]
 fn months_of_rows_are_those_of_their_years(rt: HostRuntime) {
-    let mut rows = [mean_year(28_800_000, 1912).row(); 100];
-    for place in 0u8..100 {
-        rows[usize::from(place)] = mean_year(28_800_000, 1912 + i32::from(place)).row();
-    }
-    let table = EastAsianTable::try_new(Side::China, &rows);
-    let china = ChineseTraditional::new(table.expect(&rt, "the table is accepted"));
+    let rows = hundred_rows();
+    let china = ChineseTraditional::new(table_of(&rt, &rows));
     let computed = ChineseTraditional::new(EastAsianTable::none(Side::China));
     for &years in &[
         (1850, 2100),
@@ -261,35 +300,41 @@ fn months_of_rows_are_those_of_their_years(rt: HostRuntime) {
         (2012, 2100),
     ] {
         let expected = months_passed(&rt, &computed, years).months;
-        assert_at(
-            &rt,
-            years,
-            months_passed(&rt, &china, years).months,
-            expected,
-        );
+        let found = months_passed(&rt, &china, years).months;
+        assert_at(&rt, years, found, expected);
     }
+}
+
+/// That a month of 2025 stands in a place and has a leap status.
+fn assert_month_of_2025<R: Rules>(
+    rt: &impl Abort,
+    calendar: &EastAsianTraditional<R>,
+    month: Month,
+    ordinal: u8,
+    status: LeapStatus,
+) {
+    let date = dated(rt, calendar, (2025, month, 1));
+    let found = calendar.month(&date);
+    assert_at(rt, ordinal, found.ordinal, ordinal);
+    assert_at(rt, ordinal, found.leap_status(), status);
 }
 
 /// By the mean years at 8 hours 2025 has the leap month 8 in the place 9, and the month before it is its base.
 #[test]
 fn leap_months_are_shown_over_any_rules(rt: HostRuntime) {
     let calendar = EastAsianTraditional(MeanRules::new(28_800_000));
-    let first = calendar.from_rata_die(RataDie::new(739280));
-    assert_same(&rt, calendar.extended_year(&first), 2025);
-    assert_same(&rt, calendar.year_info(&first).year, 42);
-    assert_same(&rt, calendar.months_in_year(&first), 13);
-    assert_holds(&rt, "the leap year", calendar.is_in_leap_year(&first));
+    assert_date(&rt, &calendar, 739280, (2025, 42), (Month::new(1), 1));
     for &(month, ordinal, status) in &[
         (Month::new(7), 7, LeapStatus::Normal),
         (Month::new(8), 8, LeapStatus::Base),
         (Month::leap(8), 9, LeapStatus::Leap),
         (Month::new(9), 10, LeapStatus::Normal),
     ] {
-        let made = calendar.new_date(YearInput::Extended(2025), month, 1);
-        let date = made.expect(&rt, "the month is there");
-        assert_at(&rt, ordinal, calendar.month(&date).ordinal, ordinal);
-        assert_at(&rt, ordinal, calendar.month(&date).leap_status(), status);
+        assert_month_of_2025(&rt, &calendar, month, ordinal, status);
     }
+    let first = calendar.from_rata_die(RataDie::new(739280));
+    assert_same(&rt, calendar.months_in_year(&first), 13);
+    assert_holds(&rt, "the leap year", calendar.is_in_leap_year(&first));
     let absent = calendar.new_date(YearInput::Extended(2024), Month::leap(8), 1);
     assert_same(&rt, absent.is_ok(), false);
 }
@@ -338,16 +383,19 @@ fn a_year_has_the_lengths_between_its_starts(rt: HostRuntime) {
     assert_same(&rt, without_a_leap_month.is_some(), false);
 }
 
-/// That a day lies in the month in a place of its year.
-fn assert_ordinal<R: Rules>(
+/// That a calendar has a name, and that each day lies in the month in a place of its year.
+fn assert_named<R: Rules>(
     rt: &impl Abort,
     calendar: &EastAsianTraditional<R>,
-    day: i64,
-    ordinal: u8,
+    name: &'static str,
+    days: &[(i64, u8)],
 ) {
-    assert_day(rt, day);
-    let date = calendar.from_rata_die(RataDie::new(day));
-    assert_at(rt, day, calendar.month(&date).ordinal, ordinal);
+    assert_same(rt, calendar.debug_name(), name);
+    for &(day, ordinal) in days {
+        assert_day(rt, day);
+        let date = calendar.from_rata_die(RataDie::new(day));
+        assert_at(rt, day, calendar.month(&date).ordinal, ordinal);
+    }
 }
 
 /// That a day has a year, a year of the cycle, a month and a day of the month.
@@ -370,23 +418,17 @@ fn assert_date<R: Rules>(
 fn days_have_known_dates_in_china_and_korea(rt: HostRuntime) {
     let china = ChineseTraditional::new(EastAsianTable::none(Side::China));
     let korea = KoreanTraditional::new(EastAsianTable::none(Side::Korea));
-    for &(day, year, cycle, month, ordinal, day_of_month) in &[
-        (698025, 1911, 48, Month::new(12), 13, 30),
-        (698026, 1912, 49, Month::new(1), 1, 1),
-        (693862, 1900, 37, Month::leap(8), 9, 1),
-        (694216, 1901, 38, Month::new(8), 8, 1),
+    for &(day, year, cycle, month, day_of_month) in &[
+        (698025, 1911, 48, Month::new(12), 30),
+        (698026, 1912, 49, Month::new(1), 1),
+        (693862, 1900, 37, Month::leap(8), 1),
+        (694216, 1901, 38, Month::new(8), 1),
     ] {
         assert_date(&rt, &china, day, (year, cycle), (month, day_of_month));
-        assert_ordinal(&rt, &china, day, ordinal);
-        assert_ordinal(&rt, &korea, day, ordinal);
     }
-    assert_same(&rt, china.debug_name(), "Chinese");
-    assert_same(&rt, korea.debug_name(), "Korean");
-    assert_holds(
-        &rt,
-        "the same table",
-        china.check_date_compatibility(&china).is_ok(),
-    );
+    let ordinals = [(698025, 13), (698026, 1), (693862, 9), (694216, 8)];
+    assert_named(&rt, &china, "Chinese", &ordinals);
+    assert_named(&rt, &korea, "Korean", &ordinals);
 }
 
 /// From the leap month 8 of 1900 to the month 8 of 1901 no year has passed, since its plain month stands in for the
@@ -405,60 +447,68 @@ fn a_leap_month_counts_in_a_difference(rt: HostRuntime) {
     assert_same(&rt, passed.days, 0);
 }
 
+/// That so many months and days lie between the first valid day and the last one.
+fn assert_months_of_valid_days<R: Rules>(
+    rt: &impl Abort,
+    calendar: &EastAsianTraditional<R>,
+    months: u32,
+    days: u32,
+) {
+    let first = calendar.from_rata_die(RataDie::new(-365242499));
+    let last = calendar.from_rata_die(RataDie::new(365242134));
+    let options = DateDifferenceOptions {
+        largest_unit: Some(DateDurationUnit::Months),
+    };
+    let passed = calendar.until(&first, &last, options);
+    assert_same(rt, passed.months, months);
+    assert_same(rt, passed.days, days);
+}
+
 /// From the first valid day to the last one there are as many months as mean moons, by a program in Python that
 /// numbers the moons of the two days.
 #[test]
 fn months_are_counted_over_all_valid_days(rt: HostRuntime) {
     let china = ChineseTraditional::new(EastAsianTable::none(Side::China));
     let korea = KoreanTraditional::new(EastAsianTable::none(Side::Korea));
-    let options = DateDifferenceOptions {
-        largest_unit: Some(DateDurationUnit::Months),
+    assert_months_of_valid_days(&rt, &china, 24736541, 11);
+    assert_months_of_valid_days(&rt, &korea, 24736541, 11);
+}
+
+/// The reference year of a month's first day, or the fault where there is none.
+fn reference_year<R: Rules>(
+    calendar: &EastAsianTraditional<R>,
+    month: Month,
+    overflow: Overflow,
+) -> Result<i32, DateFromFieldsError> {
+    let fields = DateFields {
+        month: Some(month),
+        day: Some(1),
+        ..DateFields::default()
     };
-    let first = china.from_rata_die(RataDie::new(-365242499));
-    let last = china.from_rata_die(RataDie::new(365242134));
-    let passed = china.until(&first, &last, options);
-    assert_same(&rt, passed.months, 24736541);
-    assert_same(&rt, passed.days, 11);
-    let first = korea.from_rata_die(RataDie::new(-365242499));
-    let last = korea.from_rata_die(RataDie::new(365242134));
-    let passed = korea.until(&first, &last, options);
-    assert_same(&rt, passed.months, 24736541);
-    assert_same(&rt, passed.days, 11);
+    let options = DateFromFieldsOptions {
+        overflow: Some(overflow),
+        missing_fields_strategy: Some(MissingFieldsStrategy::Ecma),
+    };
+    match calendar.from_fields(fields, options) {
+        Ok(date) => Ok(calendar.extended_year(&date)),
+        Err(fault) => Err(fault),
+    }
 }
 
 /// A leap month 1 has no reference year, and leaves its place to the month 1 under Constrain alone.
 #[test]
 fn a_leap_month_without_a_reference_year_is_constrained(rt: HostRuntime) {
     let china = ChineseTraditional::new(EastAsianTable::none(Side::China));
-    for &(month, overflow, year) in &[
-        (Month::leap(1), Overflow::Constrain, 1972),
-        (Month::leap(8), Overflow::Constrain, 1957),
-        (Month::new(12), Overflow::Reject, 1971),
+    let refused = Err(DateFromFieldsError::MonthNotInYear);
+    for &(month, overflow, expected) in &[
+        (Month::leap(1), Overflow::Constrain, Ok(1972)),
+        (Month::leap(8), Overflow::Constrain, Ok(1957)),
+        (Month::new(12), Overflow::Reject, Ok(1971)),
+        (Month::leap(1), Overflow::Reject, refused),
     ] {
-        let fields = DateFields {
-            month: Some(month),
-            day: Some(1),
-            ..DateFields::default()
-        };
-        let options = DateFromFieldsOptions {
-            overflow: Some(overflow),
-            missing_fields_strategy: Some(MissingFieldsStrategy::Ecma),
-        };
-        let made = china.from_fields(fields, options);
-        let date = made.expect(&rt, "the date is there");
-        assert_at(&rt, year, china.extended_year(&date), year);
+        let found = reference_year(&china, month, overflow);
+        assert_at(&rt, month, found, expected);
     }
-    let fields = DateFields {
-        month: Some(Month::leap(1)),
-        day: Some(1),
-        ..DateFields::default()
-    };
-    let options = DateFromFieldsOptions {
-        overflow: Some(Overflow::Reject),
-        missing_fields_strategy: Some(MissingFieldsStrategy::Ecma),
-    };
-    let refused = china.from_fields(fields, options).err();
-    assert_same(&rt, refused, Some(DateFromFieldsError::MonthNotInYear));
 }
 
 /// The day so many days after another.
@@ -524,35 +574,49 @@ fn row_of_1912(rt: &impl Abort) -> EastAsianRow {
 }
 
 /// The place of the month of a day, and its day of the month.
-fn month_and_day(china: ChineseTraditional<'_>, day: RataDie) -> (u8, u8)
+fn month_and_day<R: Rules>(calendar: &EastAsianTraditional<R>, day: RataDie) -> (u8, u8)
     requires { IsValidDay day }
 {
-    let date = china.from_rata_die(day);
-    (china.month(&date).ordinal, china.day_of_month(&date).0)
+    let date = calendar.from_rata_die(day);
+    (
+        calendar.month(&date).ordinal,
+        calendar.day_of_month(&date).0,
+    )
 }
 
 #[test]
 fn a_row_takes_the_place_of_a_computed_year(rt: HostRuntime) {
     let rows = [row_of_1912(&rt)];
-    let table = EastAsianTable::try_new(Side::China, &rows).expect(&rt, "it is accepted");
+    let table = table_of(&rt, &rows);
     let day = RataDie::new(698055);
-    let by_the_row = month_and_day(ChineseTraditional::new(table), day);
+    let by_the_row = month_and_day(&ChineseTraditional::new(table), day);
     assert_same(&rt, by_the_row, (1, 30));
     let none = EastAsianTable::none(Side::China);
-    let computed = month_and_day(ChineseTraditional::new(none), day);
+    let computed = month_and_day(&ChineseTraditional::new(none), day);
     assert_same(&rt, computed, (2, 1));
+}
+
+/// That dates of each of two calendars can be compared, and not those of both, which have different tables.
+fn assert_other_table<R: Rules>(
+    rt: &impl Abort,
+    calendar: &EastAsianTraditional<R>,
+    other: &EastAsianTraditional<R>,
+) {
+    let same = calendar.check_date_compatibility(calendar).is_ok();
+    assert_holds(rt, "the same table", same);
+    let same = other.check_date_compatibility(other).is_ok();
+    assert_holds(rt, "the same other table", same);
+    let different = calendar.check_date_compatibility(other).is_err();
+    assert_holds(rt, "another table", different);
 }
 
 #[test]
 fn calendars_over_other_rows_are_not_compatible(rt: HostRuntime) {
     let rows = [row_of_1912(&rt)];
-    let table = EastAsianTable::try_new(Side::China, &rows).expect(&rt, "it is accepted");
+    let table = table_of(&rt, &rows);
     let china = ChineseTraditional::new(table);
     let computed = ChineseTraditional::new(EastAsianTable::none(Side::China));
-    let same = china.check_date_compatibility(&china).is_ok();
-    assert_holds(&rt, "the same table", same);
-    let other = china.check_date_compatibility(&computed).is_err();
-    assert_holds(&rt, "another table", other);
+    assert_other_table(&rt, &china, &computed);
 }
 
 #[test]

@@ -1,6 +1,7 @@
 //! Days that the Hijri calendars are known by, tables that are refused, and a calendar over rules of a caller.
 
 ghost use Rattle.std.specs.Prelude.{◌≡◌, IsTrue, pos};
+ghost use Rattle.cal_base.specs.IsoSystem.{iso_belongs};
 ghost use Rattle.cal_days.specs.Day.{IsBetween};
 ghost use Rattle.cal_types.specs.CalendarList.{day_number};
 ghost use Rattle.cal_hijri.specs.HijriRows.{years_of};
@@ -10,33 +11,92 @@ ghost use Rattle.cal_hijri.specs.TabularRules.{tabular_system, tabular_year};
 
 use crate::late_rules::Late;
 use crate::tests::expected::{assert_at, assert_day, assert_holds, assert_same};
-use cal_base::{Calendar, Iso};
+use cal_base::{Calendar, Iso, IsoDateInner};
 use cal_days::RataDie;
 use cal_hijri::{
-    AstronomicalSimulation, Hijri, HijriDateInner, HijriRow, HijriTable, HijriYear,
+    AstronomicalSimulation, Hijri, HijriDateInner, HijriRow, HijriTable, HijriYear, Rules,
     TabularAlgorithm, TabularAlgorithmEpoch, TabularAlgorithmLeapYears, UmmAlQura,
 };
 use cal_types::{
     DateFields, DateFromFieldsError, DateFromFieldsOptions, MissingFieldsStrategy, Month,
     TableFault, TablePart, YearInput,
 };
+use std::process::Abort;
+
+/// The date of an extended year, a month and a day.
+fn dated<R: Rules>(
+    rt: &impl Abort,
+    calendar: &Hijri<R>,
+    date: (i32, Month, u8),
+) -> HijriDateInner<R>
+    ensures { IsTrue (hijri_belongs (R.year_of calendar.now.0) result.0.parts) }
+{
+    let (year, month, day) = date;
+    let made = calendar.new_date(YearInput::Extended(year), month, day);
+    made.expect(rt, "the date is there")
+}
+
+/// That the date of an extended year, a month and a day has a day number.
+pub(super) fn assert_dated<R: Rules>(
+    rt: &impl Abort,
+    calendar: &Hijri<R>,
+    date: (i32, Month, u8),
+    number: i64,
+) {
+    let made = dated(rt, calendar, date);
+    assert_same(rt, calendar.to_rata_die(&made).to_i64_date(), number);
+}
+
+/// That a date belongs to one of two calendars alone, and that dates of the two can't be compared.
+fn assert_apart<R: Rules>(
+    rt: &impl Abort,
+    own: &Hijri<R>,
+    other: &Hijri<R>,
+    date: &HijriDateInner<R>,
+) {
+    assert_same(rt, own.owns(date), true);
+    assert_same(rt, other.owns(date), false);
+    assert_same(rt, own.check_date_compatibility(other).is_ok(), false);
+}
+
+/// That dates of two calendars can be compared where these have the same table, and not where it is another.
+fn assert_same_table<R: Rules>(rt: &impl Abort, calendar: &Hijri<R>, other: &Hijri<R>) {
+    let same = calendar.check_date_compatibility(calendar).is_ok();
+    assert_holds(rt, "the same table", same);
+    let different = calendar.check_date_compatibility(other).is_err();
+    assert_holds(rt, "another table", different);
+}
+
+/// The table of Hijri rows.
+pub(super) fn table_of<'t>(rt: &impl Abort, rows: &'t [HijriRow]) -> HijriTable<'t> {
+    HijriTable::try_new(rows).expect(rt, "the table is accepted")
+}
+
+/// That a day has this year, month and day of the month, and that the date has its day number.
+fn assert_date_of_day<R: Rules>(
+    rt: &impl Abort,
+    calendar: &Hijri<R>,
+    day: i64,
+    (year, month, day_of_month): (i32, u8, u8),
+) {
+    assert_day(rt, day);
+    let date = calendar.from_rata_die(RataDie::new(day));
+    assert_at(rt, day, calendar.extended_year(&date), year);
+    assert_at(rt, day, calendar.month(&date).ordinal, month);
+    assert_at(rt, day, calendar.day_of_month(&date).0, day_of_month);
+    assert_at(rt, day, calendar.to_rata_die(&date).to_i64_date(), day);
+}
 
 #[test]
 fn late_years_are_found_before_year_1(rt: HostRuntime) {
-    let cases = [
-        (226311, -2, 12, 30),
-        (226312, -1, 1, 1),
-        (227019, 0, 12, 29),
-        (227020, 1, 1, 1),
-    ];
-    for (day, year, month, day_of_month) in cases {
-        assert_day(&rt, day);
-        let hijri = Hijri(Late);
-        let date = hijri.from_rata_die(RataDie::new(day));
-        assert_at(&rt, day, hijri.extended_year(&date), year);
-        assert_at(&rt, day, hijri.month(&date).ordinal, month);
-        assert_at(&rt, day, hijri.day_of_month(&date).0, day_of_month);
-        assert_at(&rt, day, hijri.to_rata_die(&date).to_i64_date(), day);
+    let hijri = Hijri(Late);
+    for &(day, date) in &[
+        (226311, (-2, 12, 30)),
+        (226312, (-1, 1, 1)),
+        (227019, (0, 12, 29)),
+        (227020, (1, 1, 1)),
+    ] {
+        assert_date_of_day(&rt, &hijri, day, date);
     }
 }
 
@@ -62,14 +122,22 @@ fn a_tabular_new_year_is_on_its_iso_day(rt: HostRuntime) {
         TabularAlgorithmLeapYears::TypeII,
         TabularAlgorithmEpoch::Friday,
     );
-    let made = hijri.new_date(YearInput::Extended(1445), Month::new(1), 1);
-    let date = made.expect(&rt, "the date is there");
+    let date = dated(&rt, &hijri, (1445, Month::new(1), 1));
     let iso = hijri.to_iso(&date);
-    assert_same(&rt, Iso.extended_year(&iso), 2023);
-    assert_same(&rt, Iso.month(&iso).ordinal, 7);
-    assert_same(&rt, Iso.day_of_month(&iso).0, 19);
+    assert_same(&rt, parts_of_iso(&iso), (2023, 7, 19));
     assert_same(&rt, hijri.year_info(&date).era.as_str(), "ah");
     assert_holds(&rt, "the leap year", hijri.is_in_leap_year(&date));
+}
+
+/// The extended year, the place of the month and the day of the month of a date.
+fn parts_of_iso(date: &IsoDateInner) -> (i32, u8, u8)
+    requires { IsTrue (iso_belongs date.now) }
+{
+    (
+        Iso.extended_year(date),
+        Iso.month(date).ordinal,
+        Iso.day_of_month(date).0,
+    )
 }
 
 /// The first thirty years: whether each is a leap year by type I, and by type II. Source: R. H. van Gent's page on the
@@ -112,7 +180,7 @@ fn eleven_of_thirty_years_are_leap_years(rt: HostRuntime) {
     let friday = TabularAlgorithmEpoch::Friday;
     let type_i = Hijri::new_tabular(TabularAlgorithmLeapYears::TypeI, friday);
     let type_ii = Hijri::new_tabular(TabularAlgorithmLeapYears::TypeII, friday);
-    for (place, by_type_i, by_type_ii) in THIRTY_YEARS {
+    for &(place, by_type_i, by_type_ii) in &THIRTY_YEARS {
         for &first in &[-60, 0, 1440] {
             let year = place.wrapping_add(first);
             assert_at(&rt, year, is_leap_year(type_i, year), Some(by_type_i));
@@ -126,15 +194,17 @@ fn rules_of_type_i_are_others_than_those_of_type_ii(rt: HostRuntime) {
     let friday = TabularAlgorithmEpoch::Friday;
     let type_i = Hijri::new_tabular(TabularAlgorithmLeapYears::TypeI, friday);
     let type_ii = Hijri::new_tabular(TabularAlgorithmLeapYears::TypeII, friday);
-    let made = type_i.new_date(YearInput::Extended(1455), Month::new(12), 30);
-    let date = made.expect(&rt, "the date is there");
-    assert_same(&rt, type_i.to_rata_die(&date).to_i64_date(), 742618);
-    assert_same(&rt, type_ii.owns(&date), false);
-    let other = type_i.check_date_compatibility(&type_ii).is_err();
-    assert_holds(&rt, "other leap years", other);
-    assert_same(&rt, type_i.debug_name(), "Hijri (Type I, Friday)");
-    assert_holds(&rt, "no algorithm", type_i.calendar_algorithm().is_none());
+    let date = (1455, Month::new(12), 30);
+    assert_dated(&rt, &type_i, date, 742618);
+    assert_apart(&rt, &type_i, &type_ii, &dated(&rt, &type_i, date));
+}
+
+#[test]
+fn rules_of_type_i_have_their_names(rt: HostRuntime) {
     let leap_years = TabularAlgorithmLeapYears::TypeI;
+    let friday = Hijri::new_tabular(leap_years, TabularAlgorithmEpoch::Friday);
+    assert_same(&rt, friday.debug_name(), "Hijri (Type I, Friday)");
+    assert_holds(&rt, "no algorithm", friday.calendar_algorithm().is_none());
     let thursday = Hijri::new_tabular(leap_years, TabularAlgorithmEpoch::Thursday);
     assert_same(&rt, thursday.debug_name(), "Hijri (Type I, Thursday)");
 }
@@ -167,10 +237,7 @@ fn a_date_belongs_to_its_own_epoch(rt: HostRuntime) {
     let friday = type_ii(TabularAlgorithmEpoch::Friday);
     let thursday = type_ii(TabularAlgorithmEpoch::Thursday);
     let date = friday.from_rata_die(RataDie::new(227014));
-    let owners = (friday.owns(&date), thursday.owns(&date));
-    assert_same(&rt, owners, (true, false));
-    let other = friday.check_date_compatibility(&thursday).is_err();
-    assert_holds(&rt, "another epoch", other);
+    assert_apart(&rt, &friday, &thursday, &date);
 }
 
 /// The year 1445 of the Umm al-Qura calendar, if its last month ends where it is to.
@@ -197,34 +264,15 @@ fn row_of_1445(end: i64) -> Option<HijriRow>
 
 #[test]
 fn a_row_takes_the_place_of_a_tabular_year(rt: HostRuntime) {
-    let row = row_of_1445(739075).expect(&rt, "the year is there");
-    let rows = [row];
-    let table = HijriTable::try_new(&rows).expect(&rt, "the table is accepted");
+    let rows = [row_of_1445(739075).expect(&rt, "the year is there")];
+    let table = table_of(&rt, &rows);
     let umm_al_qura = Hijri::new_umm_al_qura(table);
     let simulated = Hijri::new_simulated_mecca(HijriTable::none());
-    let made = umm_al_qura.new_date(YearInput::Extended(1445), Month::new(2), 1);
-    let date = made.expect(&rt, "the date is there");
-    assert_same(&rt, umm_al_qura.to_rata_die(&date).to_i64_date(), 738749);
-    assert_holds(&rt, "its own table", umm_al_qura.owns(&date));
-    assert_same(
-        &rt,
-        day_of_umm_al_qura(umm_al_qura, &date).to_i64_date(),
-        738749,
-    );
-    let made = simulated.new_date(YearInput::Extended(1445), Month::new(2), 1);
-    let date = made.expect(&rt, "the date is there");
-    assert_same(&rt, simulated.to_rata_die(&date).to_i64_date(), 738750);
     let without = Hijri::new_umm_al_qura(HijriTable::none());
-    assert_holds(
-        &rt,
-        "another table",
-        umm_al_qura.check_date_compatibility(&without).is_err(),
-    );
-    assert_holds(
-        &rt,
-        "the same table",
-        umm_al_qura.check_date_compatibility(&umm_al_qura).is_ok(),
-    );
+    let date = dated(&rt, &umm_al_qura, (1445, Month::new(2), 1));
+    assert_day_by_rows(&rt, umm_al_qura, &date, 738749);
+    assert_dated(&rt, &simulated, (1445, Month::new(2), 1), 738750);
+    assert_same_table(&rt, &umm_al_qura, &without);
 }
 
 /// 1445 starts on day 738720, 5 days after the earliest day, and -8000000 and 8000000 are the last years.
@@ -298,6 +346,20 @@ fn day_of_umm_al_qura<'t>(
         (kept_date date.now.0.parts) }
 {
     hijri.to_rata_die(date)
+}
+
+/// That a date belongs to the Umm al-Qura calendar with its rows, and has a day number.
+fn assert_day_by_rows<'t>(
+    rt: &impl Abort,
+    hijri: Hijri<UmmAlQura<'t>>,
+    date: &HijriDateInner<UmmAlQura<'t>>,
+    day: i64,
+)
+    requires { IsTrue (hijri_belongs (table_year (years_of hijri.0.table.rows.now)) date.now.0.parts) }
+{
+    assert_holds(rt, "its own table", hijri.owns(date));
+    assert_same(rt, hijri.to_rata_die(date).to_i64_date(), day);
+    assert_same(rt, day_of_umm_al_qura(hijri, date).to_i64_date(), day);
 }
 
 /// A calendar under one of the rules.

@@ -2,11 +2,10 @@
 //! which of them end where a computed year starts was computed by a program of its own, from the formulas of these.
 
 use crate::tests::expected::{assert_at, assert_holds, assert_same};
-use cal_base::Calendar;
-use cal_days::RataDie;
+use crate::tests::{east_asian, hijri};
 use cal_east_asian::{ChineseTraditional, EastAsianRow, EastAsianTable, Side};
 use cal_hijri::{Hijri, HijriRow, HijriTable};
-use cal_types::{LengthenFault, Month, TableFault, TablePart, YearInput};
+use cal_types::{LengthenFault, Month, TableFault, TablePart};
 use std::process::Abort;
 
 /// `row hijri 1445 738720 sllslslslsll`
@@ -84,14 +83,14 @@ const OTHER_1912: EastAsianRow = EastAsianRow {
     start_offset: 30,
 };
 
-/// That rows lengthen the table of 1445, or what fault they have.
+/// That rows lengthen a table, or what fault they have.
 fn assert_lengthens(
     rt: &impl Abort,
+    table: HijriTable<'_>,
     case: &'static str,
     rows: &[HijriRow],
     fault: Option<LengthenFault>,
 ) {
-    let table = HijriTable::try_new(&[YEAR_1445]).expect(rt, "the table is accepted");
     assert_at(rt, case, table.lengthened(rows).err(), fault);
 }
 
@@ -102,31 +101,35 @@ fn fault_in(row: usize, part: TablePart) -> Option<LengthenFault> {
 
 #[test]
 fn rows_lengthen_a_hijri_table_or_have_a_fault(rt: HostRuntime) {
+    let table = hijri::table_of(&rt, &[YEAR_1445]);
     let differs = Some(LengthenFault::Differs { row: 1 });
-    assert_lengthens(&rt, "a year more", &[YEAR_1445, YEAR_1446], None);
-    assert_lengthens(&rt, "no year more", &[YEAR_1445], None);
-    assert_lengthens(&rt, "the same lengths", &[SAME_1445, YEAR_1446], None);
-    assert_lengthens(&rt, "another year 1445", &[TABULAR_1445], differs);
-    assert_lengthens(&rt, "no rows", &[], differs);
+    assert_lengthens(&rt, table, "a year more", &[YEAR_1445, YEAR_1446], None);
+    assert_lengthens(&rt, table, "no year more", &[YEAR_1445], None);
+    assert_lengthens(
+        &rt,
+        table,
+        "the same lengths",
+        &[SAME_1445, YEAR_1446],
+        None,
+    );
+    assert_lengthens(&rt, table, "another year 1445", &[TABULAR_1445], differs);
+    assert_lengthens(&rt, table, "no rows", &[], differs);
     let late = fault_in(2, TablePart::End);
-    assert_lengthens(&rt, "a late end", &[YEAR_1445, LATE_1446], late);
+    assert_lengthens(&rt, table, "a late end", &[YEAR_1445, LATE_1446], late);
     let twice = fault_in(2, TablePart::Year);
-    assert_lengthens(&rt, "a year twice", &[YEAR_1445, YEAR_1445], twice);
+    assert_lengthens(&rt, table, "a year twice", &[YEAR_1445, YEAR_1445], twice);
 }
 
 #[test]
 fn a_longer_hijri_table_has_the_day_of_its_new_row(rt: HostRuntime) {
-    let table = HijriTable::try_new(&[YEAR_1445]).expect(&rt, "the table is accepted");
+    let table = hijri::table_of(&rt, &[YEAR_1445]);
     let rows = [YEAR_1445, YEAR_1446];
     let longer = table.lengthened(&rows).expect(&rt, "it is lengthened");
     let umm_al_qura = Hijri::new_umm_al_qura(longer);
-    let made = umm_al_qura.new_date(YearInput::Extended(1446), Month::new(2), 2);
-    let date = made.expect(&rt, "the date is there");
-    assert_same(&rt, umm_al_qura.to_rata_die(&date).to_i64_date(), 739105);
-    let again = longer.lengthened(&rows).is_ok();
-    assert_holds(&rt, "the longer table by its own rows", again);
-    let shorter = longer.lengthened(&[YEAR_1445]).err();
-    assert_same(&rt, shorter, Some(LengthenFault::Differs { row: 2 }));
+    hijri::assert_dated(&rt, &umm_al_qura, (1446, Month::new(2), 2), 739105);
+    assert_lengthens(&rt, longer, "its own rows", &rows, None);
+    let differs = Some(LengthenFault::Differs { row: 2 });
+    assert_lengthens(&rt, longer, "a row less", &[YEAR_1445], differs);
 }
 
 /// That rows lengthen the table of 1912 of a side, or what fault they have.
@@ -157,13 +160,10 @@ fn rows_lengthen_an_east_asian_table_or_have_a_fault(rt: HostRuntime) {
 /// The leap month 5 of 1914 begins on 1914-06-23.
 #[test]
 fn a_longer_chinese_table_has_the_leap_month_of_its_new_row(rt: HostRuntime) {
-    let table = EastAsianTable::try_new(Side::China, &[YEAR_1912]);
-    let table = table.expect(&rt, "the table is accepted");
+    let table = east_asian::table_of(&rt, &[YEAR_1912]);
     let rows = [YEAR_1912, YEAR_1913, YEAR_1914];
     let longer = table.lengthened(&rows).expect(&rt, "it is lengthened");
     assert_holds(&rt, "the side stays", longer.side() == Side::China);
     let chinese = ChineseTraditional::new(longer);
-    let made = chinese.new_date(YearInput::Extended(1914), Month::leap(5), 1);
-    let date = made.expect(&rt, "the date is there");
-    assert_same(&rt, chinese.to_rata_die(&date).to_i64_date(), 698882);
+    east_asian::assert_dated(&rt, &chinese, (1914, Month::leap(5), 1), 698882);
 }

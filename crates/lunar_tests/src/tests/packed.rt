@@ -13,12 +13,11 @@ use std::process::Abort;
 /// The month of the place 6 of 5787 is `M05L`.
 #[test]
 fn hebrew_dates_have_their_bytes(rt: HostRuntime) {
-    let cases = [
+    for &(year, month, day, bytes) in &[
         (-996227, 2, 29, [5, 93, 250, 152, 225]),
         (5787, 6, 10, [5, 202, 54, 45, 0]),
         (1003748, 6, 26, [2, 218, 200, 161, 30]),
-    ];
-    for (year, month, day, bytes) in cases {
+    ] {
         assert_packable(&rt, year, month, day);
         let packed = Hebrew.year_info_from_extended(year).pack(month, day);
         assert_at(&rt, year, packed, bytes);
@@ -35,12 +34,11 @@ fn tabular_dates_have_their_bytes(rt: HostRuntime) {
         TabularAlgorithmLeapYears::TypeII,
         TabularAlgorithmEpoch::Friday,
     );
-    let cases = [
+    for &(year, month, day, bytes) in &[
         (-1031331, 6, 22, [85, 5, 214, 186, 134, 224]),
         (-1, 12, 30, [85, 61, 158, 255, 255, 255]),
         (1030050, 3, 30, [85, 37, 126, 68, 111, 31]),
-    ];
-    for (year, month, day, bytes) in cases {
+    ] {
         assert_packable(&rt, year, month, day);
         let packed = hijri.year_info_from_extended(year).pack(month, day);
         assert_at(&rt, year, packed, bytes);
@@ -59,12 +57,11 @@ fn tabular_dates_have_their_bytes(rt: HostRuntime) {
 /// The years start 5 days before the start of the mean year, on it, and 5 days after it.
 #[test]
 fn hijri_dates_have_the_bytes_of_their_rows(rt: HostRuntime) {
-    let cases = [
+    for &(extended_year, long_months, start_offset, month, day, bytes) in &[
         (-1031331, 0xFFF, 0, 12, 30, [255, 191, 158, 187, 134, 224]),
         (1445, 0x92E, 5, 9, 1, [46, 9, 33, 75, 11, 0]),
         (1030050, 0, 10, 1, 1, [0, 160, 33, 68, 111, 31]),
-    ];
-    for (extended_year, long_months, start_offset, month, day, bytes) in cases {
+    ] {
         let row = HijriRow {
             extended_year,
             long_months,
