@@ -53,7 +53,7 @@ fn the_first_fault_is_answered(rt: HostRuntime) {
         DuplicateUnit, InvalidStructure, MissingValue, NumberOverflow, PlusNotAllowed,
         TimeNotSupported,
     };
-    let without_structure = [
+    let without_structure = &[
         "",
         "-",
         "P",
@@ -63,7 +63,7 @@ fn the_first_fault_is_answered(rt: HostRuntime) {
         "-+P1D",
         "P4294967296H",
     ];
-    assert_fault(&rt, &without_structure, InvalidStructure);
+    assert_fault(&rt, without_structure, InvalidStructure);
     assert_fault(&rt, &["PT1H", "P1DT"], TimeNotSupported);
     assert_fault(&rt, &["PD"], MissingValue);
     assert_fault(&rt, &["+P1D", "+"], PlusNotAllowed);

@@ -12,7 +12,7 @@ fn mixed(sum: u64, day: i64) -> u64 {
 /// the latest Easter, years in which both keep one day, and full moons that the rule moves a day earlier.
 #[test]
 fn easter_is_on_published_days(rt: HostRuntime) {
-    let cases = [
+    for &(year, western, eastern) in &[
         (1818, 663726, 663761),
         (1943, 709415, 709415),
         (1954, 713426, 713433),
@@ -23,8 +23,7 @@ fn easter_is_on_published_days(rt: HostRuntime) {
         (2025, 739361, 739361),
         (2038, 744114, 744114),
         (2076, 757988, 757995),
-    ];
-    for (year, western, eastern) in cases {
+    ] {
         assert_at(&rt, year, gregorian::easter(year).to_i64_date(), western);
         assert_at(&rt, year, julian::easter(year).to_i64_date(), eastern);
     }

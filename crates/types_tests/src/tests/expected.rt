@@ -34,7 +34,7 @@ pub(super) fn assert_prints(
     expected: &str,
 ) -> Result<(), AllocError> {
     let text = format!(in alloc; "{value}")?;
-    assert_eq!(rt; text.as_str(), expected);
+    assert_same(rt, text.as_str(), expected);
     Ok(())
 }
 

@@ -18,30 +18,34 @@ fn assert_program_name(rt: &impl Abort, name: &str, kind: AnyCalendarKind) {
 #[test]
 fn names_of_kinds(rt: HostRuntime) {
     use AnyCalendarKind as Kind;
-    assert_program_name(&rt, "iso", Kind::Iso);
-    assert_program_name(&rt, "gregorian", Kind::Gregorian);
-    assert_program_name(&rt, "julian", Kind::Julian);
-    assert_program_name(&rt, "buddhist", Kind::Buddhist);
-    assert_program_name(&rt, "chinese", Kind::Chinese);
-    assert_program_name(&rt, "coptic", Kind::Coptic);
-    assert_program_name(&rt, "dangi", Kind::Dangi);
-    assert_program_name(&rt, "ethiopic", Kind::Ethiopian);
-    assert_program_name(&rt, "ethioaa", Kind::EthiopianAmeteAlem);
-    assert_program_name(&rt, "hebrew", Kind::Hebrew);
-    assert_program_name(&rt, "indian", Kind::Indian);
-    assert_program_name(&rt, "islamic-civil", Kind::HijriTabularTypeIIFriday);
-    assert_program_name(&rt, "islamic-simulated", Kind::HijriSimulatedMecca);
-    assert_program_name(&rt, "islamic-tbla", Kind::HijriTabularTypeIIThursday);
-    assert_program_name(&rt, "islamic-umalqura", Kind::HijriUmmAlQura);
-    assert_program_name(&rt, "japanese", Kind::Japanese);
-    assert_program_name(&rt, "persian", Kind::Persian);
-    assert_program_name(&rt, "roc", Kind::Roc);
-    assert_program_name(&rt, "islamic-type1-friday", Kind::HijriTabularTypeIFriday);
-    assert_program_name(
-        &rt,
-        "islamic-type1-thursday",
-        Kind::HijriTabularTypeIThursday,
-    );
+    for &(name, kind) in &[
+        ("iso", Kind::Iso),
+        ("gregorian", Kind::Gregorian),
+        ("julian", Kind::Julian),
+        ("buddhist", Kind::Buddhist),
+        ("chinese", Kind::Chinese),
+        ("coptic", Kind::Coptic),
+        ("dangi", Kind::Dangi),
+        ("ethiopic", Kind::Ethiopian),
+        ("ethioaa", Kind::EthiopianAmeteAlem),
+        ("hebrew", Kind::Hebrew),
+        ("indian", Kind::Indian),
+        ("islamic-civil", Kind::HijriTabularTypeIIFriday),
+        ("islamic-simulated", Kind::HijriSimulatedMecca),
+        ("islamic-tbla", Kind::HijriTabularTypeIIThursday),
+        ("islamic-umalqura", Kind::HijriUmmAlQura),
+        ("japanese", Kind::Japanese),
+        ("persian", Kind::Persian),
+        ("roc", Kind::Roc),
+        ("islamic-type1-friday", Kind::HijriTabularTypeIFriday),
+        ("islamic-type1-thursday", Kind::HijriTabularTypeIThursday),
+    ] {
+        assert_program_name(&rt, name, kind);
+    }
+}
+
+#[test]
+fn other_texts_name_no_kind(rt: HostRuntime) {
     for &name in &[
         "",
         "ISO",
@@ -75,34 +79,50 @@ fn assert_kind(
     Ok(())
 }
 
+/// That CLDR's names of calendars stand for the kinds of the texts beside them.
+fn assert_kinds(
+    rt: &impl Abort,
+    alloc: Global,
+    cases: &[(CalendarAlgorithm, &str)],
+) -> Result<(), AllocError> {
+    for &(algorithm, text) in cases {
+        assert_kind(rt, alloc, algorithm, text)?;
+    }
+    Ok(())
+}
+
 #[test]
 fn kinds_of_solar_calendars(rt: HostRuntime) -> Result<(), AllocError> {
-    assert_kind(&rt, rt.alloc(), CalendarAlgorithm::Buddhist, "Buddhist")?;
-    assert_kind(&rt, rt.alloc(), CalendarAlgorithm::Gregory, "Gregorian")?;
-    assert_kind(&rt, rt.alloc(), CalendarAlgorithm::Iso8601, "Iso")?;
-    assert_kind(&rt, rt.alloc(), CalendarAlgorithm::Japanese, "Japanese")?;
-    assert_kind(&rt, rt.alloc(), CalendarAlgorithm::Roc, "Roc")
+    let cases = &[
+        (CalendarAlgorithm::Buddhist, "Buddhist"),
+        (CalendarAlgorithm::Gregory, "Gregorian"),
+        (CalendarAlgorithm::Iso8601, "Iso"),
+        (CalendarAlgorithm::Japanese, "Japanese"),
+        (CalendarAlgorithm::Roc, "Roc"),
+    ];
+    assert_kinds(&rt, rt.alloc(), cases)
 }
 
 #[test]
 fn kinds_of_other_solar_calendars(rt: HostRuntime) -> Result<(), AllocError> {
-    assert_kind(&rt, rt.alloc(), CalendarAlgorithm::Coptic, "Coptic")?;
-    assert_kind(&rt, rt.alloc(), CalendarAlgorithm::Ethiopic, "Ethiopian")?;
-    assert_kind(
-        &rt,
-        rt.alloc(),
-        CalendarAlgorithm::Ethioaa,
-        "EthiopianAmeteAlem",
-    )?;
-    assert_kind(&rt, rt.alloc(), CalendarAlgorithm::Indian, "Indian")?;
-    assert_kind(&rt, rt.alloc(), CalendarAlgorithm::Persian, "Persian")
+    let cases = &[
+        (CalendarAlgorithm::Coptic, "Coptic"),
+        (CalendarAlgorithm::Ethiopic, "Ethiopian"),
+        (CalendarAlgorithm::Ethioaa, "EthiopianAmeteAlem"),
+        (CalendarAlgorithm::Indian, "Indian"),
+        (CalendarAlgorithm::Persian, "Persian"),
+    ];
+    assert_kinds(&rt, rt.alloc(), cases)
 }
 
 #[test]
 fn kinds_of_lunisolar_calendars(rt: HostRuntime) -> Result<(), AllocError> {
-    assert_kind(&rt, rt.alloc(), CalendarAlgorithm::Chinese, "Chinese")?;
-    assert_kind(&rt, rt.alloc(), CalendarAlgorithm::Dangi, "Dangi")?;
-    assert_kind(&rt, rt.alloc(), CalendarAlgorithm::Hebrew, "Hebrew")
+    let cases = &[
+        (CalendarAlgorithm::Chinese, "Chinese"),
+        (CalendarAlgorithm::Dangi, "Dangi"),
+        (CalendarAlgorithm::Hebrew, "Hebrew"),
+    ];
+    assert_kinds(&rt, rt.alloc(), cases)
 }
 
 #[test]
@@ -118,24 +138,18 @@ fn kinds_of_hijri_calendars(rt: HostRuntime) -> Result<(), AllocError> {
         AnyCalendarKind::try_from(CalendarAlgorithm::Hijri(Some(Rgsa))),
         Err(()),
     );
-    assert_kind(
-        &rt,
-        rt.alloc(),
-        CalendarAlgorithm::Hijri(Some(Civil)),
-        "HijriTabularTypeIIFriday",
-    )?;
-    assert_kind(
-        &rt,
-        rt.alloc(),
-        CalendarAlgorithm::Hijri(Some(Tbla)),
-        "HijriTabularTypeIIThursday",
-    )?;
-    assert_kind(
-        &rt,
-        rt.alloc(),
-        CalendarAlgorithm::Hijri(Some(Umalqura)),
-        "HijriUmmAlQura",
-    )
+    let cases = &[
+        (
+            CalendarAlgorithm::Hijri(Some(Civil)),
+            "HijriTabularTypeIIFriday",
+        ),
+        (
+            CalendarAlgorithm::Hijri(Some(Tbla)),
+            "HijriTabularTypeIIThursday",
+        ),
+        (CalendarAlgorithm::Hijri(Some(Umalqura)), "HijriUmmAlQura"),
+    ];
+    assert_kinds(&rt, rt.alloc(), cases)
 }
 
 /// That a kind comes after another.
@@ -149,36 +163,31 @@ fn assert_after(rt: &impl Abort, first: AnyCalendarKind, second: AnyCalendarKind
 #[test]
 fn kinds_are_ordered_as_their_names(rt: HostRuntime) {
     use AnyCalendarKind as Kind;
-    assert_after(&rt, Kind::Buddhist, Kind::Chinese);
-    assert_after(&rt, Kind::Chinese, Kind::Coptic);
-    assert_after(&rt, Kind::Coptic, Kind::Dangi);
-    assert_after(&rt, Kind::Dangi, Kind::Ethiopian);
-    assert_after(&rt, Kind::Ethiopian, Kind::EthiopianAmeteAlem);
-    assert_after(&rt, Kind::EthiopianAmeteAlem, Kind::Gregorian);
-    assert_after(&rt, Kind::Gregorian, Kind::Hebrew);
-    assert_after(&rt, Kind::Hebrew, Kind::Indian);
-    assert_after(&rt, Kind::Indian, Kind::HijriTabularTypeIIFriday);
-    assert_after(
-        &rt,
-        Kind::HijriTabularTypeIIFriday,
-        Kind::HijriSimulatedMecca,
-    );
-    assert_after(
-        &rt,
-        Kind::HijriSimulatedMecca,
-        Kind::HijriTabularTypeIIThursday,
-    );
-    assert_after(&rt, Kind::HijriTabularTypeIIThursday, Kind::HijriUmmAlQura);
-    assert_after(&rt, Kind::HijriUmmAlQura, Kind::Iso);
-    assert_after(&rt, Kind::Iso, Kind::Japanese);
-    assert_after(&rt, Kind::Japanese, Kind::JapaneseExtended);
-    assert_after(&rt, Kind::JapaneseExtended, Kind::Julian);
-    assert_after(&rt, Kind::Julian, Kind::Persian);
-    assert_after(&rt, Kind::Persian, Kind::Roc);
-    assert_after(&rt, Kind::Roc, Kind::HijriTabularTypeIFriday);
-    assert_after(
-        &rt,
-        Kind::HijriTabularTypeIFriday,
-        Kind::HijriTabularTypeIThursday,
-    );
+    for &(first, second) in &[
+        (Kind::Buddhist, Kind::Chinese),
+        (Kind::Chinese, Kind::Coptic),
+        (Kind::Coptic, Kind::Dangi),
+        (Kind::Dangi, Kind::Ethiopian),
+        (Kind::Ethiopian, Kind::EthiopianAmeteAlem),
+        (Kind::EthiopianAmeteAlem, Kind::Gregorian),
+        (Kind::Gregorian, Kind::Hebrew),
+        (Kind::Hebrew, Kind::Indian),
+        (Kind::Indian, Kind::HijriTabularTypeIIFriday),
+        (Kind::HijriTabularTypeIIFriday, Kind::HijriSimulatedMecca),
+        (Kind::HijriSimulatedMecca, Kind::HijriTabularTypeIIThursday),
+        (Kind::HijriTabularTypeIIThursday, Kind::HijriUmmAlQura),
+        (Kind::HijriUmmAlQura, Kind::Iso),
+        (Kind::Iso, Kind::Japanese),
+        (Kind::Japanese, Kind::JapaneseExtended),
+        (Kind::JapaneseExtended, Kind::Julian),
+        (Kind::Julian, Kind::Persian),
+        (Kind::Persian, Kind::Roc),
+        (Kind::Roc, Kind::HijriTabularTypeIFriday),
+        (
+            Kind::HijriTabularTypeIFriday,
+            Kind::HijriTabularTypeIThursday,
+        ),
+    ] {
+        assert_after(&rt, first, second);
+    }
 }

@@ -37,14 +37,13 @@ fn counts_gregorian_days(rt: HostRuntime) {
     let (common, leap) = (months(28), months(29));
     let years: [&[ListedMonth]; 3] = [&common, &leap, &common];
     let list = ListedYears::new(2023, 738521, &years);
-    let cases = [
+    for &(year, month, day, number) in &[
         (2023, 1, 1, 738521),
         (2023, 12, 31, 738885),
         (2024, 1, 1, 738886),
         (2024, 2, 29, 738945),
         (2025, 12, 31, 739616),
-    ];
-    for (year, month, day, number) in cases {
+    ] {
         let date = ListedDate { year, month, day };
         assert_at(&rt, date, list.day_number(date), Some(number));
         assert_at(&rt, number, list.date_on(number), Some(date));
@@ -56,13 +55,12 @@ fn counts_days_between_dates(rt: HostRuntime) {
     let (common, leap) = (months(28), months(29));
     let years: [&[ListedMonth]; 3] = [&common, &leap, &common];
     let list = ListedYears::new(2023, 738521, &years);
-    let cases = [
+    for &(from, to, is_negative, days) in &[
         ((2023, 3, 1), (2025, 2, 28), false, 730),
         ((2024, 2, 28), (2024, 3, 1), false, 2),
         ((2025, 12, 31), (2023, 1, 1), true, 1095),
         ((2024, 2, 29), (2024, 2, 29), false, 0),
-    ];
-    for (from, to, is_negative, days) in cases {
+    ] {
         let (from, to) = (date(from), date(to));
         let want = DateDuration {
             is_negative,
@@ -85,7 +83,7 @@ fn refuses_what_is_not_listed(rt: HostRuntime) {
     let (common, leap) = (months(28), months(29));
     let years: [&[ListedMonth]; 3] = [&common, &leap, &common];
     let list = ListedYears::new(2023, 738521, &years);
-    let cases = [
+    for &(year, month, day) in &[
         (2022, 12, 31),
         (2026, 1, 1),
         (2023, 2, 29),
@@ -93,8 +91,7 @@ fn refuses_what_is_not_listed(rt: HostRuntime) {
         (2024, 13, 1),
         (2024, 1, 0),
         (2024, 4, 31),
-    ];
-    for (year, month, day) in cases {
+    ] {
         let number = list.day_number(ListedDate { year, month, day });
         assert_at(&rt, (year, month, day), number, None);
     }

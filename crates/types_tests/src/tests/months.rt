@@ -6,7 +6,8 @@ ghost use Rattle.cal_types.specs.MonthParts.{month_parts};
 
 use crate::tests::expected::{assert_at, assert_holds, assert_prints, assert_same};
 use cal_types::{LeapStatus, Month, MonthCode, MonthCodeParseError, MonthInfo, TinyAsciiStr};
-use std::alloc::AllocError;
+use std::alloc::{AllocError, Global};
+use std::process::Abort;
 
 #[test]
 fn month_codes_are_read(rt: HostRuntime) {
@@ -34,6 +35,15 @@ fn other_texts_are_no_month_codes(rt: HostRuntime) {
     }
 }
 
+/// That the code of a month is a text, prints it, and is parsed as the month.
+fn assert_code(rt: &impl Abort, alloc: Global, month: Month, want: &str) -> Result<(), AllocError> {
+    let code = month.code();
+    assert_same(rt, code.0.as_str(), want);
+    let parts = (month.number(), month.is_leap());
+    assert_at(rt, want, code.parsed(), Some(parts));
+    assert_prints(rt, alloc, &code, want)
+}
+
 #[test]
 fn month_codes_are_written(rt: HostRuntime) -> Result<(), AllocError> {
     for &(month, want) in &[
@@ -44,15 +54,7 @@ fn month_codes_are_written(rt: HostRuntime) -> Result<(), AllocError> {
         (Month::new(255), "M99"),
         (Month::leap(100), "M99L"),
     ] {
-        let code = month.code();
-        assert_same(&rt, code.0.as_str(), want);
-        assert_prints(&rt, rt.alloc(), &code, want)?;
-        assert_at(
-            &rt,
-            want,
-            code.parsed(),
-            Some((month.number(), month.is_leap())),
-        );
+        assert_code(&rt, rt.alloc(), month, want)?;
     }
     Ok(())
 }
@@ -84,24 +86,24 @@ fn code(text: &str) -> Option<MonthCode> {
     Some(MonthCode(TinyAsciiStr::try_from_utf8(text.as_bytes()).ok()?))
 }
 
+/// The code of the normal month, where a text is the code of a leap month.
+fn normal_code(text: &str) -> Option<MonthCode> {
+    code(text)?.get_normal_if_leap()
+}
+
 #[test]
 fn leap_codes_have_a_normal_code(rt: HostRuntime) {
     for &(leap, normal) in &[("M05L", "M05"), ("M12L", "M12"), ("abcL", "abc")] {
-        assert_at(
-            &rt,
-            leap,
-            code(leap).and_then(|c| c.get_normal_if_leap()),
-            code(normal),
-        );
+        assert_at(&rt, leap, normal_code(leap), code(normal));
     }
     for &text in &["M05", "M05l", "L", "M0L", ""] {
-        assert_at(
-            &rt,
-            text,
-            code(text).and_then(|c| c.get_normal_if_leap()),
-            None,
-        );
+        assert_at(&rt, text, normal_code(text), None);
     }
+}
+
+/// The number of the month that a text is the code of, and whether it is a leap month.
+fn parsed(text: &str) -> Option<(u8, bool)> {
+    code(text)?.parsed()
 }
 
 #[test]
@@ -113,7 +115,7 @@ fn codes_are_parsed(rt: HostRuntime) {
         ("M1", None),
         ("", None),
     ] {
-        assert_at(&rt, text, code(text).and_then(|c| c.parsed()), want);
+        assert_at(&rt, text, parsed(text), want);
     }
 }
 

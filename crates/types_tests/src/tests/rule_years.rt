@@ -6,7 +6,7 @@ use cal_days::{RataDie, islamic, julian};
 
 #[test]
 fn years_start_on_known_days(rt: HostRuntime) {
-    let cases = [
+    for &(year, day) in &[
         (1, 1),
         (0, -365),
         (-1, -730),
@@ -14,8 +14,7 @@ fn years_start_on_known_days(rt: HostRuntime) {
         (2000, 730120),
         (2024, 738886),
         (-999999, -365242499),
-    ];
-    for (year, day) in cases {
+    ] {
         assert_year(&rt, year);
         assert_at(&rt, year, year_start(year).to_i64_date(), day);
     }
@@ -23,7 +22,7 @@ fn years_start_on_known_days(rt: HostRuntime) {
 
 #[test]
 fn centuries_are_leap_every_400_years(rt: HostRuntime) {
-    let cases = [
+    for &(year, is_leap) in &[
         (2024, true),
         (2023, false),
         (1900, false),
@@ -31,8 +30,7 @@ fn centuries_are_leap_every_400_years(rt: HostRuntime) {
         (0, true),
         (-4, true),
         (-100, false),
-    ];
-    for (year, is_leap) in cases {
+    ] {
         assert_year(&rt, year);
         assert_at(&rt, year, is_leap_year(year), is_leap);
     }
@@ -40,7 +38,7 @@ fn centuries_are_leap_every_400_years(rt: HostRuntime) {
 
 #[test]
 fn days_lie_in_known_years(rt: HostRuntime) {
-    let cases = [
+    for &(day, year) in &[
         (1, 1),
         (0, 0),
         (365, 1),
@@ -53,8 +51,7 @@ fn days_lie_in_known_years(rt: HostRuntime) {
         (739252, 2025),
         (-365242499, -999999),
         (365242134, 999999),
-    ];
-    for (day, year) in cases {
+    ] {
         assert_day(&rt, day);
         assert_at(&rt, day, year_from_fixed(RataDie::new(day)), year);
     }
@@ -75,7 +72,7 @@ fn sums_stop_at_both_ends(rt: HostRuntime) {
 
 #[test]
 fn julian_years_start_on_known_days(rt: HostRuntime) {
-    let cases = [
+    for &(year, day) in &[
         (1, -1),
         (0, -367),
         (-1, -732),
@@ -83,8 +80,7 @@ fn julian_years_start_on_known_days(rt: HostRuntime) {
         (2000, 730133),
         (2022, 738169),
         (-4712, -1721425),
-    ];
-    for (year, day) in cases {
+    ] {
         assert_year(&rt, year);
         assert_at(&rt, year, julian::year_start(year).to_i64_date(), day);
     }
@@ -92,7 +88,7 @@ fn julian_years_start_on_known_days(rt: HostRuntime) {
 
 #[test]
 fn julian_centuries_are_leap(rt: HostRuntime) {
-    let cases = [
+    for &(year, is_leap) in &[
         (1900, true),
         (2000, true),
         (2023, false),
@@ -100,8 +96,7 @@ fn julian_centuries_are_leap(rt: HostRuntime) {
         (-1, false),
         (-4, true),
         (-100, true),
-    ];
-    for (year, is_leap) in cases {
+    ] {
         assert_year(&rt, year);
         assert_at(&rt, year, julian::is_leap_year(year), is_leap);
     }
@@ -109,7 +104,7 @@ fn julian_centuries_are_leap(rt: HostRuntime) {
 
 #[test]
 fn days_lie_in_known_julian_years(rt: HostRuntime) {
-    let cases = [
+    for &(day, year) in &[
         (-1, 1),
         (-2, 0),
         (-367, 0),
@@ -121,8 +116,7 @@ fn days_lie_in_known_julian_years(rt: HostRuntime) {
         (738169, 2022),
         (-365242499, -999979),
         (365242134, 999979),
-    ];
-    for (day, year) in cases {
+    ] {
         assert_day(&rt, day);
         assert_at(&rt, day, julian::year_from_fixed(RataDie::new(day)), year);
     }
@@ -130,15 +124,14 @@ fn days_lie_in_known_julian_years(rt: HostRuntime) {
 
 #[test]
 fn tabular_islamic_years_start_on_known_days(rt: HostRuntime) {
-    let cases = [
+    for &(year, day, is_leap) in &[
         (1, 227015, false),
         (0, 226661, false),
         (2, 227369, true),
         (3, 227724, false),
         (1445, 738720, true),
         (1446, 739075, false),
-    ];
-    for (year, day, is_leap) in cases {
+    ] {
         assert_year(&rt, year);
         let friday = islamic::year_start(year, islamic::FRIDAY_EPOCH);
         let thursday = islamic::year_start(year, islamic::THURSDAY_EPOCH);
@@ -150,7 +143,7 @@ fn tabular_islamic_years_start_on_known_days(rt: HostRuntime) {
 
 #[test]
 fn mean_islamic_years_are_rounded_toward_year_1(rt: HostRuntime) {
-    let cases = [
+    for &(year, eve, day) in &[
         (1, 227014, 227015),
         (2, 227368, 227369),
         (31, 237645, 237646),
@@ -158,8 +151,7 @@ fn mean_islamic_years_are_rounded_toward_year_1(rt: HostRuntime) {
         (-1, 226306, 226307),
         (-2, 225951, 225952),
         (-29, 216383, 216384),
-    ];
-    for (year, eve, day) in cases {
+    ] {
         assert_year(&rt, year);
         assert_at(&rt, year, islamic::mean_start(year).to_i64_date(), day);
         assert_day(&rt, eve);

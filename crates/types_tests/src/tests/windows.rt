@@ -41,17 +41,12 @@ fn a_window_has_two_valid_days_in_order(rt: HostRuntime) {
 
 #[test]
 fn windows_are_equal_by_both_days(rt: HostRuntime) {
-    let days = [RataDie::new(1), RataDie::new(2), RataDie::new(3)];
-    let window = Window::try_new(days[0], days[1]);
-    assert_holds(&rt, "the same", window == Window::try_new(days[0], days[1]));
-    assert_holds(
-        &rt,
-        "another last",
-        window != Window::try_new(days[0], days[2]),
-    );
-    assert_holds(
-        &rt,
-        "another first",
-        window != Window::try_new(days[1], days[1]),
-    );
+    let (first, last, later) = (RataDie::new(1), RataDie::new(2), RataDie::new(3));
+    let window = Window::try_new(first, last);
+    let same = window == Window::try_new(first, last);
+    assert_holds(&rt, "the same", same);
+    let with_another_last = window != Window::try_new(first, later);
+    assert_holds(&rt, "another last", with_another_last);
+    let with_another_first = window != Window::try_new(last, last);
+    assert_holds(&rt, "another first", with_another_first);
 }
