@@ -323,7 +323,7 @@ fn assert_month_of_2025<R: Rules>(
 #[test]
 fn leap_months_are_shown_over_any_rules(rt: HostRuntime) {
     let calendar = EastAsianTraditional(MeanRules::new(28_800_000));
-    assert_date(&rt, &calendar, 739280, (2025, 42), (Month::new(1), 1));
+    assert_date(&rt, &calendar, 739280, (2025, 42, 13), (Month::new(1), 1));
     for &(month, ordinal, status) in &[
         (Month::new(7), 7, LeapStatus::Normal),
         (Month::new(8), 8, LeapStatus::Base),
@@ -332,9 +332,6 @@ fn leap_months_are_shown_over_any_rules(rt: HostRuntime) {
     ] {
         assert_month_of_2025(&rt, &calendar, month, ordinal, status);
     }
-    let first = calendar.from_rata_die(RataDie::new(739280));
-    assert_same(&rt, calendar.months_in_year(&first), 13);
-    assert_holds(&rt, "the leap year", calendar.is_in_leap_year(&first));
     let absent = calendar.new_date(YearInput::Extended(2024), Month::leap(8), 1);
     assert_same(&rt, absent.is_ok(), false);
 }
@@ -398,18 +395,21 @@ fn assert_named<R: Rules>(
     }
 }
 
-/// That a day has a year, a year of the cycle, a month and a day of the month.
+/// That a day has a year, a year of the cycle, which is a leap year where it has 13 months, a month and a day of the
+/// month.
 fn assert_date<R: Rules>(
     rt: &impl Abort,
     calendar: &EastAsianTraditional<R>,
     day: i64,
-    (year, cycle): (i32, u8),
+    (year, cycle, months): (i32, u8, u8),
     (month, day_of_month): (Month, u8),
 ) {
     assert_day(rt, day);
     let date = calendar.from_rata_die(RataDie::new(day));
     assert_at(rt, day, calendar.extended_year(&date), year);
     assert_at(rt, day, calendar.year_info(&date).year, cycle);
+    assert_at(rt, day, calendar.months_in_year(&date), months);
+    assert_at(rt, day, calendar.is_in_leap_year(&date), months == 13);
     assert_at(rt, day, calendar.month(&date).to_input(), month);
     assert_at(rt, day, calendar.day_of_month(&date).0, day_of_month);
 }
@@ -418,13 +418,13 @@ fn assert_date<R: Rules>(
 fn days_have_known_dates_in_china_and_korea(rt: HostRuntime) {
     let china = ChineseTraditional::new(EastAsianTable::none(Side::China));
     let korea = KoreanTraditional::new(EastAsianTable::none(Side::Korea));
-    for &(day, year, cycle, month, day_of_month) in &[
-        (698025, 1911, 48, Month::new(12), 30),
-        (698026, 1912, 49, Month::new(1), 1),
-        (693862, 1900, 37, Month::leap(8), 1),
-        (694216, 1901, 38, Month::new(8), 1),
+    for &(day, year, date) in &[
+        (698025, (1911, 48, 13), (Month::new(12), 30)),
+        (698026, (1912, 49, 12), (Month::new(1), 1)),
+        (693862, (1900, 37, 13), (Month::leap(8), 1)),
+        (694216, (1901, 38, 12), (Month::new(8), 1)),
     ] {
-        assert_date(&rt, &china, day, (year, cycle), (month, day_of_month));
+        assert_date(&rt, &china, day, year, date);
     }
     let ordinals = [(698025, 13), (698026, 1), (693862, 9), (694216, 8)];
     assert_named(&rt, &china, "Chinese", &ordinals);

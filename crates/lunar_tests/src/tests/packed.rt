@@ -28,29 +28,38 @@ fn hebrew_dates_have_their_bytes(rt: HostRuntime) {
     }
 }
 
+/// That a date of the year of a number has these bytes, and that they hold it.
+fn assert_hijri_bytes(
+    rt: &impl Abort,
+    number: i32,
+    year: HijriYear,
+    (month, day): (u8, u8),
+    bytes: [u8; 6],
+) {
+    assert_packable(rt, year.extended_year(), month, day);
+    let packed = year.pack(month, day);
+    assert_at(rt, number, packed, bytes);
+    let kept = HijriYear::unpack_year(packed);
+    assert_at(rt, number, kept.extended_year(), number);
+    assert_at(rt, number, kept.new_year(), year.new_year());
+    assert_at(rt, number, HijriYear::unpack_month(packed), month);
+    assert_at(rt, number, HijriYear::unpack_day(packed), day);
+}
+
 #[test]
 fn tabular_dates_have_their_bytes(rt: HostRuntime) {
     let hijri = Hijri::new_tabular(
         TabularAlgorithmLeapYears::TypeII,
         TabularAlgorithmEpoch::Friday,
     );
-    for &(year, month, day, bytes) in &[
+    for &(number, month, day, bytes) in &[
         (-1031331, 6, 22, [85, 5, 214, 186, 134, 224]),
         (-1, 12, 30, [85, 61, 158, 255, 255, 255]),
         (1030050, 3, 30, [85, 37, 126, 68, 111, 31]),
     ] {
-        assert_packable(&rt, year, month, day);
-        let packed = hijri.year_info_from_extended(year).pack(month, day);
-        assert_at(&rt, year, packed, bytes);
-        let new_year = hijri.year_info_from_extended(year).new_year();
-        assert_at(
-            &rt,
-            year,
-            HijriYear::unpack_year(packed).new_year(),
-            new_year,
-        );
-        assert_at(&rt, year, HijriYear::unpack_month(packed), month);
-        assert_at(&rt, year, HijriYear::unpack_day(packed), day);
+        assert_packable(&rt, number, month, day);
+        let year = hijri.year_info_from_extended(number);
+        assert_hijri_bytes(&rt, number, year, (month, day), bytes);
     }
 }
 
@@ -67,15 +76,7 @@ fn hijri_dates_have_the_bytes_of_their_rows(rt: HostRuntime) {
             long_months,
             start_offset,
         };
-        let year = row.year();
-        assert_packable(&rt, year.extended_year(), month, day);
-        let packed = year.pack(month, day);
-        assert_at(&rt, extended_year, packed, bytes);
-        let kept = HijriYear::unpack_year(packed);
-        assert_at(&rt, extended_year, kept.extended_year(), extended_year);
-        assert_at(&rt, extended_year, kept.new_year(), year.new_year());
-        assert_at(&rt, extended_year, HijriYear::unpack_month(packed), month);
-        assert_at(&rt, extended_year, HijriYear::unpack_day(packed), day);
+        assert_hijri_bytes(&rt, extended_year, row.year(), (month, day), bytes);
     }
 }
 
