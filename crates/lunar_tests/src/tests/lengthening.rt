@@ -1,7 +1,7 @@
 //! Tables that are lengthened, and rows that lengthen none. The Chinese rows are those of GNU Emacs 28.2 (`rows/`);
 //! which of them end where a computed year starts was computed by a program of its own, from the formulas of these.
 
-use crate::tests::expected::{assert_at, assert_holds, assert_same};
+use crate::tests::expected::{assert_at, assert_holds};
 use crate::tests::{east_asian, hijri};
 use cal_east_asian::{ChineseTraditional, EastAsianRow, EastAsianTable, Side};
 use cal_hijri::{Hijri, HijriRow, HijriTable};
