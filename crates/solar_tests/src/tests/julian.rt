@@ -6,8 +6,8 @@ use cal_days::RataDie;
 use cal_julian::Julian;
 use cal_types::{
     DateAddError, DateAddOptions, DateDifferenceOptions, DateDuration, DateDurationUnit,
-    DateFields, DateFromFieldsError, DateFromFieldsOptions, DateNewError, LeapStatus, Month,
-    Overflow, YearAmbiguity, YearInput,
+    DateFields, DateFromFieldsError, DateFromFieldsOptions, DateNewError, Month, Overflow,
+    YearAmbiguity, YearInput,
 };
 
 /// The fields of a year, a month and a day alone.
