@@ -30,4 +30,5 @@ pub use mean_years::mean_year;
 pub use qing_years::qing_year;
 pub use rules::Rules;
 pub use sides::Side;
-pub use table_rules::{China, ChineseTraditional, Korea, KoreanTraditional};
+pub use table_rules::{China, ChineseTraditional, Korea, KoreanTraditional, TableRules};
+pub use table_sides::TableSide;

@@ -4,18 +4,21 @@ ghost use Rattle.std.specs.Prelude.{◌≡◌, ◌↔◌, IsTrue, IsOk, IfOk, fa
 ghost use Rattle.cal_types.specs.Bag.{bag_of, year_month_day};
 ghost use Rattle.cal_types.specs.CalendarList.{month_at};
 ghost use Rattle.cal_types.specs.SameYear.{HaveSameYear};
+ghost use Rattle.cal_hijri.specs.HijriList.{hijri_list};
 ghost use Rattle.cal_hijri.specs.HijriSystem.{kept_date as kept_hijri};
 ghost use Rattle.cal_hijri.specs.LengthenedTables as hijri;
+ghost use Rattle.cal_east_asian.specs.EastAsianList.{east_asian_list};
 ghost use Rattle.cal_east_asian.specs.EastAsianSystem.{kept_date as kept_east_asian};
 ghost use Rattle.cal_east_asian.specs.LengthenedTables as east_asian;
-ghost use Rattle.cal_east_asian.specs.declared.sides.Side.TheVariants.{China, Korea};
 ghost use Rattle.icu_calendar.specs.Rebasing.{IsRebased};
 
 use crate::date::Date;
 use crate::date::rebasing::Rebased;
 use cal_base::{AsCalendar, Calendar, Ref};
-use cal_east_asian::{ChineseTraditional, KoreanTraditional};
-use cal_hijri::{Hijri, TablePurpose, TableRules};
+use cal_east_asian::{
+    EastAsianTraditional, Rules as EastAsianRules, TableRules as EastAsianTableRules, TableSide,
+};
+use cal_hijri::{Hijri, Rules as HijriRules, TablePurpose, TableRules as HijriTableRules};
 use cal_types::{
     DateAddOptions, DateDifferenceOptions, DateFields, DateFromFieldsOptions,
     MissingFieldsStrategy, Overflow,
@@ -152,12 +155,42 @@ where
     date.rebase(calendar)
 }
 
+/// The same for two Hijri calendars.
+fn rebased_in_hijri<R: HijriRules, S: HijriRules>(
+    date: &Date<Hijri<R>>,
+    calendar: Hijri<S>,
+) -> Rebased<Hijri<S>>
+    ensures rebased { let c = hijri_list (R.year_of date.now.calendar.0) in let d = hijri_list (S.year_of calendar.0) in
+        let t = kept_hijri date.now.inner.0.parts in let u = kept_hijri result.date.inner.0.parts in
+        IsRebased c d t u result.moved }
+    ensures stays { let c = hijri_list (R.year_of date.now.calendar.0) in let d = hijri_list (S.year_of calendar.0) in
+        HaveSameYear c d (kept_hijri date.now.inner.0.parts).year → result.moved ≡ false }
+{
+    rebased_in_a_shared_year(date, calendar)
+}
+
+/// The same for two Chinese or Korean calendars.
+fn rebased_in_east_asian<R: EastAsianRules, S: EastAsianRules>(
+    date: &Date<EastAsianTraditional<R>>,
+    calendar: EastAsianTraditional<S>,
+) -> Rebased<EastAsianTraditional<S>>
+    ensures rebased { let c = east_asian_list (R.year_of date.now.calendar.0) in
+        let d = east_asian_list (S.year_of calendar.0) in
+        let t = kept_east_asian date.now.inner.0.parts in let u = kept_east_asian result.date.inner.0.parts in
+        IsRebased c d t u result.moved }
+    ensures stays { let c = east_asian_list (R.year_of date.now.calendar.0) in
+        let d = east_asian_list (S.year_of calendar.0) in
+        HaveSameYear c d (kept_east_asian date.now.inner.0.parts).year → result.moved ≡ false }
+{
+    rebased_in_a_shared_year(date, calendar)
+}
+
 /// A date of the Hijri calendar of Umm al-Qura, or as it is simulated for Mecca, where the table is lengthened: it isn't
 /// moved where its year isn't among the rows that were added.
 pub fn hijri_date_kept<'u, P: TablePurpose>(
-    date: &Date<Hijri<TableRules<'_, P>>>,
-    calendar: Hijri<TableRules<'u, P>>,
-) -> Rebased<Hijri<TableRules<'u, P>>>
+    date: &Date<Hijri<HijriTableRules<'_, P>>>,
+    calendar: Hijri<HijriTableRules<'u, P>>,
+) -> Rebased<Hijri<HijriTableRules<'u, P>>>
     ensures rebased { let old = date.now.calendar.0.table.rows.now in let longer = calendar.entry.0.table.rows.now in
         let c = hijri.list_with old in let d = hijri.list_with longer in
         let t = kept_hijri date.now.inner.0.parts in let u = kept_hijri result.date.inner.0.parts in
@@ -166,37 +199,21 @@ pub fn hijri_date_kept<'u, P: TablePurpose>(
         hijri.Lengthens old longer → hijri.IsNotAdded old longer (kept_hijri date.now.inner.0.parts).year
         → result.moved ≡ false }
 {
-    rebased_in_a_shared_year(date, calendar)
+    rebased_in_hijri(date, calendar)
 }
 
-/// The same for the Chinese calendar.
-pub fn chinese_date_kept<'u>(
-    date: &Date<ChineseTraditional<'_>>,
-    calendar: ChineseTraditional<'u>,
-) -> Rebased<ChineseTraditional<'u>>
+/// The same for a date of the Chinese or of the Korean calendar.
+pub fn east_asian_date_kept<'u, S: TableSide>(
+    date: &Date<EastAsianTraditional<EastAsianTableRules<'_, S>>>,
+    calendar: EastAsianTraditional<EastAsianTableRules<'u, S>>,
+) -> Rebased<EastAsianTraditional<EastAsianTableRules<'u, S>>>
     ensures rebased { let old = date.now.calendar.0.table.rows.now in let longer = calendar.entry.0.table.rows.now in
-        let c = east_asian.list_with China old in let d = east_asian.list_with China longer in
+        let c = east_asian.list_with S.side old in let d = east_asian.list_with S.side longer in
         let t = kept_east_asian date.now.inner.0.parts in let u = kept_east_asian result.date.inner.0.parts in
         IsRebased c d t u result.moved }
     ensures stays { let old = date.now.calendar.0.table.rows.now in let longer = calendar.entry.0.table.rows.now in
-        east_asian.Lengthens China old longer
+        east_asian.Lengthens S.side old longer
         → east_asian.IsNotAdded old longer (kept_east_asian date.now.inner.0.parts).year → result.moved ≡ false }
 {
-    rebased_in_a_shared_year(date, calendar)
-}
-
-/// The same for the Korean calendar.
-pub fn korean_date_kept<'u>(
-    date: &Date<KoreanTraditional<'_>>,
-    calendar: KoreanTraditional<'u>,
-) -> Rebased<KoreanTraditional<'u>>
-    ensures rebased { let old = date.now.calendar.0.table.rows.now in let longer = calendar.entry.0.table.rows.now in
-        let c = east_asian.list_with Korea old in let d = east_asian.list_with Korea longer in
-        let t = kept_east_asian date.now.inner.0.parts in let u = kept_east_asian result.date.inner.0.parts in
-        IsRebased c d t u result.moved }
-    ensures stays { let old = date.now.calendar.0.table.rows.now in let longer = calendar.entry.0.table.rows.now in
-        east_asian.Lengthens Korea old longer
-        → east_asian.IsNotAdded old longer (kept_east_asian date.now.inner.0.parts).year → result.moved ≡ false }
-{
-    rebased_in_a_shared_year(date, calendar)
+    rebased_in_east_asian(date, calendar)
 }
