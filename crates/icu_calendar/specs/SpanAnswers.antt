@@ -4,7 +4,20 @@ use Rattle.icu_calendar.specs.declared.span_answer.Span.{Span}
 use Rattle.cal_types.specs.declared.span_error.SpanError.{SpanError}
 use Rattle.cal_any.specs.declared.any_calendar.AnyCalendar.{AnyCalendar}
 use Rattle.cal_any.specs.AnySystem.{any_date}
+use Rattle.cal_types.specs.CalendarList.{Date}
 use Rattle.cal_types.specs.Spans.{SpanDates}
+use Rattle.cal_types.specs.declared.duration.DateDuration.{DateDuration}
+
+-- dates that two calendars keep, and a duration
+abbrev pub span_dates_in : {D : Type 0} → (date_of shown_date_of : D → Date) (from from_shown to to_shown : D)
+    → DateDuration → SpanDates
+span_dates_in date_of shown_date_of from from_shown to to_shown duration = record {
+  from = date_of from;
+  from_shown = shown_date_of from_shown;
+  to = date_of to;
+  to_shown = shown_date_of to_shown;
+  duration = duration;
+}
 
 -- the dates that a span holds, and its duration
 abbrev pub span_dates : Span → SpanDates

@@ -34,7 +34,9 @@ use crate::date::Date;
 use crate::placed_dates::{lunisolar, placed, placed_in_era};
 use cal_base::{AsCalendar, Iso};
 use cal_coptic::{Coptic, Ethiopian, EthiopianEraStyle};
-use cal_east_asian::{ChineseTraditional, KoreanTraditional};
+use cal_east_asian::{
+    ChineseTraditional, EastAsianTraditional, KoreanTraditional, Rules as EastAsianRules,
+};
 use cal_gregory::{Buddhist, Gregorian, Japanese, Roc};
 use cal_hebrew::Hebrew;
 use cal_hijri::{Hijri, Rules};
@@ -269,6 +271,22 @@ impl Date<Hebrew> {
     }
 }
 
+/// The date of a year, a month and a day of the Chinese or the Korean calendar; the year is the ISO year in which it
+/// begins.
+fn in_east_asian<R: EastAsianRules>(
+    related_iso_year: i32,
+    month: Month,
+    day: u8,
+    calendar: EastAsianTraditional<R>,
+) -> Result<Date<EastAsianTraditional<R>>, LunisolarDateError>
+    ensures made { let s = east_asian.east_asian_system (R.year_of calendar.0) (R.reference calendar.0) in
+        answer_by (λ d. east_asian.kept_date d.inner.0.parts) result ≡ lunisolar_answer
+        (made_date s.list s.year_names (Extended related_iso_year) (month_parts month) day) }
+    ensures calendar { IfOk result (λ d. d.calendar ≡ calendar) }
+{
+    lunisolar(related_iso_year, month, day, calendar)
+}
+
 impl<'t> Date<ChineseTraditional<'t>> {
     /// The Chinese date of a year, a month and a day; the year is the ISO year in which it begins. 1900,
     /// `Month::leap(8)`, 1 is the ISO date 1900-09-24.
@@ -296,7 +314,7 @@ impl<'t> Date<ChineseTraditional<'t>> {
             (made_date s.list s.year_names (Extended related_iso_year) (month_parts month) day) }
         ensures calendar { IfOk result (λ d. d.calendar ≡ calendar.entry) }
     {
-        lunisolar(related_iso_year, month, day, calendar)
+        in_east_asian(related_iso_year, month, day, calendar)
     }
 }
 
@@ -327,7 +345,7 @@ impl<'t> Date<KoreanTraditional<'t>> {
             (made_date s.list s.year_names (Extended related_iso_year) (month_parts month) day) }
         ensures calendar { IfOk result (λ d. d.calendar ≡ calendar.entry) }
     {
-        lunisolar(related_iso_year, month, day, calendar)
+        in_east_asian(related_iso_year, month, day, calendar)
     }
 }
 

@@ -236,6 +236,15 @@ where
         self.calendar.as_calendar().to_rata_die(&self.inner)
     }
 
+    /// The day number of the date, which is in the valid range.
+    fn valid_day(&self) -> RataDie
+        ensures day { let c = A.cal_of self.now.calendar in
+            result ≡ day_number (A.Calendar.system c).list (A.Calendar.date_of c self.now.inner) }
+        ensures valid { IsValidDay result }
+    {
+        self.to_rata_die()
+    }
+
     /// The calendar that the date belongs to.
     ///
     /// ```
@@ -421,7 +430,7 @@ where
             IsOn (A2.Calendar.system shown).list day (A2.Calendar.date_of shown result.inner) }
         ensures calendar { result.calendar ≡ calendar }
     {
-        let inner = calendar.as_calendar().from_rata_die(self.to_rata_die());
+        let inner = calendar.as_calendar().from_rata_die(self.valid_day());
         Date { inner, calendar }
     }
 

@@ -22,15 +22,12 @@ pub struct Span<'t> {
 }
 
 /// The fields of a [`Span`], as a derived `Debug` prints them.
-fn fmt_fields<A: AsCalendar, W: fmt::Write>(
-    from: (&Date<A>, &Date<A>),
-    to: (&Date<A>, &Date<A>),
+fn fmt_fields<D: fmt::Debug, W: fmt::Write>(
+    from: (&D, &D),
+    to: (&D, &D),
     duration: &DateDuration,
     f: &mut fmt::Formatter<W>,
-) -> fmt::Result
-where
-    A::Calendar: Calendar,
-{
+) -> fmt::Result {
     f.debug_struct("Span")
         .field("from", from.0)
         .field("from_shown", from.1)
@@ -40,10 +37,23 @@ where
         .finish()
 }
 
+/// The same, of dates of any calendar.
+fn fmt_dates<A: AsCalendar, W: fmt::Write>(
+    from: (&Date<A>, &Date<A>),
+    to: (&Date<A>, &Date<A>),
+    duration: &DateDuration,
+    f: &mut fmt::Formatter<W>,
+) -> fmt::Result
+where
+    A::Calendar: Calendar,
+{
+    fmt_fields(from, to, duration, f)
+}
+
 impl<'t> fmt::Debug for Span<'t> {
     fn fmt<W: fmt::Write>(&self, f: &mut fmt::Formatter<W>) -> fmt::Result {
         let from = (&self.from, &self.from_shown);
         let to = (&self.to, &self.to_shown);
-        fmt_fields(from, to, &self.duration, f)
+        fmt_dates(from, to, &self.duration, f)
     }
 }

@@ -7,8 +7,8 @@ ghost use Rattle.cal_types.specs.CalendarSystem.{resolve_fields};
 ghost use Rattle.cal_types.specs.Difference.{largest_unit_of};
 ghost use Rattle.cal_types.specs.Until.{IsUntil};
 ghost use Rattle.cal_any.specs.AnySystem.{any_system, any_date};
-ghost use Rattle.cal_types.specs.Spans.{IsSpan, RefusesBag};
-ghost use Rattle.icu_calendar.specs.SpanAnswers.{span_answer, HasCalendars};
+ghost use Rattle.cal_types.specs.Spans.{AnswersBags, IsSpan, RefusesBag};
+ghost use Rattle.icu_calendar.specs.SpanAnswers.{span_answer, span_dates_in, HasCalendars};
 
 use crate::date::Date;
 use crate::span_answer::Span;
@@ -150,6 +150,57 @@ where
     (first.to_calendar(shown), second.to_calendar(shown))
 }
 
+/// The dates that two bags of fields name, the same days in a second calendar, and the difference.
+#[derive(Drop)]
+struct SpanIn<A: AsCalendar>
+where
+    A::Calendar: Calendar,
+{
+    from: Date<A>,
+    from_shown: Date<A>,
+    to: Date<A>,
+    to_shown: Date<A>,
+    duration: DateDuration,
+}
+
+/// [`span`], in two calendars of any one type.
+fn span_in<A: AsCalendar + Copy>(
+    from: DateFields<'_>,
+    to: DateFields<'_>,
+    options: DateFromFieldsOptions,
+    difference: DateDifferenceOptions,
+    calendar: A,
+    shown: A,
+) -> Result<SpanIn<A>, SpanError>
+where
+    A::Calendar: Calendar,
+    ensures calendars { IfOk result (λ s. (s.from.calendar ≡ calendar) × (s.from_shown.calendar ≡ shown)
+        × (s.to.calendar ≡ calendar) × (s.to_shown.calendar ≡ shown)) }
+    ensures dates { let c = A.cal_of calendar in let d = A.cal_of shown in
+        let unit = largest_unit_of difference.largest_unit in
+        let list = (A.Calendar.system d).list in
+        IfOk result (λ s. AnswersBags (A.Calendar.system c) list (bag_of from.entry) (bag_of to.entry) options unit
+        (span_dates_in (A.Calendar.date_of c) (A.Calendar.date_of d) s.from.inner s.from_shown.inner s.to.inner
+        s.to_shown.inner s.duration)) }
+    ensures refused { let system = A.Calendar.system (A.cal_of calendar) in
+        IfErr result (λ e. RefusesBag system (bag_of from.entry) (bag_of to.entry) options e.side e.cause) }
+{
+    match named_dates(from, to, options, calendar) {
+        Ok(dates) => {
+            let (from_shown, to_shown) = shown_days(&dates.from, &dates.to, shown);
+            let duration = dates.duration(difference);
+            Ok(SpanIn {
+                from: dates.from,
+                from_shown,
+                to: dates.to,
+                to_shown,
+                duration,
+            })
+        }
+        Err(error) => Err(error),
+    }
+}
+
 /// The dates that two bags of fields name in a calendar, the same days in a second calendar, and the difference
 /// from the first date to the second, which leads back: added to the first date under
 /// [`Overflow::Constrain`], it gives the second.
@@ -184,18 +235,14 @@ pub fn span<'t>(
         let unit = largest_unit_of difference.largest_unit in
         IsSpan c list (bag_of from.entry) (bag_of to.entry) options unit (span_answer result) }
 {
-    match named_dates(from, to, options, calendar) {
-        Ok(dates) => {
-            let (from_shown, to_shown) = shown_days(&dates.from, &dates.to, shown);
-            let duration = dates.duration(difference);
-            Ok(Span {
-                from: dates.from,
-                from_shown,
-                to: dates.to,
-                to_shown,
-                duration,
-            })
-        }
+    match span_in(from, to, options, difference, calendar, shown) {
+        Ok(span) => Ok(Span {
+            from: span.from,
+            from_shown: span.from_shown,
+            to: span.to,
+            to_shown: span.to_shown,
+            duration: span.duration,
+        }),
         Err(error) => Err(error),
     }
 }
