@@ -1,18 +1,27 @@
 //! The calendar that two codes stand for, and what is asked of it in its own type.
 
 ghost use Rattle.std.specs.Prelude.{◌≡◌};
+ghost use Rattle.cal_coptic.specs.EthiopianSystem.{ethiopian_system};
+ghost use Rattle.cal_east_asian.specs.EastAsianSystem.{east_asian_system};
+ghost use Rattle.cal_hijri.specs.HijriSystem.{hijri_system};
 ghost use Rattle.cal_hijri.specs.TabularRules.{tabular_system};
-ghost use Rattle.cal_tables.specs.Kinds.{kind_system, table_contents};
+ghost use Rattle.cal_tables.specs.Kinds.{kind_system, listed_system, table_contents};
 ghost use Rattle.date_calls.specs.Calendars.{calendar_of, choice_system, chosen_system};
 
 use crate::codes::{kind_of, tables_of};
 use crate::outcomes::{UNKNOWN_CALENDAR, UNKNOWN_YEARS};
 use crate::questions::Question;
 use cal_base::Iso;
+use cal_coptic::EthiopianEraStyle::{AmeteAlem, AmeteMihret};
 use cal_coptic::{Coptic, Ethiopian, EthiopianEraStyle};
+use cal_east_asian::{EastAsianTraditional, Rules as EastAsianRules};
 use cal_gregory::{Buddhist, Gregorian, Roc};
 use cal_hebrew::Hebrew;
-use cal_hijri::{Hijri, TabularAlgorithm, TabularAlgorithmEpoch, TabularAlgorithmLeapYears};
+use cal_hijri::TabularAlgorithmEpoch::{Friday, Thursday};
+use cal_hijri::TabularAlgorithmLeapYears::{TypeI, TypeII};
+use cal_hijri::{
+    Hijri, Rules as HijriRules, TabularAlgorithm, TabularAlgorithmEpoch, TabularAlgorithmLeapYears,
+};
 use cal_julian::{Indian, Julian};
 use cal_kinds::AnyCalendarKind;
 use cal_tables::Tables;
@@ -37,58 +46,6 @@ pub(crate) fn choose(calendar: u8, years: u8) -> Result<Chosen, u8>
     Ok(Chosen { kind, tables })
 }
 
-/// What an expression answers of the calendar of a kind over tables, which is made in its own type.
-macro_rules! with_calendar {
-    ($kind:ident, $tables:ident, $calendar:ident => $answer:expr) => {
-        match $kind {
-            AnyCalendarKind::Buddhist => with_made!(Buddhist, $calendar => $answer),
-            AnyCalendarKind::Chinese => with_made!($tables.chinese(), $calendar => $answer),
-            AnyCalendarKind::Coptic => with_made!(Coptic, $calendar => $answer),
-            AnyCalendarKind::Dangi => with_made!($tables.korean(), $calendar => $answer),
-            AnyCalendarKind::Ethiopian => with_made!(Ethiopian::new(), $calendar => $answer),
-            AnyCalendarKind::EthiopianAmeteAlem => {
-                with_made!(Ethiopian::new_with_era_style(EthiopianEraStyle::AmeteAlem), $calendar => $answer)
-            }
-            AnyCalendarKind::Gregorian => with_made!(Gregorian, $calendar => $answer),
-            AnyCalendarKind::Hebrew => with_made!(Hebrew, $calendar => $answer),
-            AnyCalendarKind::Indian => with_made!(Indian, $calendar => $answer),
-            AnyCalendarKind::HijriTabularTypeIIFriday => {
-                with_made!(tabular(TabularAlgorithmLeapYears::TypeII, TabularAlgorithmEpoch::Friday), $calendar => $answer)
-            }
-            AnyCalendarKind::HijriSimulatedMecca => {
-                with_made!($tables.simulated_mecca(), $calendar => $answer)
-            }
-            AnyCalendarKind::HijriTabularTypeIIThursday => {
-                with_made!(tabular(TabularAlgorithmLeapYears::TypeII, TabularAlgorithmEpoch::Thursday), $calendar => $answer)
-            }
-            AnyCalendarKind::HijriUmmAlQura => {
-                with_made!($tables.umm_al_qura(), $calendar => $answer)
-            }
-            AnyCalendarKind::Iso => with_made!(Iso, $calendar => $answer),
-            AnyCalendarKind::Japanese => with_made!($tables.japanese(), $calendar => $answer),
-            AnyCalendarKind::JapaneseExtended => {
-                with_made!($tables.japanese(), $calendar => $answer)
-            }
-            AnyCalendarKind::Julian => with_made!(Julian, $calendar => $answer),
-            AnyCalendarKind::Persian => with_made!($tables.persian(), $calendar => $answer),
-            AnyCalendarKind::Roc => with_made!(Roc, $calendar => $answer),
-            AnyCalendarKind::HijriTabularTypeIFriday => {
-                with_made!(tabular(TabularAlgorithmLeapYears::TypeI, TabularAlgorithmEpoch::Friday), $calendar => $answer)
-            }
-            AnyCalendarKind::HijriTabularTypeIThursday => {
-                with_made!(tabular(TabularAlgorithmLeapYears::TypeI, TabularAlgorithmEpoch::Thursday), $calendar => $answer)
-            }
-        }
-    };
-}
-
-macro_rules! with_made {
-    ($made:expr, $calendar:ident => $answer:expr) => {{
-        let $calendar = $made;
-        $answer
-    }};
-}
-
 /// The tabular Hijri calendar with these leap years, from a day on.
 fn tabular(
     leap_years: TabularAlgorithmLeapYears,
@@ -99,11 +56,74 @@ fn tabular(
     Hijri::new_tabular(leap_years, epoch)
 }
 
+/// What a question is answered in a Hijri calendar.
+fn ask_in_hijri<R: HijriRules, Q: Question>(question: &Q, calendar: Hijri<R>) -> Q::Answer
+    ensures { Q.answers question.now (hijri_system (R.year_of calendar.0) (R.reference calendar.0)) result }
+{
+    question.ask(&calendar)
+}
+
+/// What a question is answered in the Chinese or the Korean calendar.
+fn ask_in_east_asian<R: EastAsianRules, Q: Question>(
+    question: &Q,
+    calendar: EastAsianTraditional<R>,
+) -> Q::Answer
+    ensures { let system = east_asian_system (R.year_of calendar.0) (R.reference calendar.0) in
+        Q.answers question.now system result }
+{
+    question.ask(&calendar)
+}
+
+/// What a question is answered in the Ethiopian calendar with the years of an era.
+fn ask_in_ethiopian<Q: Question>(question: &Q, style: EthiopianEraStyle) -> Q::Answer
+    ensures { Q.answers question.now (ethiopian_system style) result }
+{
+    question.ask(&Ethiopian::new_with_era_style(style))
+}
+
+/// What a question is answered in the Japanese calendar.
+fn ask_in_japanese<Q: Question>(question: &Q, tables: &Tables<'_>) -> Q::Answer
+    ensures { Q.answers question.now (listed_system (table_contents tables.now).eras) result }
+{
+    question.ask(&tables.japanese())
+}
+
 /// What a question is answered in the calendar of a kind over tables.
 fn ask_kind<Q: Question>(question: &Q, kind: AnyCalendarKind, tables: &Tables<'_>) -> Q::Answer
     ensures { Q.answers question.now (kind_system (table_contents tables.now) kind) result }
 {
-    with_calendar!(kind, tables, calendar => question.ask(&calendar))
+    match kind {
+        AnyCalendarKind::Buddhist => question.ask(&Buddhist),
+        AnyCalendarKind::Chinese => ask_in_east_asian(question, tables.chinese()),
+        AnyCalendarKind::Coptic => question.ask(&Coptic),
+        AnyCalendarKind::Dangi => ask_in_east_asian(question, tables.korean()),
+        AnyCalendarKind::Ethiopian => ask_in_ethiopian(question, AmeteMihret),
+        AnyCalendarKind::EthiopianAmeteAlem => ask_in_ethiopian(question, AmeteAlem),
+        AnyCalendarKind::Gregorian => question.ask(&Gregorian),
+        AnyCalendarKind::Hebrew => question.ask(&Hebrew),
+        AnyCalendarKind::Indian => question.ask(&Indian),
+        AnyCalendarKind::HijriTabularTypeIIFriday => ask_in_hijri(
+            question,
+            tabular(TypeII, Friday),
+        ),
+        AnyCalendarKind::HijriSimulatedMecca => ask_in_hijri(question, tables.simulated_mecca()),
+        AnyCalendarKind::HijriTabularTypeIIThursday => ask_in_hijri(
+            question,
+            tabular(TypeII, Thursday),
+        ),
+        AnyCalendarKind::HijriUmmAlQura => ask_in_hijri(question, tables.umm_al_qura()),
+        AnyCalendarKind::Iso => question.ask(&Iso),
+        AnyCalendarKind::Japanese => ask_in_japanese(question, tables),
+        AnyCalendarKind::JapaneseExtended => ask_in_japanese(question, tables),
+        AnyCalendarKind::Julian => question.ask(&Julian),
+        AnyCalendarKind::Persian => question.ask(&tables.persian()),
+        AnyCalendarKind::Roc => question.ask(&Roc),
+        AnyCalendarKind::HijriTabularTypeIFriday => ask_in_hijri(question, tabular(TypeI, Friday)),
+        AnyCalendarKind::HijriTabularTypeIThursday => ask_in_hijri(
+            question,
+            tabular(TypeI, Thursday),
+        ),
+    }
 }
 
 /// What a question is answered in the calendar that was chosen.

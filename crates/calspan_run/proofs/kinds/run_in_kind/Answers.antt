@@ -10,20 +10,20 @@ done_in Done t made kind named e f h = subst Done (e ∙ ap (kind_system t) (sym
 
 pub returns-in-HijriTabularTypeIIFriday : goal.returns-in-HijriTabularTypeIIFriday
 returns-in-HijriTabularTypeIIFriday g c =
-    done_in (λ s. g.T.CalendarTask.done c.args.task.now s c.args.parts.now c.run-in-HijriTabularTypeIIFriday.new.parts c.run-in-HijriTabularTypeIIFriday.result) (table_contents c.args.tables.now) _ _ _ c.tabular-calendar.ensures
-    c.in-HijriTabularTypeIIFriday.is c.run-in-HijriTabularTypeIIFriday.ensures
+    done_in (λ s. g.T.CalendarTask.done c.args.task.now s c.args.parts.now c.run_in_hijri.new.parts c.run_in_hijri.result) (table_contents c.args.tables.now) _ _ _ c.tabular.ensures
+    c.in-HijriTabularTypeIIFriday.is c.run_in_hijri.ensures
 
 pub returns-in-HijriTabularTypeIIThursday : goal.returns-in-HijriTabularTypeIIThursday
 returns-in-HijriTabularTypeIIThursday g c =
-    done_in (λ s. g.T.CalendarTask.done c.args.task.now s c.args.parts.now c.run-in-HijriTabularTypeIIThursday.new.parts c.run-in-HijriTabularTypeIIThursday.result) (table_contents c.args.tables.now) _ _ _ c.tabular-calendar-in-HijriTabularTypeIIThursday.ensures
-    c.in-HijriTabularTypeIIThursday.is c.run-in-HijriTabularTypeIIThursday.ensures
+    done_in (λ s. g.T.CalendarTask.done c.args.task.now s c.args.parts.now c.run_in_hijri-in-HijriTabularTypeIIThursday.new.parts c.run_in_hijri-in-HijriTabularTypeIIThursday.result) (table_contents c.args.tables.now) _ _ _ c.tabular-in-HijriTabularTypeIIThursday.ensures
+    c.in-HijriTabularTypeIIThursday.is c.run_in_hijri-in-HijriTabularTypeIIThursday.ensures
 
 pub returns-in-HijriTabularTypeIFriday : goal.returns-in-HijriTabularTypeIFriday
 returns-in-HijriTabularTypeIFriday g c =
-    done_in (λ s. g.T.CalendarTask.done c.args.task.now s c.args.parts.now c.run-in-HijriTabularTypeIFriday.new.parts c.run-in-HijriTabularTypeIFriday.result) (table_contents c.args.tables.now) _ _ _ c.tabular-calendar-in-HijriTabularTypeIFriday.ensures
-    c.in-HijriTabularTypeIFriday.is c.run-in-HijriTabularTypeIFriday.ensures
+    done_in (λ s. g.T.CalendarTask.done c.args.task.now s c.args.parts.now c.run_in_hijri-in-HijriTabularTypeIFriday.new.parts c.run_in_hijri-in-HijriTabularTypeIFriday.result) (table_contents c.args.tables.now) _ _ _ c.tabular-in-HijriTabularTypeIFriday.ensures
+    c.in-HijriTabularTypeIFriday.is c.run_in_hijri-in-HijriTabularTypeIFriday.ensures
 
 pub returns-in-HijriTabularTypeIThursday : goal.returns-in-HijriTabularTypeIThursday
 returns-in-HijriTabularTypeIThursday g c =
-    done_in (λ s. g.T.CalendarTask.done c.args.task.now s c.args.parts.now c.run-in-HijriTabularTypeIThursday.new.parts c.run-in-HijriTabularTypeIThursday.result) (table_contents c.args.tables.now) _ _ _ c.tabular-calendar-in-HijriTabularTypeIThursday.ensures
-    c.in-HijriTabularTypeIThursday.is c.run-in-HijriTabularTypeIThursday.ensures
+    done_in (λ s. g.T.CalendarTask.done c.args.task.now s c.args.parts.now c.run_in_hijri-in-HijriTabularTypeIThursday.new.parts c.run_in_hijri-in-HijriTabularTypeIThursday.result) (table_contents c.args.tables.now) _ _ _ c.tabular-in-HijriTabularTypeIThursday.ensures
+    c.in-HijriTabularTypeIThursday.is c.run_in_hijri-in-HijriTabularTypeIThursday.ensures

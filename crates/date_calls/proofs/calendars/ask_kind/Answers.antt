@@ -10,20 +10,20 @@ asked_in Says t made kind named e f h = subst Says (e ∙ ap (kind_system t) (sy
 
 pub returns-in-HijriTabularTypeIIFriday : goal.returns-in-HijriTabularTypeIIFriday
 returns-in-HijriTabularTypeIIFriday g c =
-    asked_in (λ s. g.Q.Question.answers c.args.question.now s c.ask-in-HijriTabularTypeIIFriday.result) (table_contents c.args.tables.now) _ _ _ c.tabular-calendar.ensures
-    c.in-HijriTabularTypeIIFriday.is c.ask-in-HijriTabularTypeIIFriday.ensures
+    asked_in (λ s. g.Q.Question.answers c.args.question.now s c.ask_in_hijri.result) (table_contents c.args.tables.now) _ _ _ c.tabular.ensures
+    c.in-HijriTabularTypeIIFriday.is c.ask_in_hijri.ensures
 
 pub returns-in-HijriTabularTypeIIThursday : goal.returns-in-HijriTabularTypeIIThursday
 returns-in-HijriTabularTypeIIThursday g c =
-    asked_in (λ s. g.Q.Question.answers c.args.question.now s c.ask-in-HijriTabularTypeIIThursday.result) (table_contents c.args.tables.now) _ _ _
-    c.tabular-calendar-in-HijriTabularTypeIIThursday.ensures c.in-HijriTabularTypeIIThursday.is c.ask-in-HijriTabularTypeIIThursday.ensures
+    asked_in (λ s. g.Q.Question.answers c.args.question.now s c.ask_in_hijri-in-HijriTabularTypeIIThursday.result) (table_contents c.args.tables.now) _ _ _
+    c.tabular-in-HijriTabularTypeIIThursday.ensures c.in-HijriTabularTypeIIThursday.is c.ask_in_hijri-in-HijriTabularTypeIIThursday.ensures
 
 pub returns-in-HijriTabularTypeIFriday : goal.returns-in-HijriTabularTypeIFriday
 returns-in-HijriTabularTypeIFriday g c =
-    asked_in (λ s. g.Q.Question.answers c.args.question.now s c.ask-in-HijriTabularTypeIFriday.result) (table_contents c.args.tables.now) _ _ _
-    c.tabular-calendar-in-HijriTabularTypeIFriday.ensures c.in-HijriTabularTypeIFriday.is c.ask-in-HijriTabularTypeIFriday.ensures
+    asked_in (λ s. g.Q.Question.answers c.args.question.now s c.ask_in_hijri-in-HijriTabularTypeIFriday.result) (table_contents c.args.tables.now) _ _ _
+    c.tabular-in-HijriTabularTypeIFriday.ensures c.in-HijriTabularTypeIFriday.is c.ask_in_hijri-in-HijriTabularTypeIFriday.ensures
 
 pub returns-in-HijriTabularTypeIThursday : goal.returns-in-HijriTabularTypeIThursday
 returns-in-HijriTabularTypeIThursday g c =
-    asked_in (λ s. g.Q.Question.answers c.args.question.now s c.ask-in-HijriTabularTypeIThursday.result) (table_contents c.args.tables.now) _ _ _
-    c.tabular-calendar-in-HijriTabularTypeIThursday.ensures c.in-HijriTabularTypeIThursday.is c.ask-in-HijriTabularTypeIThursday.ensures
+    asked_in (λ s. g.Q.Question.answers c.args.question.now s c.ask_in_hijri-in-HijriTabularTypeIThursday.result) (table_contents c.args.tables.now) _ _ _
+    c.tabular-in-HijriTabularTypeIThursday.ensures c.in-HijriTabularTypeIThursday.is c.ask_in_hijri-in-HijriTabularTypeIThursday.ensures

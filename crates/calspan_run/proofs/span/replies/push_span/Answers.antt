@@ -1,4 +1,5 @@
-use Rattle.std.proofs.Common.{◌≡◌, ℕ, List, [], ◌∷◌, ◌++◌, subst, ◌∙◌, append_assoc}
+use Rattle.std.proofs.Common.{◌≡◌, ℕ, List, [], ◌∷◌, ◌++◌, subst, ◌∙◌, append_assoc, arith}
+use Rattle.std.proofs.lemmas.Grind.{common_steps}
 use Rattle.cal_types.specs.CalendarList.{IsOn}
 use Rattle.cal_tables.specs.Kinds.{kind_system, table_contents}
 use Rattle.calspan_run.proofs.span.replies.push_span.Goals as goal
@@ -7,6 +8,15 @@ use Rattle.calspan_run.proofs.span.replies.push_span.Goals as goal
 pushed : (old head x y z a b d e f g all : List ℕ) → a ≡ old ++ head → b ≡ a ++ x → d ≡ b ++ 32 ∷ [] → e ≡ d ++ y → f ≡ e ++ 32 ∷ [] → g ≡ f ++ z → all ≡ g ++ 10 ∷ []
     → all ≡ old ++ (head ++ x ++ 32 ∷ y ++ 32 ∷ z ++ 10 ∷ [])
 pushed old head x y z a b d e f g all e1 e2 e3 e4 e5 e6 e7 = rw (e7, e6, e5, e4, e3, e2, e1) (simp append_assoc)
+
+pub push-requires : goal.push-requires
+push-requires c = grind (arith, common_steps)
+
+pub push-requires-2 : goal.push-requires-2
+push-requires-2 c = grind (arith, common_steps)
+
+pub push-requires-3 : goal.push-requires-3
+push-requires-3 c = grind (arith, common_steps)
 
 pub returns : goal.returns
 returns c s first second options unit named =
