@@ -25,7 +25,7 @@ fn lines_of<S: Source>(source: &mut S) -> (u64, usize, usize) {
 
 #[test]
 fn lines_in_any_pieces(rt: HostRuntime) {
-    for cut in [1, 2, 5, 4096] {
+    for &cut in &[1, 2, 5, 4096] {
         let mut source = MemorySource::new(b"one\n\nthree\r\nlast", cut, &[]);
         assert_eq!(rt; lines_of(&mut source), (3, 6, 4));
         let mut closed = MemorySource::new(b"\n\n\n", cut, &[]);

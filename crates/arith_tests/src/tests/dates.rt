@@ -24,7 +24,7 @@ fn forward(years: u32, months: u32, weeks: u32, days: u32) -> DateDuration {
 #[test]
 fn days_have_dates(rt: HostRuntime) {
     let cal = AlternatingMonths;
-    let cases = [
+    for &(number, year, month, day) in &[
         (1, 1, 1, 1),
         (30, 1, 1, 30),
         (31, 1, 2, 1),
@@ -33,8 +33,7 @@ fn days_have_dates(rt: HostRuntime) {
         (0, 0, 12, 29),
         (-353, 0, 1, 1),
         (-354, -1, 12, 29),
-    ];
-    for (number, year, month, day) in cases {
+    ] {
         assert_day(&rt, number);
         let date = ArithmeticDate::from_rata_die(RataDie::new(number), &cal);
         assert_at(&rt, number, date.year().number, year);
@@ -72,14 +71,13 @@ fn each_unit_has_its_difference(rt: HostRuntime) {
     let cal = AlternatingMonths;
     let first = ArithmeticDate::from_rata_die(RataDie::new(30), &cal);
     let second = ArithmeticDate::from_rata_die(RataDie::new(354 + 59 + 29), &cal);
-    let cases = [
+    for &(largest_unit, want) in &[
         (Some(DateDurationUnit::Years), forward(1, 1, 0, 29)),
         (Some(DateDurationUnit::Months), forward(0, 13, 0, 29)),
         (Some(DateDurationUnit::Weeks), forward(0, 0, 58, 6)),
         (Some(DateDurationUnit::Days), forward(0, 0, 0, 412)),
         (None, forward(0, 0, 0, 412)),
-    ];
-    for (largest_unit, want) in cases {
+    ] {
         let options = DateDifferenceOptions { largest_unit };
         assert_at(&rt, largest_unit, first.until(&second, &cal, options), want);
     }

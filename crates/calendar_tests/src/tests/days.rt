@@ -98,7 +98,7 @@ fn known_days_have_known_dates_of_thirteen_months(rt: HostRuntime) {
 }
 
 #[test]
-fn known_days_have_known_dates(rt: HostRuntime) {
+fn known_days_have_known_dates_of_other_calendars(rt: HostRuntime) {
     let indian = [
         (727443, (1914, "M06", 11, "shaka", 1914)),
         (738946, (1945, "M12", 11, "shaka", 1945)),
@@ -280,7 +280,7 @@ fn days_of_gregorian_months_come_back_from_their_fields(rt: HostRuntime) {
 }
 
 #[test]
-fn days_come_back_from_their_fields(rt: HostRuntime) {
+fn days_of_other_solar_calendars_come_back_from_their_fields(rt: HostRuntime) {
     assert_back(&rt, Julian);
     assert_back(&rt, Coptic);
     for &style in &[AmeteMihret, AmeteAlem] {
