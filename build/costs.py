@@ -3,12 +3,15 @@
 
 Each is proved with one job, as many side by side as there are processors, over libraries of statements in a folder of its own, which a later
 run takes over for crates that haven't changed. With names of crates, these are measured, and those below them that aren't built yet. With
-`--functions NAME` it proves one crate and lists its functions by what they took; the crates below are built first.
+`--functions NAME` it proves one crate and lists its functions by what they took: in seconds by the clock, and in millions of steps, once those
+of the elaboration and once those of the kernel; the crates below are built first.
 
-Run it where nothing else runs. Machines and days differ, so a crate is compared with itself on one machine, or by the multiples.
+Run it where nothing else runs. Machines and days differ, so a crate is compared with itself on one machine, or by the multiples. The steps are
+the same on each machine, whatever runs beside it, but none are counted of a function's borrows (its `Lts`).
 """
 
 import os
+import re
 import resource
 import subprocess
 import sys
@@ -21,7 +24,10 @@ import program
 # How often the unit is measured; the least counts.
 TIMES = 3
 # What of a file's name says which function it is of, and which part of its proof.
-PARTS = ("Lts", "Tie", "Proof", "Goals", "Answers", "Invariants", "Mir", "Code", "Kinds", "Met", "Laws", "Statement", "Symbol", "TheImpl", "Layout")
+PARTS = {"Lts", "Tie", "Proof", "Goals", "Answers", "Invariants", "Mir", "Code", "Kinds", "Met", "Laws", "Statement", "Symbol", "TheImpl", "Layout"}
+PARTS |= {"Given", "Named", "Reads", "TheLink", "View"}
+# What a declaration took, in the record of kept work: the steps of its elaboration, and those of the kernel.
+STEPS = re.compile(rb'"steps":\[(\d+),(\d+),\d+\]')
 
 
 class Task(NamedTuple):
@@ -113,8 +119,35 @@ class Measuring:
             yield task, usage.ru_utime + usage.ru_stime
 
 
+def function_of(name: str) -> str:
+    """The function that a module of kept work is of."""
+    return ".".join(part for part in name.split(".") if part not in PARTS)
+
+
+def seconds_of_functions(kept: Path) -> dict[str, float]:
+    """What each function took by the clock: a module's file is written as the module ends."""
+    files = sorted((it for it in kept.rglob("*.oantt") if "records" not in it.parts), key=lambda it: it.stat().st_mtime_ns)
+    taken: dict[str, float] = {}
+    for before, it in zip(files, files[1:]):
+        function = function_of(it.stem)
+        taken[function] = taken.get(function, 0.0) + (it.stat().st_mtime_ns - before.stat().st_mtime_ns) / 1e9
+    return taken
+
+
+def steps_of_functions(kept: Path) -> dict[str, tuple[int, int]]:
+    """How many steps the declarations of each function took, of elaboration and of the kernel."""
+    taken: dict[str, tuple[int, int]] = {}
+    for it in kept.rglob("records/*.decls.oantt"):
+        function = function_of(it.name.removesuffix(".decls.oantt"))
+        elaborated, checked = taken.get(function, (0, 0))
+        for first, second in STEPS.findall(it.read_bytes()):
+            elaborated, checked = elaborated + int(first), checked + int(second)
+        taken[function] = elaborated, checked
+    return taken
+
+
 def show_functions(room: Path, name: str) -> None:
-    """Proves a crate with one job, and lists what its functions took: each file of the kept work is written as its part ends."""
+    """Proves a crate with one job, and lists what its functions took."""
     below = [it for it in program.crates_below([name]) if it != name]
     if below and (status := program.Build(room, below, False).whole()):
         sys.exit(status)
@@ -122,13 +155,13 @@ def show_functions(room: Path, name: str) -> None:
     kept.mkdir(parents=True)
     words = command(Task(name, False), program.crates_below([name]), program.kit(), room, kept)
     subprocess.run(words, cwd=program.TOP / "crates" / name, stdout=subprocess.DEVNULL, stderr=subprocess.DEVNULL, check=True)
-    files = sorted((it for it in kept.rglob("*.oantt") if "records" not in it.parts), key=lambda it: it.stat().st_mtime_ns)
-    taken: dict[str, float] = {}
-    for before, it in zip(files, files[1:]):
-        function = ".".join(part for part in it.stem.split(".") if part not in PARTS)
-        taken[function] = taken.get(function, 0.0) + (it.stat().st_mtime_ns - before.stat().st_mtime_ns) / 1e9
-    for function, seconds in sorted(taken.items(), key=lambda it: -it[1])[:40]:
-        print(f"{seconds:6.1f} {function}")
+    seconds, steps = seconds_of_functions(kept), steps_of_functions(kept)
+    print("seconds  elaboration  kernel  function")
+    for function, taken in sorted(seconds.items(), key=lambda it: -it[1])[:40]:
+        elaborated, checked = steps.get(function, (0, 0))
+        print(f"{taken:7.1f} {elaborated / 1e6:12.2f} {checked / 1e6:7.1f}  {function}")
+    elaborated, checked = (sum(it) / 1e6 for it in zip(*steps.values()))
+    print(f"{sum(seconds.values()):7.1f} {elaborated:12.2f} {checked:7.1f}  in all")
 
 
 def main(words: list[str]) -> int:
