@@ -13,7 +13,7 @@ use cal_days::RataDie;
 use cal_types::{DateFields, DateFromFieldsOptions, Leaping, Month, Overflow, Window};
 
 /// The day that a month and a day name in each year.
-#[derive(Clone, Copy, Debug)]
+#[derive(Clone, Copy)]
 pub(crate) struct YearlyDay {
     pub(crate) month: Month,
     pub(crate) day: u8,
@@ -68,7 +68,7 @@ fn day_in_window<C: Calendar>(
 }
 
 /// An anniversary and its year.
-#[derive(Clone, Copy, Debug)]
+#[derive(Clone, Copy)]
 pub(crate) struct Found {
     pub(crate) day: RataDie,
     pub(crate) year: i32,

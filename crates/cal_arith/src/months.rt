@@ -87,7 +87,7 @@ fn months_between_years<C: YearShapes>(first: C::YearInfo, last: C::YearInfo, ca
 }
 
 /// A year, and a number of months from its first one.
-#[derive(Clone, Copy, Debug)]
+#[derive(Clone, Copy)]
 struct MonthsFrom<Y> {
     year: Y,
     months: u32,

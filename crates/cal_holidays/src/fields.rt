@@ -18,7 +18,7 @@ use csv::ByteRecord;
 use word_values::{read_int, read_month_code, read_number};
 
 /// How a rule names days.
-#[derive(Clone, Copy, Debug)]
+#[derive(Clone, Copy)]
 pub(crate) enum RuleKind {
     /// A month and a day.
     Fixed,
@@ -29,7 +29,7 @@ pub(crate) enum RuleKind {
 }
 
 /// The six fields of a record.
-#[derive(Clone, Copy, Debug)]
+#[derive(Clone, Copy)]
 pub(crate) struct Fields<'r> {
     pub kind: &'r [u8],
     pub name: &'r [u8],

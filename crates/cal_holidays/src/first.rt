@@ -13,7 +13,7 @@ use cal_days::RataDie;
 pub(crate) const PLACES: usize = 64;
 
 /// A day and a rule that names it.
-#[derive(Clone, Copy, Debug)]
+#[derive(Clone, Copy)]
 pub(crate) struct First {
     pub day: i64,
     pub rule: usize,

@@ -16,7 +16,7 @@ use cal_days::RataDie;
 use cal_types::{Month, Weekday};
 
 /// A weekday of a month of a calendar, each year.
-#[derive(Clone, Copy, Debug)]
+#[derive(Clone, Copy)]
 pub(crate) struct NthWeekday {
     /// The month.
     pub(crate) month: Month,

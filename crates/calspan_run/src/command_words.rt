@@ -13,7 +13,7 @@ use cal_types::Month;
 use word_values::{read_byte, read_int, read_month_code};
 
 /// The words that are still to be read.
-#[derive(Clone, Copy, Debug)]
+#[derive(Clone, Copy)]
 pub(crate) struct CommandWords<'a> {
     rest: &'a [String],
 }

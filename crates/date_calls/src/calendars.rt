@@ -27,7 +27,7 @@ use cal_kinds::AnyCalendarKind;
 use cal_tables::Tables;
 
 /// A kind of calendar, and the tables that it is made with.
-#[derive(Clone, Copy, Debug)]
+#[derive(Clone, Copy)]
 pub(crate) struct Chosen {
     kind: AnyCalendarKind,
     tables: Tables<'static>,

@@ -39,7 +39,7 @@ fn flag(holds: bool) -> u8
 }
 
 /// What a year is numbered by.
-#[derive(Clone, Copy, Debug)]
+#[derive(Clone, Copy)]
 struct YearNumbers {
     extended: i32,
     in_era: i32,
@@ -87,7 +87,7 @@ pub(crate) fn parts_of<C: Calendar>(calendar: &C, date: &C::DateInner) -> Calend
 }
 
 /// Which date a day is.
-#[derive(Clone, Copy, Debug)]
+#[derive(Clone, Copy)]
 pub(crate) struct OfDay {
     pub(crate) day: ValidDay,
 }

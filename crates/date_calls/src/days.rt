@@ -9,7 +9,7 @@ use cal_days::RataDie;
 use cal_days::ranges::{FIRST_VALID_DAY, LAST_VALID_DAY};
 
 /// A day number from -365242499 to 365242134.
-#[derive(Clone, Copy, Debug)]
+#[derive(Clone, Copy)]
 pub(crate) struct ValidDay {
     day: i64,
     ghost valid: { IsValidDay day },

@@ -53,7 +53,7 @@ pub(crate) fn told(duration: DateDuration) -> CalendarDuration
 }
 
 /// Which date a duration leads to from a day.
-#[derive(Clone, Copy, Debug)]
+#[derive(Clone, Copy)]
 pub(crate) struct Sum {
     pub(crate) day: ValidDay,
     pub(crate) duration: DateDuration,
@@ -81,7 +81,7 @@ impl Question for Sum {
 }
 
 /// How far a second day is from a first one.
-#[derive(Clone, Copy, Debug)]
+#[derive(Clone, Copy)]
 pub(crate) struct Difference {
     pub(crate) from: ValidDay,
     pub(crate) to: ValidDay,

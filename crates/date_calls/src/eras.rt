@@ -19,7 +19,7 @@ fn era_of(year: YearInfo) -> TinyAsciiStr<16>
 }
 
 /// Which era the year of a day is in.
-#[derive(Clone, Copy, Debug)]
+#[derive(Clone, Copy)]
 pub(crate) struct EraOf {
     pub(crate) day: ValidDay,
 }

@@ -90,7 +90,7 @@ pub(crate) fn fields_of<'a>(
 }
 
 /// Which date fields name.
-#[derive(Clone, Copy, Debug)]
+#[derive(Clone, Copy)]
 pub(crate) struct OfFields<'a> {
     pub(crate) fields: DateFields<'a>,
     pub(crate) options: DateFromFieldsOptions,

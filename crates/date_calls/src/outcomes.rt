@@ -24,7 +24,7 @@ pub(crate) const INVALID_DAY_NUMBER: u8 = 4;
 pub const NO_ROOM: u8 = 8;
 
 /// Why there is no date: the code of the cause, and the greatest number that would do where the cause has one.
-#[derive(Clone, Copy, Debug, PartialEq, Eq)]
+#[derive(Clone, Copy)]
 pub(crate) struct Fault {
     pub(crate) code: u8,
     pub(crate) max: u8,

@@ -15,7 +15,7 @@ use cal_types::{DateFields, Month};
 use word_values::read_month_code;
 
 /// A field of a bag, and its value.
-#[derive(Clone, Copy, Debug)]
+#[derive(Clone, Copy)]
 enum Field<'a> {
     Era(&'a [u8]),
     EraYear(i32),

@@ -41,7 +41,7 @@ pub enum Gathered {
 }
 
 /// What a line did among the row lines.
-#[derive(Clone, Copy, Debug, PartialEq, Eq)]
+#[derive(Clone, Copy)]
 pub(crate) enum LineGathered {
     // It is ignored, or gives a row that is kept.
     GoesOn,
