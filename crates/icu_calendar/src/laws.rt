@@ -137,6 +137,11 @@ where
 }
 
 /// A date in another calendar. Where its year has the same first day and the same months there, it isn't moved.
+///
+/// ```
+/// let date = Date::from_rata_die(RataDie::new(738946), Gregorian);
+/// assert!(rt; !laws::rebased_in_a_shared_year(&date, Iso).moved);
+/// ```
 pub fn rebased_in_a_shared_year<A: AsCalendar, B: AsCalendar>(
     date: &Date<A>,
     calendar: B,
@@ -187,6 +192,16 @@ fn rebased_in_east_asian<R: EastAsianRules, S: EastAsianRules>(
 
 /// A date of the Hijri calendar of Umm al-Qura, or as it is simulated for Mecca, where the table is lengthened: it isn't
 /// moved where its year isn't among the rows that were added.
+///
+/// A date of 1445, which no table has a row of, under the table of the one row of 1446:
+///
+/// ```
+/// let computed = HijriTable::none();
+/// let stored = Date::try_new(1445.into(), Month::new(9), 1, Hijri::new_umm_al_qura(computed))?;
+/// let rows = [YEAR_1446];
+/// let longer = Hijri::new_umm_al_qura(computed.lengthened(&rows)?);
+/// assert!(rt; !laws::hijri_date_kept(&stored, longer).moved);
+/// ```
 pub fn hijri_date_kept<'u, P: TablePurpose>(
     date: &Date<Hijri<HijriTableRules<'_, P>>>,
     calendar: Hijri<HijriTableRules<'u, P>>,
@@ -203,6 +218,13 @@ pub fn hijri_date_kept<'u, P: TablePurpose>(
 }
 
 /// The same for a date of the Chinese or of the Korean calendar.
+///
+/// ```
+/// let none = EastAsianTable::none(Side::China);
+/// let stored = Date::try_new(1911.into(), Month::new(9), 1, ChineseTraditional::new(none))?;
+/// let longer = ChineseTraditional::new(none.lengthened(published::china_table().rows())?);
+/// assert!(rt; !laws::east_asian_date_kept(&stored, longer).moved);
+/// ```
 pub fn east_asian_date_kept<'u, S: TableSide>(
     date: &Date<EastAsianTraditional<EastAsianTableRules<'_, S>>>,
     calendar: EastAsianTraditional<EastAsianTableRules<'u, S>>,

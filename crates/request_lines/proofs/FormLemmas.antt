@@ -1,6 +1,9 @@
 -- Words are read as a request exactly where they are of the form of a request line.
 use Rattle.std.proofs.Common.{◌≡◌, ℕ, Bool, true, false, cond, List, [], ◌∷◌, ◌++◌, Option, Some, None, refl, ◌∙◌, sym, ap, subst, codes}
 use Rattle.std.specs.Option.{option_map}
+use Rattle.cal_kinds.specs.declared.any_calendar_kind.AnyCalendarKind.{AnyCalendarKind}
+use Rattle.cal_types.specs.declared.duration.DateDurationUnit.{DateDurationUnit}
+use Rattle.cal_types.specs.declared.options.Overflow.{Overflow}
 use Rattle.request_lines.specs.Words.{is_text}
 use Rattle.request_lines.specs.Reading.{Read, next_word, and_then}
 use Rattle.request_lines.specs.Bags.{no_fields, bag_before_to, bag_of_all}
@@ -8,7 +11,7 @@ use Rattle.request_lines.specs.BagForms.{SaysBag}
 use Rattle.cal_kinds.specs.KindNames.{kind_named}
 use Rattle.request_lines.specs.Requests.{Request, Header, unit_named, overflow_named, missing_fields_named, fixed_word, header_read, request_read, request_of}
 use Rattle.request_lines.specs.Forms.{RequestWords, all_words, Says, IsRequest, RequestsHaveOneForm}
-use Rattle.request_lines.proofs.BagLemmas.{same_text, is_same_text, some_pair, bag_is, bag_reads, before_is, before_reads}
+use Rattle.request_lines.proofs.BagLemmas.{same_text, some_pair, bag_is, bag_reads, before_is, before_reads}
 
 -- a next word was read
 pub record IsNext {T U : Type 0} (read : List ℕ → Option T) (words : List (List ℕ)) (next : T → List (List ℕ) → Option U) (z : U) : Type 0 where
@@ -79,16 +82,70 @@ pub record IsHeaderRead (words : List (List ℕ)) (h : Header) (rest : List (Lis
   pub says_overflow : overflow_named overflow ≡ Some h.overflow
   pub says_missing : missing_fields_named missing_fields ≡ Some h.missing_fields
 
--- the words of a header, one after another
-joined : (words r1 r2 r3 r4 r5 r6 r7 rest : List (List ℕ)) (x0 x1 x2 x3 x4 x5 x6 : List ℕ) → words ≡ x0 ∷ r1 → r1 ≡ x1 ∷ r2
-    → r2 ≡ x2 ∷ r3 → r3 ≡ x3 ∷ r4 → r4 ≡ x4 ∷ r5 → r5 ≡ x5 ∷ r6 → r6 ≡ x6 ∷ r7 → x0 ≡ codes "span" → x6 ≡ codes "from" → r7 ≡ rest
-    → words ≡ codes "span" ∷ x1 ∷ x2 ∷ x3 ∷ x4 ∷ x5 ∷ codes "from" ∷ rest
-joined words r1 r2 r3 r4 r5 r6 r7 rest x0 x1 x2 x3 x4 x5 x6 e0 e1 e2 e3 e4 e5 e6 span from last =
-    let sixth : r6 ≡ codes "from" ∷ rest = e6 ∙ λ i. from i ∷ last i in
-    let fourth : r4 ≡ x4 ∷ x5 ∷ codes "from" ∷ rest = e4 ∙ ap (λ l. x4 ∷ l) (e5 ∙ ap (λ l. x5 ∷ l) sixth) in
-    let second : r2 ≡ x2 ∷ x3 ∷ x4 ∷ x5 ∷ codes "from" ∷ rest = e2 ∙ ap (λ l. x2 ∷ l) (e3 ∙ ap (λ l. x3 ∷ l) fourth) in
-    let first : r1 ≡ x1 ∷ x2 ∷ x3 ∷ x4 ∷ x5 ∷ codes "from" ∷ rest = e1 ∙ ap (λ l. x1 ∷ l) second in
-    e0 ∙ λ i. span i ∷ first i
+-- what is read behind the calendars, and behind the unit and the overflow
+abbrev last_read : AnyCalendarKind → AnyCalendarKind → Option DateDurationUnit → Option Overflow → List (List ℕ) → Read Header
+last_read calendar shown unit overflow words =
+    and_then (next_word missing_fields_named words) (λ missing_fields words.
+    and_then (next_word (fixed_word (codes "from")) words) (λ _ words.
+    Some (record { calendar = calendar; shown = shown; unit = unit; overflow = overflow; missing_fields = missing_fields }, words)))
+
+abbrev options_read : AnyCalendarKind → AnyCalendarKind → List (List ℕ) → Read Header
+options_read calendar shown words =
+    and_then (next_word unit_named words) (λ unit words.
+    and_then (next_word overflow_named words) (λ overflow words. last_read calendar shown unit overflow words))
+
+-- a header's last option was read; the others were before it
+record IsLastRead (read h : Header) (words rest : List (List ℕ)) : Type 0 where
+  missing_fields : List ℕ
+  form : words ≡ missing_fields ∷ codes "from" ∷ rest
+  says_missing : missing_fields_named missing_fields ≡ Some h.missing_fields
+  is : read ≡ h
+
+last_is : (calendar shown : AnyCalendarKind) (unit : Option DateDurationUnit) (overflow : Option Overflow) (words rest : List (List ℕ)) (h : Header)
+    → last_read calendar shown unit overflow words ≡ Some (h, rest)
+    → IsLastRead (record { calendar = calendar; shown = shown; unit = unit; overflow = overflow; missing_fields = h.missing_fields }) h words rest
+last_is calendar shown unit overflow words rest h e =
+    let a = next_is missing_fields_named words _ (h, rest) e in
+    let b = next_is (fixed_word (codes "from")) a.rest _ (h, rest) a.then in
+    let (is, last) = some_pair _ h b.rest rest b.then in
+    let from = fixed_is (codes "from") b.word b.x b.reads in
+    let missing = ap (λ (t : Header). t.missing_fields) is in
+    record {
+      missing_fields = a.word;
+      form = a.is ∙ ap (λ l. a.word ∷ l) (b.is ∙ λ i. from i ∷ last i);
+      says_missing = a.reads ∙ ap Some missing;
+      is = ap (λ m. record { calendar = calendar; shown = shown; unit = unit; overflow = overflow; missing_fields = m }) (sym missing) ∙ is;
+    }
+
+-- a header's options were read
+record AreOptionsRead (calendar shown : AnyCalendarKind) (h : Header) (words rest : List (List ℕ)) : Type 0 where
+  unit : List ℕ
+  overflow : List ℕ
+  missing_fields : List ℕ
+  form : words ≡ unit ∷ overflow ∷ missing_fields ∷ codes "from" ∷ rest
+  says_unit : unit_named unit ≡ Some h.unit
+  says_overflow : overflow_named overflow ≡ Some h.overflow
+  says_missing : missing_fields_named missing_fields ≡ Some h.missing_fields
+  is_calendar : calendar ≡ h.calendar
+  is_shown : shown ≡ h.shown
+
+options_are : (calendar shown : AnyCalendarKind) (words rest : List (List ℕ)) (h : Header) → options_read calendar shown words ≡ Some (h, rest)
+    → AreOptionsRead calendar shown h words rest
+options_are calendar shown words rest h e =
+    let a = next_is unit_named words _ (h, rest) e in
+    let b = next_is overflow_named a.rest _ (h, rest) a.then in
+    let c = last_is calendar shown a.x b.x b.rest rest h b.then in
+    record {
+      unit = a.word;
+      overflow = b.word;
+      missing_fields = c.missing_fields;
+      form = a.is ∙ ap (λ l. a.word ∷ l) (b.is ∙ ap (λ l. b.word ∷ l) c.form);
+      says_unit = a.reads ∙ ap (λ (t : Header). Some t.unit) c.is;
+      says_overflow = b.reads ∙ ap (λ (t : Header). Some t.overflow) c.is;
+      says_missing = c.says_missing;
+      is_calendar = ap (λ (t : Header). t.calendar) c.is;
+      is_shown = ap (λ (t : Header). t.shown) c.is;
+    }
 
 pub header_is : (words : List (List ℕ)) (h : Header) (rest : List (List ℕ)) → header_read words ≡ Some (h, rest)
     → IsHeaderRead words h rest
@@ -97,26 +154,23 @@ header_is words h rest e =
     let a = next_is (fixed_word (codes "span")) words _ (h, rest) e in
     let b = next_is kind_named a.rest _ (h, rest) a.then in
     let c = next_is kind_named b.rest _ (h, rest) b.then in
-    let d = next_is unit_named c.rest _ (h, rest) c.then in
-    let f = next_is overflow_named d.rest _ (h, rest) d.then in
-    let g = next_is missing_fields_named f.rest _ (h, rest) f.then in
-    let k = next_is (fixed_word (codes "from")) g.rest _ (h, rest) g.then in
+    let d = options_are b.x c.x c.rest rest h c.then in
     let span = fixed_is (codes "span") a.word a.x a.reads in
-    let from = fixed_is (codes "from") k.word k.x k.reads in
-    let read : Header = record { calendar = b.x; shown = c.x; unit = d.x; overflow = f.x; missing_fields = g.x } in
-    let (is, last) = some_pair read h k.rest rest k.then in
+    let behind : a.rest ≡ b.word ∷ c.word ∷ d.unit ∷ d.overflow ∷ d.missing_fields ∷ codes "from" ∷ rest =
+    b.is ∙ ap (λ l. b.word ∷ l) (c.is ∙ ap (λ l. c.word ∷ l) d.form)
+    in
     record {
       calendar = b.word;
       shown = c.word;
-      unit = d.word;
-      overflow = f.word;
-      missing_fields = g.word;
-      form = joined words a.rest b.rest c.rest d.rest f.rest g.rest k.rest rest a.word b.word c.word d.word f.word g.word k.word a.is b.is c.is d.is f.is g.is k.is span from last;
-      says_calendar = b.reads ∙ ap (λ (t : Header). Some t.calendar) is;
-      says_shown = c.reads ∙ ap (λ (t : Header). Some t.shown) is;
-      says_unit = d.reads ∙ ap (λ (t : Header). Some t.unit) is;
-      says_overflow = f.reads ∙ ap (λ (t : Header). Some t.overflow) is;
-      says_missing = g.reads ∙ ap (λ (t : Header). Some t.missing_fields) is;
+      unit = d.unit;
+      overflow = d.overflow;
+      missing_fields = d.missing_fields;
+      form = a.is ∙ λ i. span i ∷ behind i;
+      says_calendar = b.reads ∙ ap Some d.is_calendar;
+      says_shown = c.reads ∙ ap Some d.is_shown;
+      says_unit = d.says_unit;
+      says_overflow = d.says_overflow;
+      says_missing = d.says_missing;
     }
 
 pub request_is : (words : List (List ℕ)) (r : Request) → request_read words ≡ Some r → IsRequest words r

@@ -1,36 +1,66 @@
 -- Words are read as a row exactly where they are of the form of a row line.
-use Rattle.std.proofs.Common.{◌≡◌, ◌∙◌, ℕ, Bool, true, false, cond, List, [], ◌∷◌, Option, Some, None, refl, sym, ap, subst, codes}
+use Rattle.std.proofs.Common.{◌≡◌, ◌∙◌, ℕ, ℤ, Bool, true, false, cond, List, [], ◌∷◌, Option, Some, None, refl, sym, ap, subst, codes}
 use Rattle.word_values.specs.Numbers.{int_of, byte_of}
 use Rattle.request_lines.specs.Words.{is_text}
-use Rattle.request_lines.specs.Reading.{and_then}
+use Rattle.request_lines.specs.Reading.{Read, next_word, and_then}
 use Rattle.request_lines.specs.Requests.{fixed_word}
 use Rattle.request_lines.specs.Rows.{YearRow, EraRow, Row, China, Korea, Hijri, Persian, Era, kind_named, lengths_of, leap_of, code_of, lunisolar_read, lunar_read, era_read, parts_read, at_end, row_read}
 use Rattle.request_lines.specs.RowForms.{IsLunisolar, IsLunar, IsEra, name_of, AreParts, IsRow, RowsHaveOneForm}
+use Rattle.request_lines.specs.declared.era_row.RowDate.{RowDate}
 use Rattle.request_lines.specs.declared.row.RowKind.{RowKind}
 use Rattle.request_lines.specs.declared.row.RowKind.TheVariants as kind
 use Rattle.request_lines.proofs.BagLemmas.{same_text, some_pair}
 use Rattle.request_lines.proofs.FormLemmas.{next_is, then_is, fixed_is, next_reads}
 
 -- the words of each kind, where they are read
+-- the lengths and the leap month of a lunisolar row, behind its year and its start
+abbrev months_read : ℤ → ℤ → List (List ℕ) → Read YearRow
+months_read year start words =
+    and_then (next_word (lengths_of 13) words) (λ lengths words.
+    and_then (next_word (leap_of lengths) words) (λ leap words.
+    Some (record { year = year; start = start; lengths = lengths; leap = leap }, words)))
+
+record AreMonths (year start : ℤ) (words : List (List ℕ)) (r : YearRow) : Type 0 where
+  lengths : List ℕ
+  leap : List ℕ
+  form : words ≡ lengths ∷ leap ∷ []
+  says_lengths : lengths_of 13 lengths ≡ Some r.lengths
+  says_leap : leap_of r.lengths leap ≡ Some r.leap
+  is_year : year ≡ r.year
+  is_start : start ≡ r.start
+
+months_are : (year start : ℤ) (words : List (List ℕ)) (r : YearRow) → months_read year start words ≡ Some (r, []) → AreMonths year start words r
+months_are year start words r e =
+    let a = next_is (lengths_of 13) words _ (r, []) e in
+    let b = next_is (leap_of a.x) a.rest _ (r, []) a.then in
+    let read : YearRow = record { year = year; start = start; lengths = a.x; leap = b.x } in
+    let (is, last) = some_pair read r b.rest [] b.then in
+    record {
+      lengths = a.word;
+      leap = b.word;
+      form = a.is ∙ ap (λ l. a.word ∷ l) (b.is ∙ ap (λ l. b.word ∷ l) last);
+      says_lengths = a.reads ∙ ap (λ (t : YearRow). Some t.lengths) is;
+      says_leap = ap (λ (t : YearRow). leap_of t.lengths b.word) (sym is) ∙ b.reads ∙ ap (λ (t : YearRow). Some t.leap) is;
+      is_year = ap (λ (t : YearRow). t.year) is;
+      is_start = ap (λ (t : YearRow). t.start) is;
+    }
+
 lunisolar_is : (words : List (List ℕ)) (r : YearRow) → lunisolar_read words ≡ Some (r, []) → IsLunisolar words r
 unfolding lunisolar_read
 lunisolar_is words r e =
     let a = next_is int_of words _ (r, []) e in
     let b = next_is int_of a.rest _ (r, []) a.then in
-    let c = next_is (lengths_of 13) b.rest _ (r, []) b.then in
-    let d = next_is (leap_of c.x) c.rest _ (r, []) c.then in
-    let read : YearRow = record { year = a.x; start = b.x; lengths = c.x; leap = d.x } in
-    let (is, last) = some_pair read r d.rest [] d.then in
+    let c = months_are a.x b.x b.rest r b.then in
     record {
       year = a.word;
       start = b.word;
-      lengths = c.word;
-      leap = d.word;
-      form = a.is ∙ ap (λ l. a.word ∷ l) (b.is ∙ ap (λ l. b.word ∷ l) (c.is ∙ ap (λ l. c.word ∷ l) (d.is ∙ ap (λ l. d.word ∷ l) last)));
-      says_year = a.reads ∙ ap (λ (t : YearRow). Some t.year) is;
-      says_start = b.reads ∙ ap (λ (t : YearRow). Some t.start) is;
-      says_lengths = c.reads ∙ ap (λ (t : YearRow). Some t.lengths) is;
-      says_leap = ap (λ (t : YearRow). leap_of t.lengths d.word) (sym is) ∙ d.reads ∙ ap (λ (t : YearRow). Some t.leap) is;
+      lengths = c.lengths;
+      leap = c.leap;
+      form = a.is ∙ ap (λ l. a.word ∷ l) (b.is ∙ ap (λ l. b.word ∷ l) c.form);
+      says_year = a.reads ∙ ap Some c.is_year;
+      says_start = b.reads ∙ ap Some c.is_start;
+      says_lengths = c.says_lengths;
+      says_leap = c.says_leap;
     }
 
 lunar_is : (words : List (List ℕ)) (r : YearRow) → lunar_read words ≡ Some (r, []) → IsLunar words r
@@ -52,29 +82,54 @@ lunar_is words r e =
       no_leap = ap (λ (t : YearRow). t.leap) (sym is);
     }
 
+-- the code and the index of an era, behind its start
+abbrev era_end_read : RowDate → List (List ℕ) → Read EraRow
+era_end_read start words =
+    and_then (next_word code_of words) (λ code words.
+    and_then (next_word byte_of words) (λ index words. Some (record { start = start; code = code; index = index }, words)))
+
+record IsEraEnd (start : RowDate) (words : List (List ℕ)) (r : EraRow) : Type 0 where
+  code : List ℕ
+  index : List ℕ
+  form : words ≡ code ∷ index ∷ []
+  says_code : code_of code ≡ Some r.code
+  says_index : byte_of index ≡ Some r.index
+  is : start ≡ r.start
+
+era_end_is : (start : RowDate) (words : List (List ℕ)) (r : EraRow) → era_end_read start words ≡ Some (r, []) → IsEraEnd start words r
+era_end_is start words r e =
+    let a = next_is code_of words _ (r, []) e in
+    let b = next_is byte_of a.rest _ (r, []) a.then in
+    let read : EraRow = record { start = start; code = a.x; index = b.x } in
+    let (is, last) = some_pair read r b.rest [] b.then in
+    record {
+      code = a.word;
+      index = b.word;
+      form = a.is ∙ ap (λ l. a.word ∷ l) (b.is ∙ ap (λ l. b.word ∷ l) last);
+      says_code = a.reads ∙ ap (λ (t : EraRow). Some t.code) is;
+      says_index = b.reads ∙ ap (λ (t : EraRow). Some t.index) is;
+      is = ap (λ (t : EraRow). t.start) is;
+    }
+
 era_is : (words : List (List ℕ)) (r : EraRow) → era_read words ≡ Some (r, []) → IsEra words r
 unfolding era_read
 era_is words r e =
     let a = next_is int_of words _ (r, []) e in
     let b = next_is byte_of a.rest _ (r, []) a.then in
     let c = next_is byte_of b.rest _ (r, []) b.then in
-    let d = next_is code_of c.rest _ (r, []) c.then in
-    let f = next_is byte_of d.rest _ (r, []) d.then in
-    let read : EraRow = record { start = record { year = a.x; month = b.x; day = c.x }; code = d.x; index = f.x } in
-    let (is, last) = some_pair read r f.rest [] f.then in
-    let behind : c.rest ≡ d.word ∷ f.word ∷ [] = d.is ∙ ap (λ l. d.word ∷ l) (f.is ∙ ap (λ l. f.word ∷ l) last) in
+    let d = era_end_is (record { year = a.x; month = b.x; day = c.x }) c.rest r c.then in
     record {
       year = a.word;
       month = b.word;
       day = c.word;
-      code = d.word;
-      index = f.word;
-      form = a.is ∙ ap (λ l. a.word ∷ l) (b.is ∙ ap (λ l. b.word ∷ l) (c.is ∙ ap (λ l. c.word ∷ l) behind));
-      says_year = a.reads ∙ ap (λ (t : EraRow). Some t.start.year) is;
-      says_month = b.reads ∙ ap (λ (t : EraRow). Some t.start.month) is;
-      says_day = c.reads ∙ ap (λ (t : EraRow). Some t.start.day) is;
-      says_code = d.reads ∙ ap (λ (t : EraRow). Some t.code) is;
-      says_index = f.reads ∙ ap (λ (t : EraRow). Some t.index) is;
+      code = d.code;
+      index = d.index;
+      form = a.is ∙ ap (λ l. a.word ∷ l) (b.is ∙ ap (λ l. b.word ∷ l) (c.is ∙ ap (λ l. c.word ∷ l) d.form));
+      says_year = a.reads ∙ ap (λ (t : RowDate). Some t.year) d.is;
+      says_month = b.reads ∙ ap (λ (t : RowDate). Some t.month) d.is;
+      says_day = c.reads ∙ ap (λ (t : RowDate). Some t.day) d.is;
+      says_code = d.says_code;
+      says_index = d.says_index;
     }
 
 -- and they are read, where they say it

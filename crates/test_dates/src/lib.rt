@@ -6,7 +6,7 @@ ghost use Rattle.cal_days.specs.Day.{IsValidDay};
 use icu_calendar::{
     AnyCalendar, AnyCalendarKind, AsCalendar, Calendar, Date, DateDifferenceOptions, DateDuration,
     DateDurationUnit, DateFields, DateFromFieldsError, DateFromFieldsOptions,
-    MissingFieldsStrategy, Month, Overflow, RataDie, Tables,
+    MissingFieldsStrategy, Month, Overflow, RataDie, Tables, YearInfo,
 };
 
 /// The Gregorian calendar.
@@ -76,8 +76,19 @@ where
 }
 
 /// The day of a date in the calendar of a kind.
-pub fn shown_in(date: &Date<AnyCalendar<'_>>, kind: AnyCalendarKind) -> Date<AnyCalendar<'static>> {
-    date.to_calendar(calendar_of(kind))
+pub fn shown_in(
+    date: &Date<AnyCalendar<'static>>,
+    kind: AnyCalendarKind,
+) -> Date<AnyCalendar<'static>> {
+    shown_by(date, calendar_of(kind))
+}
+
+/// The day of a date in another calendar of the same type.
+fn shown_by<A: AsCalendar>(date: &Date<A>, calendar: A) -> Date<A>
+where
+    A::Calendar: Calendar,
+{
+    date.to_calendar(calendar)
 }
 
 /// The day number of a date.
@@ -97,6 +108,47 @@ where
     (year, date.month().ordinal, date.day_of_month().0)
 }
 
+/// What a date says of itself.
+struct Said {
+    /// The day number.
+    number: i64,
+    /// The extended year, the ordinal month and the day.
+    parts: (i32, u8, u8),
+    /// The year, in its era or cycle.
+    year: YearInfo,
+}
+
+impl Said {
+    /// Whether these are the day number, extended year, ordinal month and day.
+    fn has_parts(&self, number: i64, extended_year: i32, month: u8, day_of_month: u8) -> bool {
+        self.number == number && self.parts == (extended_year, month, day_of_month)
+    }
+
+    /// Whether the year is this one of an era, and this extended year.
+    fn is_in_year(&self, extended_year: i32, era: &str, number: i32) -> bool {
+        match self.year.era() {
+            Some(named) => {
+                named.era.as_str() == era
+                    && named.year == number
+                    && named.extended_year == extended_year
+            }
+            None => false,
+        }
+    }
+}
+
+/// What a date says of itself.
+fn said_by<A: AsCalendar>(date: &Date<A>) -> Said
+where
+    A::Calendar: Calendar,
+{
+    Said {
+        number: number_in(date),
+        parts: parts_in(date),
+        year: date.year(),
+    }
+}
+
 /// Whether a date has this day number, extended year, ordinal month and day.
 pub fn has_parts_in<A: AsCalendar>(
     date: &Date<A>,
@@ -108,7 +160,7 @@ pub fn has_parts_in<A: AsCalendar>(
 where
     A::Calendar: Calendar,
 {
-    number_in(date) == number && parts_in(date) == (extended_year, month, day_of_month)
+    said_by(date).has_parts(number, extended_year, month, day_of_month)
 }
 
 /// Whether a date is in this year of an era, and in this extended year.
@@ -116,26 +168,24 @@ pub fn is_in_year<A: AsCalendar>(date: &Date<A>, extended_year: i32, era: &str, 
 where
     A::Calendar: Calendar,
 {
-    match date.year().era() {
-        Some(named) => {
-            named.era.as_str() == era
-                && named.year == number
-                && named.extended_year == extended_year
-        }
-        None => false,
-    }
+    said_by(date).is_in_year(extended_year, era, number)
 }
 
-// The same of a date of any calendar. A call of a function that has no type parameter is proved sooner.
+// The same of a date of any calendar. What hands over `AnyCalendar` is dear to prove, so one function asks such a date.
+
+/// What a date of any calendar says of itself.
+fn said_of(date: &Date<AnyCalendar<'_>>) -> Said {
+    said_by(date)
+}
 
 /// The day number of a date of any calendar.
 pub fn number_of(date: &Date<AnyCalendar<'_>>) -> i64 {
-    number_in(date)
+    said_of(date).number
 }
 
 /// The extended year, the ordinal month and the day of a date of any calendar.
 pub fn parts_of(date: &Date<AnyCalendar<'_>>) -> (i32, u8, u8) {
-    parts_in(date)
+    said_of(date).parts
 }
 
 /// Whether a date of any calendar has this day number, extended year, ordinal month and day.
@@ -146,12 +196,12 @@ pub fn has_parts(
     month: u8,
     day_of_month: u8,
 ) -> bool {
-    has_parts_in(date, number, extended_year, month, day_of_month)
+    said_of(date).has_parts(number, extended_year, month, day_of_month)
 }
 
 /// Whether a date of any calendar is in this year of an era, and in this extended year.
 pub fn is_named(date: &Date<AnyCalendar<'_>>, extended_year: i32, era: &str, number: i32) -> bool {
-    is_in_year(date, extended_year, era, number)
+    said_of(date).is_in_year(extended_year, era, number)
 }
 
 /// The difference of two dates; none where their calendars can't be compared.
@@ -160,6 +210,18 @@ pub fn difference(
     to: &Date<AnyCalendar<'static>>,
     options: DateDifferenceOptions,
 ) -> Option<DateDuration> {
+    difference_in(from, to, options)
+}
+
+/// The difference of two dates of one type; none where their calendars can't be compared.
+fn difference_in<A: AsCalendar>(
+    from: &Date<A>,
+    to: &Date<A>,
+    options: DateDifferenceOptions,
+) -> Option<DateDuration>
+where
+    A::Calendar: Calendar,
+{
     match from.try_until_with_options(to, options) {
         Ok(found) => Some(found),
         Err(_) => None,

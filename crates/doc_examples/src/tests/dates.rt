@@ -199,7 +199,7 @@ fn pointers_and_any_calendars(rt: HostRuntime) -> Result<(), Fail> {
 }
 
 #[test]
-fn records_and_laws(rt: HostRuntime) -> Result<(), Fail> {
+fn records(rt: HostRuntime) -> Result<(), Fail> {
     let date = Some(DateRecord {
         year: 2024,
         month: 3,
@@ -217,6 +217,25 @@ fn records_and_laws(rt: HostRuntime) -> Result<(), Fail> {
         Err(_) => assert!(rt; false),
     }
 
+    Ok(())
+}
+
+#[test]
+fn copies(rt: HostRuntime) -> Result<(), Fail> {
+    let date = Date::from_rata_die(RataDie::new(738946), Iso);
+    let again = date.clone()?;
+    assert!(rt; again.same_date(&date));
+
+    let date = Date::from_rata_die(RataDie::new(738946), Hebrew);
+    match date.into_ref_counted(rt.alloc()) {
+        Ok(counted) => assert!(rt; counted.day_of_month().0 == 21),
+        Err(_) => assert!(rt; false), // no memory
+    }
+    Ok(())
+}
+
+#[test]
+fn laws_of_dates(rt: HostRuntime) {
     let date = Date::from_rata_die(RataDie::new(738946), Iso);
     assert!(rt; laws::date_of_its_day(&date).same_date(&date));
 
@@ -230,5 +249,7 @@ fn records_and_laws(rt: HostRuntime) -> Result<(), Fail> {
     let second = Date::from_rata_die(RataDie::new(738953), Iso);
     let Ok(sum) = laws::sum_with_difference(first, &second, DateDifferenceOptions::default());
     assert!(rt; sum.same_date(&second));
-    Ok(())
+
+    let date = Date::from_rata_die(RataDie::new(738946), Gregorian);
+    assert!(rt; !laws::rebased_in_a_shared_year(&date, Iso).moved);
 }

@@ -2,8 +2,8 @@
 
 use icu_calendar::rows::TableRows;
 use icu_calendar::{
-    AnyCalendar, AnyCalendarKind, Date, Hijri, HijriRow, HijriTable, Month, RataDie, Tables,
-    published,
+    AnyCalendar, AnyCalendarKind, ChineseTraditional, Date, EastAsianTable, Hijri, HijriRow,
+    HijriTable, Month, RataDie, Side, Tables, laws, published,
 };
 use std::test::Fail;
 
@@ -99,5 +99,25 @@ fn stored_dates(rt: HostRuntime) -> Result<(), Fail> {
     let longer = Hijri::new_umm_al_qura(table.lengthened(rows.umm_al_qura())?);
     let rebased = stored.rebase(longer);
     assert!(rt; rebased.moved);
+    Ok(())
+}
+
+#[test]
+fn stored_dates_of_other_years(rt: HostRuntime) -> Result<(), Fail> {
+    let computed = HijriTable::none();
+    let stored = Date::try_new(
+        1445.into(),
+        Month::new(9),
+        1,
+        Hijri::new_umm_al_qura(computed),
+    )?;
+    let rows = [YEAR_1446];
+    let longer = Hijri::new_umm_al_qura(computed.lengthened(&rows)?);
+    assert!(rt; !laws::hijri_date_kept(&stored, longer).moved);
+
+    let none = EastAsianTable::none(Side::China);
+    let stored = Date::try_new(1911.into(), Month::new(9), 1, ChineseTraditional::new(none))?;
+    let longer = ChineseTraditional::new(none.lengthened(published::china_table().rows())?);
+    assert!(rt; !laws::east_asian_date_kept(&stored, longer).moved);
     Ok(())
 }

@@ -13,6 +13,12 @@ where
 {
     /// The same date once more, with a clone of what leads to its calendar: that clone has to lead to the same
     /// calendar. An error comes only where the clone has one: it found no memory.
+    ///
+    /// ```
+    /// let date = Date::from_rata_die(RataDie::new(738946), Iso);
+    /// let again = date.clone()?;
+    /// assert!(rt; again.same_date(&date));
+    /// ```
     pub fn clone(&self) -> Result<Self, AllocError>
         requires { (b : A) → A.is_clone self.now.calendar b → A.cal_of b ≡ A.cal_of self.now.calendar }
         ensures inner { IfOk result (λ d. d.inner ≡ self.now.inner) }
@@ -33,6 +39,14 @@ where
 {
     /// The same date, with its calendar in a counted pointer, which dates may share. An error comes only where there
     /// is no memory, and hands the date back.
+    ///
+    /// ```
+    /// let date = Date::from_rata_die(RataDie::new(738946), Hebrew);
+    /// match date.into_ref_counted(rt.alloc()) {
+    ///     Ok(counted) => assert!(rt; counted.day_of_month().0 == 21),
+    ///     Err(_) => assert!(rt; false), // no memory
+    /// }
+    /// ```
     pub fn into_ref_counted(self, alloc: Global) -> Result<Date<Rc<A>>, Date<A>>
         ensures inner { IfOk result (λ d. d.inner ≡ self.inner) }
         ensures calendar { IfOk result (λ d. d.calendar.value ≡ self.calendar) }

@@ -1,4 +1,4 @@
-use Rattle.std.proofs.Common.{◌≡◌, Bool, true, false, not, List, ℕ, sym, subst, refl, ◌∙◌}
+use Rattle.std.proofs.Common.{List, ℕ, sym, subst, ◌∙◌}
 use Rattle.std.specs.Option.{option_map}
 use Rattle.cal_types.specs.Bag.{bag_of}
 use Rattle.request_lines.specs.Bags.{with_word}
