@@ -19,9 +19,7 @@ use cal_gregory::{Buddhist, Gregorian, Roc};
 use cal_hebrew::Hebrew;
 use cal_hijri::TabularAlgorithmEpoch::{Friday, Thursday};
 use cal_hijri::TabularAlgorithmLeapYears::{TypeI, TypeII};
-use cal_hijri::{
-    Hijri, Rules as HijriRules, TabularAlgorithm, TabularAlgorithmEpoch, TabularAlgorithmLeapYears,
-};
+use cal_hijri::{Hijri, Rules as HijriRules, TabularAlgorithmEpoch, TabularAlgorithmLeapYears};
 use cal_julian::{Indian, Julian};
 use cal_kinds::AnyCalendarKind;
 use cal_tables::Tables;
@@ -46,21 +44,23 @@ pub(crate) fn choose(calendar: u8, years: u8) -> Result<Chosen, u8>
     Ok(Chosen { kind, tables })
 }
 
-/// The tabular Hijri calendar with these leap years, from a day on.
-fn tabular(
-    leap_years: TabularAlgorithmLeapYears,
-    epoch: TabularAlgorithmEpoch,
-) -> Hijri<TabularAlgorithm>
-    ensures { tabular_system result.0 ≡ tabular_system (record { leap_years = leap_years; epoch = epoch }) }
-{
-    Hijri::new_tabular(leap_years, epoch)
-}
-
 /// What a question is answered in a Hijri calendar.
 fn ask_in_hijri<R: HijriRules, Q: Question>(question: &Q, calendar: Hijri<R>) -> Q::Answer
     ensures { Q.answers question.now (hijri_system (R.year_of calendar.0) (R.reference calendar.0)) result }
 {
     question.ask(&calendar)
+}
+
+/// What a question is answered in the tabular Hijri calendar with these leap years, from a day on.
+fn ask_in_tabular<Q: Question>(
+    question: &Q,
+    leap_years: TabularAlgorithmLeapYears,
+    epoch: TabularAlgorithmEpoch,
+) -> Q::Answer
+    ensures { let system = tabular_system (record { leap_years = leap_years; epoch = epoch }) in
+        Q.answers question.now system result }
+{
+    ask_in_hijri(question, Hijri::new_tabular(leap_years, epoch))
 }
 
 /// What a question is answered in the Chinese or the Korean calendar.
@@ -102,15 +102,9 @@ fn ask_kind<Q: Question>(question: &Q, kind: AnyCalendarKind, tables: &Tables<'_
         AnyCalendarKind::Gregorian => question.ask(&Gregorian),
         AnyCalendarKind::Hebrew => question.ask(&Hebrew),
         AnyCalendarKind::Indian => question.ask(&Indian),
-        AnyCalendarKind::HijriTabularTypeIIFriday => ask_in_hijri(
-            question,
-            tabular(TypeII, Friday),
-        ),
+        AnyCalendarKind::HijriTabularTypeIIFriday => ask_in_tabular(question, TypeII, Friday),
         AnyCalendarKind::HijriSimulatedMecca => ask_in_hijri(question, tables.simulated_mecca()),
-        AnyCalendarKind::HijriTabularTypeIIThursday => ask_in_hijri(
-            question,
-            tabular(TypeII, Thursday),
-        ),
+        AnyCalendarKind::HijriTabularTypeIIThursday => ask_in_tabular(question, TypeII, Thursday),
         AnyCalendarKind::HijriUmmAlQura => ask_in_hijri(question, tables.umm_al_qura()),
         AnyCalendarKind::Iso => question.ask(&Iso),
         AnyCalendarKind::Japanese => ask_in_japanese(question, tables),
@@ -118,11 +112,8 @@ fn ask_kind<Q: Question>(question: &Q, kind: AnyCalendarKind, tables: &Tables<'_
         AnyCalendarKind::Julian => question.ask(&Julian),
         AnyCalendarKind::Persian => question.ask(&tables.persian()),
         AnyCalendarKind::Roc => question.ask(&Roc),
-        AnyCalendarKind::HijriTabularTypeIFriday => ask_in_hijri(question, tabular(TypeI, Friday)),
-        AnyCalendarKind::HijriTabularTypeIThursday => ask_in_hijri(
-            question,
-            tabular(TypeI, Thursday),
-        ),
+        AnyCalendarKind::HijriTabularTypeIFriday => ask_in_tabular(question, TypeI, Friday),
+        AnyCalendarKind::HijriTabularTypeIThursday => ask_in_tabular(question, TypeI, Thursday),
     }
 }
 

@@ -1,4 +1,4 @@
-//! Lines of all kinds, requests and rows of tables, and what is written for them.
+//! Lines of all kinds, requests and rows of tables, and what is written for them; and what words spell.
 
 mod faults;
 mod holidays;
@@ -8,3 +8,4 @@ mod own_rows;
 mod requests;
 mod rows;
 mod runs;
+mod words;

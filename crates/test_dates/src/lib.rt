@@ -109,6 +109,7 @@ where
 }
 
 /// What a date says of itself.
+#[derive(Drop)]
 struct Said {
     /// The day number.
     number: i64,
