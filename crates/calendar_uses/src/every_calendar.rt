@@ -1,10 +1,11 @@
 //! A date of each calendar, made by that calendar's constructor, compared with another day and shown in ISO.
 
-use icu_calendar::hijri::Rules;
+use icu_calendar::east_asian::Rules as EastAsianRules;
+use icu_calendar::hijri::Rules as HijriRules;
 use icu_calendar::{
-    AsCalendar, Calendar, ChineseTraditional, Date, EastAsianTable, EthiopianEraStyle, Hijri,
-    HijriTable, Iso, Japanese, KoreanTraditional, Month, Persian, PersianCorrections, RataDie,
-    Side, TabularAlgorithmEpoch, TabularAlgorithmLeapYears,
+    AsCalendar, Calendar, ChineseTraditional, Date, EastAsianTable, EastAsianTraditional,
+    EthiopianEraStyle, Hijri, HijriTable, Iso, Japanese, KoreanTraditional, Month, Persian,
+    PersianCorrections, RataDie, Side, TabularAlgorithmEpoch, TabularAlgorithmLeapYears,
 };
 use std::cmp::Ordering;
 use std::{fmt, io};
@@ -64,7 +65,7 @@ fn print_solar(rt: &HostRuntime, day: &Date<Iso>) -> io::Result<()> {
 }
 
 /// 20 Sha'ban 1445 under some rules of the Hijri calendar.
-fn print_under<R: Rules + Copy>(
+fn print_under<R: HijriRules + Copy>(
     rt: &HostRuntime,
     calendar: Hijri<R>,
     day: &Date<Iso>,
@@ -85,15 +86,24 @@ fn print_hijri(rt: &HostRuntime, day: &Date<Iso>) -> io::Result<()> {
     print_under(rt, Hijri::new_umm_al_qura(HijriTable::none()), day)
 }
 
+/// A date that was made under some rules of the Chinese or the Korean calendar, or why there is none.
+fn print_east_asian<R: EastAsianRules, E: fmt::Display + Drop>(
+    rt: &HostRuntime,
+    made: Result<Date<EastAsianTraditional<R>>, E>,
+    day: &Date<Iso>,
+) -> io::Result<()> {
+    print_made(rt, made, day)
+}
+
 /// The same day in the Hebrew calendar, and older days in the Chinese and the Korean one.
 fn print_lunisolar(rt: &HostRuntime, day: &Date<Iso>) -> io::Result<()> {
     print_made(rt, Date::try_new_hebrew_v2(5784, Month::leap(5), 21), day)?;
     let chinese = ChineseTraditional::new(EastAsianTable::none(Side::China));
     let leap_month = Date::try_new_chinese_traditional(1900, Month::leap(8), 1, chinese);
-    print_made(rt, leap_month, day)?;
+    print_east_asian(rt, leap_month, day)?;
     let korean = KoreanTraditional::new(EastAsianTable::none(Side::Korea));
     let last_day = Date::try_new_korean_traditional(1911, Month::new(12), 30, korean);
-    print_made(rt, last_day, day)
+    print_east_asian(rt, last_day, day)
 }
 
 /// A date of each calendar, and the refusal of a month that isn't there.

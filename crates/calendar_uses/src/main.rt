@@ -13,6 +13,8 @@ use almanac::new_year_by_rows;
 use coming_days::{next_birthdays, paydays, reunions};
 use every_calendar::print_every_calendar;
 use feasts::{hebrew_text_in_gregorian, next_easter};
+use icu_calendar::east_asian::Rules as EastAsianRules;
+use icu_calendar::hijri::Rules as HijriRules;
 use icu_calendar::rows::TableRows;
 use icu_calendar::{
     AnyCalendar, AsCalendar, Calendar, Date, DateDuration, EastAsianTraditional, Gregorian, Hebrew,
@@ -111,8 +113,8 @@ where
 /// One month and two months after 2020-01-31.
 fn print_recurrence(rt: &HostRuntime) -> io::Result<()> {
     for &months in &[1, 2] {
-        let first = Date::from_rata_die(RataDie::new(737455), GREGORIAN);
-        print_later(rt, months, months_later(first, months))?;
+        let first = Date::from_rata_die(RataDie::new(737455), Gregorian);
+        print_later(rt, months, months_later(first.to_any(), months))?;
     }
     Ok(())
 }
@@ -178,11 +180,19 @@ fn print_feasts(rt: &HostRuntime) -> io::Result<()> {
     print_easters(rt, &first, &next_easter(&first))
 }
 
-/// The new year of 2024, 738926, under a caller's own rules.
+/// The new year of 2024, 738926, under some rules of the Chinese calendar.
+fn print_under_rules<R: EastAsianRules + Copy>(
+    rt: &HostRuntime,
+    what: &str,
+    rules: R,
+) -> io::Result<()> {
+    let date = Date::from_rata_die(RataDie::new(738926), EastAsianTraditional(rules));
+    print_date(rt, what, &date)
+}
+
+/// The same under a caller's own rules.
 fn print_own_rules(rt: &HostRuntime) -> io::Result<()> {
-    let calendar = EastAsianTraditional(MeanRules::new(28_800_000));
-    let date = Date::from_rata_die(RataDie::new(738926), calendar);
-    print_date(rt, "under rules of its own", &date)
+    print_under_rules(rt, "under rules of its own", MeanRules::new(28_800_000))
 }
 
 /// A day as a date of ISO.
@@ -280,6 +290,11 @@ row hijri 1446 739075 sllslslslsll";
     Ok(())
 }
 
+/// The date of a day under some rules of the Hijri calendar.
+fn date_under<R: HijriRules + Copy>(day: RataDie, calendar: Hijri<R>) -> Date<Hijri<R>> {
+    Date::from_rata_die(day, calendar)
+}
+
 /// A day that was stored under a table, once rows have arrived.
 fn print_stored_date(
     rt: &HostRuntime,
@@ -287,20 +302,16 @@ fn print_stored_date(
     rows: &TableRows,
     day: RataDie,
 ) -> io::Result<()> {
-    let stored = Date::from_rata_die(day, Hijri::new_umm_al_qura(*table));
+    let stored = date_under(day, Hijri::new_umm_al_qura(*table));
     print_update(rt, &stored, updated_date(&stored, table, rows))
 }
 
 /// A stored date, the date of its day under the longer table, and whether it has moved; or why there is no longer table.
-fn print_update<A: AsCalendar, B: AsCalendar>(
+fn print_update<R: HijriRules, S: HijriRules>(
     rt: &HostRuntime,
-    stored: &Date<A>,
-    updated: Result<Rebased<B>, LengthenFault>,
-) -> io::Result<()>
-where
-    A::Calendar: Calendar,
-    B::Calendar: Calendar,
-{
+    stored: &Date<Hijri<R>>,
+    updated: Result<Rebased<Hijri<S>>, LengthenFault>,
+) -> io::Result<()> {
     match updated {
         Ok(Rebased { date, moved }) => println!(rt; "stored {stored:?}: {date:?}, moved: {moved}"),
         Err(fault) => println!(rt; "stored {stored:?}: {fault}"),

@@ -11,19 +11,22 @@ mod words;
 use anyhow::{Context, Result};
 use cal_base::Iso;
 use cal_coptic::{Coptic, Ethiopian};
-use cal_east_asian::{ChineseTraditional, EastAsianTable, KoreanTraditional, Side};
+use cal_east_asian::{
+    ChineseTraditional, EastAsianTable, EastAsianTraditional, KoreanTraditional,
+    Rules as EastAsianRules, Side,
+};
 use cal_gregory::{Buddhist, Gregorian, Japanese, Roc};
 use cal_hebrew::Hebrew;
 use cal_hijri::{
-    Hijri, HijriTable, TabularAlgorithm, TabularAlgorithmEpoch, TabularAlgorithmLeapYears,
-    UmmAlQura,
+    Hijri, HijriTable, Rules as HijriRules, TabularAlgorithm, TabularAlgorithmEpoch,
+    TabularAlgorithmLeapYears, UmmAlQura,
 };
 use cal_julian::{Indian, Julian, Persian, PersianCorrections};
 use measure::measure;
 use published_years::{chinese, korean, umm_al_qura};
 use std::env;
 use std::process::ExitCode;
-use words::{CalendarName, Work, Years, read_words};
+use words::{CalendarName, Operation, Work, Years, read_words};
 
 /// The tabular Hijri calendar with these leap years, from Friday on.
 fn tabular(leap_years: TabularAlgorithmLeapYears) -> Hijri<TabularAlgorithm> {
@@ -54,6 +57,24 @@ fn korean_over(years: Years) -> KoreanTraditional<'static> {
     }
 }
 
+/// The checksum of the work in a Hijri calendar.
+fn measure_in_hijri<R: HijriRules + Copy>(
+    operation: Operation,
+    count: u32,
+    calendar: Hijri<R>,
+) -> i64 {
+    measure(operation, count, calendar)
+}
+
+/// The checksum of the work in the Chinese or the Korean calendar.
+fn measure_in_east_asian<R: EastAsianRules + Copy>(
+    operation: Operation,
+    count: u32,
+    calendar: EastAsianTraditional<R>,
+) -> i64 {
+    measure(operation, count, calendar)
+}
+
 /// The checksum of the work.
 fn checksum(work: Work) -> i64 {
     let Work {
@@ -75,10 +96,18 @@ fn checksum(work: Work) -> i64 {
             measure(operation, count, Persian::new(PersianCorrections::none()))
         }
         CalendarName::Hebrew => measure(operation, count, Hebrew),
-        CalendarName::HijriTabular(leap_years) => measure(operation, count, tabular(leap_years)),
-        CalendarName::HijriUmmAlQura(years) => measure(operation, count, umm_al_qura_over(years)),
-        CalendarName::Chinese(years) => measure(operation, count, chinese_over(years)),
-        CalendarName::Dangi(years) => measure(operation, count, korean_over(years)),
+        CalendarName::HijriTabular(leap_years) => {
+            measure_in_hijri(operation, count, tabular(leap_years))
+        }
+        CalendarName::HijriUmmAlQura(years) => {
+            measure_in_hijri(operation, count, umm_al_qura_over(years))
+        }
+        CalendarName::Chinese(years) => {
+            measure_in_east_asian(operation, count, chinese_over(years))
+        }
+        CalendarName::Dangi(years) => {
+            measure_in_east_asian(operation, count, korean_over(years))
+        }
     }
 }
 

@@ -10,3 +10,15 @@ push_parts-requires c = grind (arith, common_steps)
 
 pub push_signed-requires : goal.push_signed-requires
 push_signed-requires c = grind (arith, common_steps)
+
+pub push_all-requires-4 : goal.push_all-requires-4
+push_all-requires-4 c = grind (arith, common_steps)
+
+pub push_number-requires-3 : goal.push_number-requires-3
+push_number-requires-3 c = grind (arith, common_steps)
+
+pub push_all-requires-3 : goal.push_all-requires-3
+push_all-requires-3 c = grind (arith, common_steps)
+
+pub push_number-requires-2 : goal.push_number-requires-2
+push_number-requires-2 c = grind (arith, common_steps)

@@ -35,3 +35,9 @@ returns c s first second options unit named =
           (c.push_day-2.ensures.items s other named.to_date to.date named.to_parts to.parts) c.push-2.ensures.items
           c.push_duration.ensures.items c.push-3.ensures.items;
     }
+
+pub push_duration-requires : goal.push_duration-requires
+push_duration-requires c = grind (arith, common_steps)
+
+pub push_day-requires-2-clause-room : goal.push_day-requires-2-clause-room
+push_day-requires-2-clause-room c = grind (arith, common_steps)
