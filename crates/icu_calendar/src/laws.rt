@@ -197,7 +197,8 @@ fn rebased_in_east_asian<R: EastAsianRules, S: EastAsianRules>(
 ///
 /// ```
 /// let computed = HijriTable::none();
-/// let stored = Date::try_new(1445.into(), Month::new(9), 1, Hijri::new_umm_al_qura(computed))?;
+/// let before = Hijri::new_umm_al_qura(computed);
+/// let stored = Date::try_new(1445.into(), Month::new(9), 1, before)?;
 /// let rows = [YEAR_1446];
 /// let longer = Hijri::new_umm_al_qura(computed.lengthened(&rows)?);
 /// assert!(rt; !laws::hijri_date_kept(&stored, longer).moved);

@@ -105,12 +105,8 @@ fn stored_dates(rt: HostRuntime) -> Result<(), Fail> {
 #[test]
 fn stored_dates_of_other_years(rt: HostRuntime) -> Result<(), Fail> {
     let computed = HijriTable::none();
-    let stored = Date::try_new(
-        1445.into(),
-        Month::new(9),
-        1,
-        Hijri::new_umm_al_qura(computed),
-    )?;
+    let before = Hijri::new_umm_al_qura(computed);
+    let stored = Date::try_new(1445.into(), Month::new(9), 1, before)?;
     let rows = [YEAR_1446];
     let longer = Hijri::new_umm_al_qura(computed.lengthened(&rows)?);
     assert!(rt; !laws::hijri_date_kept(&stored, longer).moved);
