@@ -3,10 +3,13 @@
 ghost use Rattle.std.specs.Prelude.{◌≡◌};
 
 use crate::tests::expected::assert_holds;
+use icu_calendar::east_asian::Rules as EastAsianRules;
+use icu_calendar::hijri::Rules as HijriRules;
 use icu_calendar::published::{china_table, korea_table, umm_al_qura_table};
 use icu_calendar::{
-    AsCalendar, Calendar, ChineseTraditional, Date, EastAsianRow, EastAsianTable, Hijri, HijriRow,
-    HijriTable, KoreanTraditional, Month, RataDie, Rebased, Side, UmmAlQura,
+    AsCalendar, Calendar, ChineseTraditional, Date, EastAsianRow, EastAsianTable,
+    EastAsianTraditional, Hijri, HijriRow, HijriTable, KoreanTraditional, Month, RataDie, Rebased,
+    Side, UmmAlQura,
 };
 use std::process::Abort;
 use test_dates::number_in;
@@ -131,6 +134,26 @@ where
     }
 }
 
+/// The same under two rules of the Hijri calendar.
+fn assert_moved_in_hijri<R: HijriRules + Copy>(
+    rt: &impl Abort,
+    before: Hijri<R>,
+    after: Hijri<R>,
+    counts: &[(i64, i64, u32)],
+) {
+    assert_moved(rt, before, after, counts);
+}
+
+/// The same under two rules of the Chinese or the Korean calendar.
+fn assert_moved_in_east_asian<R: EastAsianRules + Copy>(
+    rt: &impl Abort,
+    before: EastAsianTraditional<R>,
+    after: EastAsianTraditional<R>,
+    counts: &[(i64, i64, u32)],
+) {
+    assert_moved(rt, before, after, counts);
+}
+
 // The counts of moved days, and the days of the added years, are those of a program of its own that reads `rows/` and
 // computes the years beside them from their formulas. Of the years before and behind no day is moved.
 
@@ -145,7 +168,7 @@ fn days_of_added_hijri_years_are_moved(rt: HostRuntime) {
         (705056, 794001, 35269),
         (794002, 795001, 0),
     ];
-    assert_moved(&rt, before, after, &counts);
+    assert_moved_in_hijri(&rt, before, after, &counts);
 }
 
 /// The table of the first 50 of some rows, and that of all of them.
@@ -175,7 +198,7 @@ fn days_of_added_chinese_years_are_moved(rt: HostRuntime) {
         (716276, 766683, 16613),
         (766684, 767683, 0),
     ];
-    assert_moved(&rt, before, after, &counts);
+    assert_moved_in_east_asian(&rt, before, after, &counts);
 }
 
 /// The years 1912 to 1961, and then 1962 to 2097, which have the days 716276 to 765945.
@@ -189,5 +212,5 @@ fn days_of_added_korean_years_are_moved(rt: HostRuntime) {
         (716276, 765945, 16256),
         (765946, 766945, 0),
     ];
-    assert_moved(&rt, before, after, &counts);
+    assert_moved_in_east_asian(&rt, before, after, &counts);
 }
