@@ -2,7 +2,8 @@
 """Compares the examples of docstrings with the crate `doc_examples`, which runs them as tests: each line of code in a block of Rust stands
 in one of its files. It names each line that doesn't; the status is 1 if there is one.
 
-A block of Rust begins with three backquotes alone. Read are the docs of `icu_calendar`, of the crates of calendars and of the published years.
+A block of Rust begins with three backquotes alone. Read are the docs of `icu_calendar`, of the crates of calendars, of the published years and of the rows that are
+read.
 """
 
 import sys
@@ -10,7 +11,7 @@ from collections.abc import Iterator
 from pathlib import Path
 
 TOP = Path(__file__).resolve().parent.parent
-CRATES = ["icu_calendar", "published_years", "cal_*"]
+CRATES = ["icu_calendar", "published_years", "table_rows", "cal_*"]
 FENCE = "```"
 # Lines that the borrow checker doesn't cover in a test: `?` on a pair that holds a date. The tests write them otherwise.
 NOT_COVERED = {"let (date, rd) = Date::try_from_ixdtf_record_with_rd(&record, Hebrew)?;"}

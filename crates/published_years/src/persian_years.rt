@@ -11,6 +11,12 @@ use cal_julian::{Persian, PersianCorrections};
 ///
 /// The first is [`FIRST_CORRECTED_PERSIAN_YEAR`](crate::FIRST_CORRECTED_PERSIAN_YEAR), 1502, and the last
 /// [`LAST_CORRECTED_PERSIAN_YEAR`](crate::LAST_CORRECTED_PERSIAN_YEAR), 2987. ICU 78 has the same 78.
+///
+/// ```
+/// let persian = Persian::new(published_years::persian_corrections());
+/// let new_year = Date::try_new(1404.into(), Month::new(1), 1, persian)?;
+/// assert!(rt; new_year.to_rata_die().to_i64_date() == 739331); // 2025-03-21
+/// ```
 pub fn persian_corrections() -> PersianCorrections<'static>
     ensures years { result.years.now ≡ CORRECTED_YEARS }
     ensures accepted { AreCorrections CORRECTED_YEARS }

@@ -16,7 +16,7 @@
 //! [`TableRows::try_read`] reads a whole text, and [`TableRows::take_line`] takes one line. [`TableRows::tables`] tests the
 //! rows, and has the tables of them. [`gather`] reads the row lines at the head of any source.
 //!
-//! ```text
+//! ```
 //! let rows = TableRows::try_read(alloc, b"row china 1912 698026 lslslslslsls 0\n")?;
 //! let chinese = rows.tables()?.chinese();
 //! ```

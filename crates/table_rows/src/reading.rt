@@ -37,7 +37,7 @@ impl TableRows {
     /// Takes one line, the bytes before its LF, and answers whether its row was kept behind the others of its table: a
     /// line that is empty, but for a carriage return at its end, or begins with `#` is ignored.
     ///
-    /// ```text
+    /// ```
     /// let mut rows = TableRows::new(alloc);
     /// rows.take_line(b"row persian 1502")?;
     /// ```
@@ -66,7 +66,7 @@ impl TableRows {
     /// The rows of a text: each line is ignored or gives a row, as for [`TableRows::take_line`]. The lines end with
     /// LFs, and what stands behind the last LF is a line too.
     ///
-    /// ```text
+    /// ```
     /// let rows = TableRows::try_read(alloc, b"# corrected\nrow persian 1502\nrow persian 1601\n")?;
     /// ```
     ///

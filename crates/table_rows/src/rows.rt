@@ -83,6 +83,11 @@ fn keep_year<R: Drop>(rows: &mut Vec<R>, year: Option<R>) -> Taken
 
 impl TableRows {
     /// Before the first row, which takes no memory.
+    ///
+    /// ```
+    /// let rows = TableRows::new(alloc);
+    /// assert!(rt; rows.china().is_empty());
+    /// ```
     pub fn new(alloc: Global) -> Self
         ensures { rows_said result ≡ no_rows }
     {
@@ -121,6 +126,11 @@ impl TableRows {
 
     /// The rows of China, in the order of their lines. They aren't tested, so that they may lengthen a table
     /// ([`EastAsianTable::lengthened`]).
+    ///
+    /// ```
+    /// let rows = TableRows::try_read(alloc, b"row china 1912 698026 lslslslslsls 0\n")?;
+    /// assert!(rt; rows.china().len() == 1);
+    /// ```
     pub fn china(&self) -> &[EastAsianRow]
         ensures { result.now ≡ self.now.china.items }
     {
@@ -128,6 +138,11 @@ impl TableRows {
     }
 
     /// The rows of Korea, as those of China.
+    ///
+    /// ```
+    /// let rows = TableRows::try_read(alloc, b"row korea 1912 698026 lslslslslsls 0\n")?;
+    /// assert!(rt; rows.korea().len() == 1);
+    /// ```
     pub fn korea(&self) -> &[EastAsianRow]
         ensures { result.now ≡ self.now.korea.items }
     {
@@ -135,6 +150,11 @@ impl TableRows {
     }
 
     /// The rows of Umm al-Qura, as those of China ([`HijriTable::lengthened`]).
+    ///
+    /// ```
+    /// let rows = TableRows::try_read(alloc, b"row hijri 1445 738720 sllslslslsll\n")?;
+    /// assert!(rt; rows.umm_al_qura().len() == 1);
+    /// ```
     pub fn umm_al_qura(&self) -> &[HijriRow]
         ensures { result.now ≡ self.now.hijri.items }
     {
@@ -143,6 +163,11 @@ impl TableRows {
 
     /// The tables of these rows. Those of China, of Korea, of the Hijri calendar and the corrected Persian years are
     /// tested in this order; the first that isn't accepted is refused by the first row and part that break.
+    ///
+    /// ```
+    /// let rows = TableRows::try_read(alloc, b"row persian 1502\n")?;
+    /// let persian = rows.tables()?.persian();
+    /// ```
     pub fn tables(&self) -> Result<Tables<'_>, TableRefusal>
         ensures { MatchResult result
             (λ t. AreAccepted (rows_said self.now) × (table_contents t ≡ contents_of (rows_said self.now)))

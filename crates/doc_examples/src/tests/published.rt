@@ -3,7 +3,7 @@
 use icu_calendar::rows::TableRows;
 use icu_calendar::{
     AnyCalendar, AnyCalendarKind, ChineseTraditional, Date, EastAsianTable, Hijri, HijriRow,
-    HijriTable, Month, RataDie, Side, Tables, laws, published,
+    HijriTable, Month, Persian, RataDie, Side, Tables, laws, published,
 };
 use std::test::Fail;
 
@@ -18,6 +18,10 @@ fn published_years_of_calendars(rt: HostRuntime) -> Result<(), Fail> {
     assert!(rt; new_year.to_rata_die().to_i64_date() == 740019); // 2027-02-07, a day after China's
 
     let persian = published_years::persian();
+    let new_year = Date::try_new(1404.into(), Month::new(1), 1, persian)?;
+    assert!(rt; new_year.to_rata_die().to_i64_date() == 739331); // 2025-03-21
+
+    let persian = Persian::new(published_years::persian_corrections());
     let new_year = Date::try_new(1404.into(), Month::new(1), 1, persian)?;
     assert!(rt; new_year.to_rata_die().to_i64_date() == 739331); // 2025-03-21
 
@@ -44,6 +48,42 @@ fn rows_of_text(rt: HostRuntime) -> Result<(), Fail> {
     let tables = rows.tables()?;
     let date = Date::try_new(1912.into(), Month::new(1), 30, tables.chinese())?;
     assert!(rt; date.to_rata_die().to_i64_date() == 698055); // 1912-03-18
+    Ok(())
+}
+
+#[test]
+fn rows_of_lines(rt: HostRuntime) -> Result<(), Fail> {
+    let alloc = rt.alloc();
+    let rows = TableRows::new(alloc);
+    assert!(rt; rows.china().is_empty());
+
+    let mut rows = TableRows::new(alloc);
+    rows.take_line(b"row persian 1502")?;
+
+    let rows = TableRows::try_read(alloc, b"# corrected\nrow persian 1502\nrow persian 1601\n")?;
+    assert!(rt; rows.tables().is_ok());
+
+    let rows = TableRows::try_read(alloc, b"row persian 1502\n")?;
+    let persian = rows.tables()?.persian();
+    let date = Date::from_rata_die(RataDie::new(739331), persian);
+    assert!(rt; date.day_of_year().0 == 1); // 2025-03-21
+    Ok(())
+}
+
+#[test]
+fn rows_of_tables(rt: HostRuntime) -> Result<(), Fail> {
+    let alloc = rt.alloc();
+    let rows = TableRows::try_read(alloc, b"row china 1912 698026 lslslslslsls 0\n")?;
+    assert!(rt; rows.china().len() == 1);
+    let chinese = rows.tables()?.chinese();
+    let date = Date::from_rata_die(RataDie::new(698055), chinese);
+    assert!(rt; date.day_of_month().0 == 30); // 1912-03-18
+
+    let rows = TableRows::try_read(alloc, b"row korea 1912 698026 lslslslslsls 0\n")?;
+    assert!(rt; rows.korea().len() == 1);
+
+    let rows = TableRows::try_read(alloc, b"row hijri 1445 738720 sllslslslsll\n")?;
+    assert!(rt; rows.umm_al_qura().len() == 1);
     Ok(())
 }
 
