@@ -1,5 +1,5 @@
 //! The program's run.
-ghost use Rattle.std.specs.Prelude.{◌≡◌, ◌≢◌, ◌≤◌, true, List, Option, ℕ, Some, None, IfSome, ◌↔◌, length, map, string_bytes};
+ghost use Rattle.std.specs.Prelude.{◌≡◌, ◌≢◌, ◌≤◌, true, ℕ, Some, None, IfSome, ◌↔◌, length, map, string_bytes};
 ghost use Rattle.byte_io.specs.Lines.{lines_in};
 ghost use Rattle.calspan_run.specs.Asked.{AnniversaryAsked, HolidaysAsked, RecurAsked};
 ghost use Rattle.calspan_run.specs.Command.{Anniversary, Generate, Holidays, Recur, Span, command_of};

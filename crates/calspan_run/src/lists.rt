@@ -1,5 +1,5 @@
 //! A run of a command that lists something over tables.
-ghost use Rattle.std.specs.Prelude.{◌≡◌, ◌+◌, ◌≤◌, ℕ, List, Bool, Option, if◌then◌else◌, codes};
+ghost use Rattle.std.specs.Prelude.{◌+◌, ℕ, List, Bool, if◌then◌else◌, codes};
 ghost use Rattle.byte_io.specs.Faults.{HasCause};
 ghost use Rattle.cal_types.specs.CalendarSystem.{CalendarSystem};
 ghost use Rattle.cal_tables.specs.Kinds.{TableContents, table_contents};

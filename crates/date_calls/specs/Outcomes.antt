@@ -1,5 +1,5 @@
 -- The codes of causes.
-use Rattle.std.specs.Prelude.{◌≡◌, ℕ}
+use Rattle.std.specs.Prelude.{ℕ}
 use Rattle.cal_errors.specs.declared.errors.DateFromFieldsError.{DateFromFieldsError}
 use Rattle.cal_errors.specs.declared.errors.DateFromFieldsError.TheVariants.{NotEnoughFields, TooManyFields, Overflow, InvalidEra, InconsistentYear, MonthCodeInvalidSyntax, MonthNotInCalendar, MonthNotInYear, InconsistentMonth, InvalidOrdinalMonth, InvalidDay}
 use Rattle.cal_errors.specs.declared.errors.DateAddError.{DateAddError}
@@ -29,9 +29,3 @@ abbrev pub sum_fault : DateAddError → Fault
 sum_fault add.Overflow = why 12 0
 sum_fault add.MonthNotInYear = why 17 0
 sum_fault (add.InvalidDay max) = why 20 max
-
--- a fault is told, and what was there is there still
-pub record IsRefused {T : Type 0} (of : Fault) (code max : ℕ) (before now : T) : Type 0 where
-  pub is_code : code ≡ of.code
-  pub is_max : max ≡ of.max
-  pub stands : now ≡ before

@@ -4,11 +4,10 @@ ghost use Rattle.std.specs.Prelude.{◌≡◌, MatchResult};
 ghost use Rattle.cal_types.specs.Bag.{bag_of};
 ghost use Rattle.cal_types.specs.Adding.{add_overflow_of};
 ghost use Rattle.date_calls.specs.Calendars.{calendar_of, choice_system};
-ghost use Rattle.date_calls.specs.Calls.{AddsIn, AddsTo, DiffersIn, IsLeft, IsLeftWith, IsTold, NamesDate, NamesIn, ShowsDay, ShowsEra, fields_options};
+ghost use Rattle.date_calls.specs.Calls.{AddsIn, AddsTo, DiffersIn, IsLeft, IsLeftWith, NamesDate, NamesIn, ShowsDay, ShowsEra};
 ghost use Rattle.date_calls.specs.Codes.{overflow_of_code, strategy_of_code, unit_of_code};
 ghost use Rattle.date_calls.specs.Durations.{duration_given};
 ghost use Rattle.date_calls.specs.Fields.{bag_given};
-ghost use Rattle.date_calls.specs.Outcomes.{fields_fault, sum_fault};
 
 use crate::calendars::{Chosen, ask, choose};
 use crate::codes::{overflow_of, strategy_of, unit_of};

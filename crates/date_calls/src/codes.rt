@@ -1,6 +1,6 @@
 //! The codes that callers give: calendars, where their years come from, and options.
 
-ghost use Rattle.std.specs.Prelude.{◌≡◌, Result, MatchResult};
+ghost use Rattle.std.specs.Prelude.{◌≡◌};
 ghost use Rattle.std.specs.Option.{option_map};
 ghost use Rattle.cal_tables.specs.Kinds.{table_contents};
 ghost use Rattle.date_calls.specs.Codes.{contents_of_code, kind_of_code, overflow_of_code, strategy_of_code, unit_of_code};

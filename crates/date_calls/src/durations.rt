@@ -1,7 +1,6 @@
 //! What is added to dates, and how far apart they are.
 
 ghost use Rattle.std.specs.Prelude.{◌≡◌};
-ghost use Rattle.date_calls.specs.Dates.{flag};
 ghost use Rattle.date_calls.specs.Durations.{duration_given, duration_told};
 
 use crate::dates::{CalendarDate, parts_of};

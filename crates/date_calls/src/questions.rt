@@ -1,6 +1,5 @@
 //! What may be asked of a calendar.
 
-ghost use Rattle.std.specs.Prelude.{ℕ};
 ghost use Rattle.cal_types.specs.CalendarSystem.{CalendarSystem};
 
 use cal_base::Calendar;

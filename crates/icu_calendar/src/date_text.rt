@@ -5,7 +5,7 @@ ghost use Rattle.std.specs.Option.{option_map};
 ghost use Rattle.std.specs.List.{list_all};
 ghost use Rattle.icu_calendar.specs.DateText.{is_calendar_name, is_name_byte, is_name_part};
 ghost use Rattle.icu_calendar.specs.RecordDates.{date_numbers, record_parts};
-ghost use Rattle.icu_calendar.specs.DateTextReading.{annotation_read, before_bracket, behind_key, date_read, four_digits_read, name_read, part_read, read_by, read_view, six_digits_read, text_read, two_digits_read, year_from, year_read};
+ghost use Rattle.icu_calendar.specs.DateTextReading.{before_bracket, behind_key, date_read, four_digits_read, name_read, part_read, read_by, read_view, six_digits_read, text_read, two_digits_read, year_from, year_read};
 
 use crate::ixdtf_record::{DateRecord, IxdtfRecord};
 use crate::record_dates::is_date;

@@ -1,5 +1,5 @@
 //! The rows of tables.
-ghost use Rattle.std.specs.Prelude.{◌≡◌, [], ℕ, MatchResult, Some};
+ghost use Rattle.std.specs.Prelude.{◌≡◌, [], MatchResult, Some};
 ghost use Rattle.std.specs.Option.{option_map, unwrap_or};
 ghost use Rattle.cal_tables.specs.Kinds.{table_contents};
 ghost use Rattle.cal_gregory.specs.JapaneseEraList.{eras_up_to_reiwa};

@@ -1,11 +1,10 @@
 //! The list of `anniversary`.
-ghost use Rattle.std.specs.Prelude.{◌≡◌, ◌+◌, ◌≤◌, codes, Err};
-ghost use Rattle.arrayvec.specs.ArrayVec.{array_vec_len};
+ghost use Rattle.std.specs.Prelude.{◌≡◌, ◌+◌, Err};
 ghost use Rattle.cal_days.specs.Day.{IsValidDay};
 ghost use Rattle.cal_tables.specs.Kinds.{kind_system, table_contents};
 ghost use Rattle.calspan_run.specs.Anniversaries.{anniversary_error, anniversaries_in};
 ghost use Rattle.calspan_run.specs.CommandSaid.{anniversary_said};
-ghost use Rattle.calspan_run.specs.DayLines.{day_line, IsListText, list_text};
+ghost use Rattle.calspan_run.specs.DayLines.{day_line, IsListText};
 ghost use Rattle.calspan_run.specs.ListTexts.{ListsAnniversaries};
 
 use crate::anniversary::words::AnniversaryWords;

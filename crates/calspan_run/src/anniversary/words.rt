@@ -1,5 +1,4 @@
 //! The words of `anniversary`.
-ghost use Rattle.std.specs.Prelude.{◌≡◌};
 ghost use Rattle.std.specs.Option.{option_map};
 ghost use Rattle.request_lines.specs.Reading.{IsReading, next_word};
 ghost use Rattle.calspan_run.specs.Asked.{leaping_named, anniversary_read};

@@ -1,9 +1,8 @@
 //! The list of `recur`.
-ghost use Rattle.std.specs.Prelude.{◌≡◌, codes, Err};
+ghost use Rattle.std.specs.Prelude.{◌≡◌, Err};
 ghost use Rattle.cal_days.specs.Day.{IsValidDay};
 ghost use Rattle.cal_types.specs.CalendarSystem.{resolve_fields};
 ghost use Rattle.cal_tables.specs.Kinds.{kind_system, table_contents};
-ghost use Rattle.cal_types.specs.Bag.{bag_of};
 ghost use Rattle.calspan_run.specs.CommandSaid.{recur_said};
 ghost use Rattle.calspan_run.specs.DayLines.{occurrence_line, IsListText};
 ghost use Rattle.calspan_run.specs.ListTexts.{ListsOccurrences};

@@ -2,7 +2,6 @@
 ghost use Rattle.std.specs.Prelude.{◌≡◌, Some};
 ghost use Rattle.std.specs.Option.{option_map};
 ghost use Rattle.cal_types.specs.Bag.{bag_of};
-ghost use Rattle.request_lines.specs.Bags.{no_fields};
 ghost use Rattle.request_lines.specs.Reading.{IsReading, next_word};
 ghost use Rattle.calspan_run.specs.Asked.{unit_named, every_of, missing_named, recur_header_read, fields_of};
 ghost use Rattle.calspan_run.specs.CommandWordsLeft.{words_left};

@@ -1,6 +1,5 @@
 //! Answers lines behind the row lines.
-ghost use Rattle.std.specs.Prelude.{◌≡◌, ◌+◌, ◌≤◌, ◌++◌, [], ℕ, List, Option, length};
-ghost use Rattle.arrayvec.specs.ArrayVec.{array_vec_len};
+ghost use Rattle.std.specs.Prelude.{◌≡◌, ◌+◌, ◌≤◌, ℕ, List, Option, length};
 ghost use Rattle.byte_io.specs.Faults.{HasCause};
 ghost use Rattle.cal_tables.specs.Kinds.{table_contents};
 ghost use Rattle.byte_io.specs.Buffer.{Holds};
