@@ -12,14 +12,10 @@
 #![tactic(auto)]
 
 mod buffer;
-#[cfg(test)]
-mod line_tests;
 mod memory;
 mod plain;
 mod reader;
 mod standard;
-#[cfg(test)]
-mod tests;
 mod whole;
 
 ghost use Rattle.std.specs.Prelude.{ℕ, List, Option};

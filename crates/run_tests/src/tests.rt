@@ -1,4 +1,4 @@
-//! Lines of all kinds, requests and rows of tables, and what is written for them; and what words spell.
+//! Lines of all kinds, requests and rows of tables, and what is written for them; what words spell; and sources and sinks.
 
 mod faults;
 mod holidays;
@@ -8,4 +8,6 @@ mod own_rows;
 mod requests;
 mod rows;
 mod runs;
+mod source_lines;
+mod sources;
 mod words;

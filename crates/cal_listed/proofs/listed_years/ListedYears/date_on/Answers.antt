@@ -1,4 +1,5 @@
 use Rattle.std.proofs.Common.{◌≡◌, ◌+◌, ◌-◌, ◌≤◌, length, take, get_or, ap, arith, pos, ◌+ℤ◌, to_z, of_z, w32}
+use Rattle.std.proofs.lemmas.Grind.{common_steps}
 use Rattle.std.proofs.lemmas.List.{take_all}
 use Rattle.std.proofs.lemmas.Option.{slice_get-get_or}
 use Rattle.cal_days.specs.Day.{IsRuleYear}
@@ -43,3 +44,9 @@ returns-then-left-days c k list =
         day = omega (arith, signed, day_number-listed k l list index months there y year place day, e.value, c.loop-index.invariant, c.if-day-self.false, c.if-day-self-2.false, c.from.ensures, c.days_before_year-all.ensures.bound);
       },
     )
+
+pub place_and_day-month-requires-clause-few : goal.place_and_day-month-requires-clause-few
+place_and_day-month-requires-clause-few c = grind (arith, common_steps)
+
+pub loop-index-preserved : goal.loop-index-preserved
+loop-index-preserved c = grind (arith, common_steps)

@@ -1,4 +1,5 @@
 use Rattle.std.proofs.Common.{◌≡◌, ℕ, ◌+◌, ◌-◌, ◌≤◌, length, take, get_or, ap, arith, pos, ◌+ℤ◌, w32, FitsSigned, rules}
+use Rattle.std.proofs.lemmas.Grind.{common_steps}
 use Rattle.std.proofs.lemmas.List.Sums.{sum_by_more}
 use Rattle.std.proofs.lemmas.Option.{slice_get-get_or}
 use Rattle.cal_days.proofs.Signed.{signed}
@@ -54,3 +55,6 @@ returns-clause-value c k list =
         day = omega (arith, signed, day_number-listed k l list index months there c.args.date.year year c.args.date.month c.args.date.day, before, c.from.ensures, c.days_before_year.ensures.value, c.days_before_year.ensures.bound, c.days_in.ensures.value, c.days_in.ensures.bound);
       },
     )
+
+pub days_in-requires : goal.days_in-requires
+days_in-requires c = grind (arith, common_steps)

@@ -1,9 +1,18 @@
-use crate::{
+//! Sources and sinks: in memory, cut and failing as asked, plain ones, and those over std's readers and writers.
+
+ghost use Rattle.std.specs.Prelude.{◌≤◌, IfOk};
+
+use byte_io::{
     Failed, MemorySink, MemorySource, PlainSink, PlainSource, Sink, Source, StdSink, StdSource,
 };
 use std::io;
 use std::io::{Read, Write};
-use std::test::Fail;
+use std::process::Abort;
+
+/// That each of five calls took or gave so many bytes.
+fn assert_counts(rt: &impl Abort, counts: [usize; 5], expected: [usize; 5]) {
+    assert_eq!(rt; counts, expected);
+}
 
 /// The counts of the first five reads into four bytes, where a failure counts as 9.
 fn five_reads<S: Source>(source: &mut S) -> [usize; 5] {
@@ -42,8 +51,6 @@ impl Uneven {
     }
 }
 
-ghost use Rattle.std.specs.Prelude.{◌≤◌, IfOk};
-
 impl Read for Uneven {
     fn read(&mut self, buf: &mut [u8]) -> io::Result<usize> {
         self.turn(buf.len())
@@ -63,48 +70,40 @@ impl Write for Uneven {
 #[test]
 fn memory_sources_cut_and_fail_as_asked(rt: HostRuntime) {
     let mut whole = MemorySource::new(b"abcdefg", 100, &[]);
-    assert_eq!(rt; five_reads(&mut whole), [4, 3, 0, 0, 0]);
+    assert_counts(&rt, five_reads(&mut whole), [4, 3, 0, 0, 0]);
     let mut cut = MemorySource::new(b"abcdefg", 3, &[2, 4]);
-    assert_eq!(rt; five_reads(&mut cut), [3, 9, 3, 9, 1]);
+    assert_counts(&rt, five_reads(&mut cut), [3, 9, 3, 9, 1]);
 }
 
 #[test]
 fn memory_sinks_cut_fill_and_fail_as_asked(rt: HostRuntime) {
     let mut room = [0u8; 9];
     let mut whole = MemorySink::new(&mut room, 100, &[]);
-    assert_eq!(rt; five_writes(&mut whole), [4, 4, 1, 9, 9]);
-    assert_eq!(rt; whole.taken(), b"abcdabcda".as_slice());
+    assert_counts(&rt, five_writes(&mut whole), [4, 4, 1, 9, 9]);
+    assert!(rt; whole.taken() == b"abcdabcda".as_slice());
     let mut room = [0u8; 9];
     let mut cut = MemorySink::new(&mut room, 3, &[1, 3]);
-    assert_eq!(rt; five_writes(&mut cut), [9, 3, 9, 3, 3]);
-    assert_eq!(rt; cut.taken(), b"abcabcabc".as_slice());
+    assert_counts(&rt, five_writes(&mut cut), [9, 3, 9, 3, 3]);
+    assert!(rt; cut.taken() == b"abcabcabc".as_slice());
 }
 
 #[test]
 fn plain_ones_never_fail(rt: HostRuntime) {
     let mut source = PlainSource::new(b"abcdefg");
-    assert_eq!(rt; five_reads(&mut source), [4, 3, 0, 0, 0]);
+    assert_counts(&rt, five_reads(&mut source), [4, 3, 0, 0, 0]);
     let mut sink = PlainSink::new();
-    assert_eq!(rt; five_writes(&mut sink), [4, 4, 4, 4, 4]);
-    assert_eq!(rt; sink.count(), 20);
+    assert_counts(&rt, five_writes(&mut sink), [4, 4, 4, 4, 4]);
+    assert!(rt; sink.count() == 20);
 }
 
 #[test]
-fn standard_ones_pass_on_counts_and_errors(rt: HostRuntime) -> Result<(), Fail> {
+fn standard_ones_pass_on_counts_and_errors(rt: HostRuntime) {
     let mut source = StdSource::new(b"abcdefg".as_slice());
-    assert_eq!(rt; five_reads(&mut source), [4, 3, 0, 0, 0]);
-    assert_eq!(rt;
-        five_reads(&mut StdSource::new(Uneven { calls: 0 })),
-        [1, 9, 1, 9, 1]
-    );
-    assert_eq!(rt;
-        five_writes(&mut StdSink::new(Uneven { calls: 0 })),
-        [1, 9, 1, 9, 1]
-    );
-    assert_eq!(rt; StdSink::new(Uneven { calls: 0 }).write(b""), Ok(0));
-    assert_eq!(rt;
-        StdSource::new(Uneven { calls: 1 }).read(&mut []),
-        Err(Failed)
-    );
-    Ok(())
+    assert_counts(&rt, five_reads(&mut source), [4, 3, 0, 0, 0]);
+    let mut uneven = StdSource::new(Uneven { calls: 0 });
+    assert_counts(&rt, five_reads(&mut uneven), [1, 9, 1, 9, 1]);
+    let mut uneven = StdSink::new(Uneven { calls: 0 });
+    assert_counts(&rt, five_writes(&mut uneven), [1, 9, 1, 9, 1]);
+    assert!(rt; StdSink::new(Uneven { calls: 0 }).write(b"") == Ok(0));
+    assert!(rt; StdSource::new(Uneven { calls: 1 }).read(&mut []) == Err(Failed));
 }

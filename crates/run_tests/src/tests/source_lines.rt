@@ -1,4 +1,7 @@
-use crate::{Filled, LineBuffer, MemorySource, Next, Reader, Source};
+//! Lines of sources in memory, read in pieces of any size.
+
+use byte_io::{Filled, LineBuffer, MemorySource, Next, Reader, Source};
+use std::process::Abort;
 
 /// Reads the source to its end, and says how many lines it has, how many bytes the longest prefix
 /// has, and how many bytes follow the last LF.
@@ -23,13 +26,17 @@ fn lines_of<S: Source>(source: &mut S) -> (u64, usize, usize) {
     (reader.lines(), longest, line.prefix.len())
 }
 
+/// That the source has these lines, this longest prefix and these bytes behind the last LF.
+fn assert_lines(rt: &impl Abort, mut source: MemorySource<'_>, expected: (u64, usize, usize)) {
+    assert_eq!(rt; lines_of(&mut source), expected);
+}
+
 #[test]
 fn lines_in_any_pieces(rt: HostRuntime) {
     for &cut in &[1, 2, 5, 4096] {
-        let mut source = MemorySource::new(b"one\n\nthree\r\nlast", cut, &[]);
-        assert_eq!(rt; lines_of(&mut source), (3, 6, 4));
-        let mut closed = MemorySource::new(b"\n\n\n", cut, &[]);
-        assert_eq!(rt; lines_of(&mut closed), (3, 0, 0));
+        let open = MemorySource::new(b"one\n\nthree\r\nlast", cut, &[]);
+        assert_lines(&rt, open, (3, 6, 4));
+        assert_lines(&rt, MemorySource::new(b"\n\n\n", cut, &[]), (3, 0, 0));
     }
 }
 
@@ -38,12 +45,10 @@ fn long_lines_keep_their_prefix(rt: HostRuntime) {
     let mut bytes = [b'x'; 1200];
     bytes[512] = b'\n';
     bytes[1026] = b'\n';
-    let mut source = MemorySource::new(&bytes, 100, &[]);
-    assert_eq!(rt; lines_of(&mut source), (2, 512, 173));
+    assert_lines(&rt, MemorySource::new(&bytes, 100, &[]), (2, 512, 173));
 }
 
 #[test]
 fn fault_ends_the_reading(rt: HostRuntime) {
-    let mut source = MemorySource::new(b"one\ntwo\n", 4, &[2]);
-    assert_eq!(rt; lines_of(&mut source), (1, 3, 0));
+    assert_lines(&rt, MemorySource::new(b"one\ntwo\n", 4, &[2]), (1, 3, 0));
 }
