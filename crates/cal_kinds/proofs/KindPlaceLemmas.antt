@@ -1,5 +1,5 @@
 -- Two kinds are ordered as their places are: by one lemma over any enum without fields, since there are too many pairs of kinds to go through.
-use Rattle.std.proofs.Common.{◌≡◌, ◌∙◌, ℕ, suc, List, [], ◌∷◌, refl, arith}
+use Rattle.std.proofs.Common.{◌≡◌, ◌∙◌, ℕ, suc, List, [], ◌∷◌, refl, ap, arith}
 use Rattle.std.proofs.lemmas.Bool.Decides.{nat_tests}
 use Rattle.std.specs.Ordering.{nat_cmp}
 use Rattle.std.specs.declared.cmp.Ordering.{Ordering}
@@ -67,4 +67,7 @@ place-known kind.HijriTabularTypeIThursday = refl
 
 -- the derived order is that of the places
 pub cmp-by_places : (k l : AnyCalendarKind) → by Less Greater the_parts (ties the_parts) (as_values k) (as_values l) ≡ nat_cmp (kind_place k) (kind_place l)
-cmp-by_places k l = rw (← place-known k, ← place-known l) (cmp_places the_parts (as_values k) (as_values l))
+cmp-by_places k l =
+    cmp_places the_parts (as_values k) (as_values l)
+    ∙ ap (λ m. nat_cmp m (place the_parts (as_values l))) (place-known k)
+    ∙ ap (nat_cmp (kind_place k)) (place-known l)

@@ -64,3 +64,7 @@ pub kind_in_place : (word : List ℕ) (named : Named) → named_at (place_of wor
 kind_in_place word named place =
     by_name (is_code word named.0) word named refl place
     (found_kind (λ other. place_of other.0 == place_of word) program_names names-kinds named place)
+
+-- a word in whose place no name stands has no kind
+pub none_in_place : (word : List ℕ) → named_at (place_of word) ≡ None → None ≡ kind_named word
+none_in_place word none = sym (no_name word program_names names-places (ap (kind_if word) none))

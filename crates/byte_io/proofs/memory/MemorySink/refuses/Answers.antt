@@ -1,0 +1,12 @@
+use Rattle.std.proofs.Common.{arith}
+use Rattle.std.proofs.lemmas.Grind.{common_steps}
+use Rattle.byte_io.proofs.memory.MemorySink.refuses.Goals as goal
+
+pub returns-then-contains : goal.returns-then-contains
+returns-then-contains c = grind (arith, common_steps)
+
+pub returns-then-not-is_empty : goal.returns-then-not-is_empty
+returns-then-not-is_empty c = grind (arith, common_steps)
+
+pub returns-else-not-is_empty : goal.returns-else-not-is_empty
+returns-else-not-is_empty c = grind (arith, common_steps)

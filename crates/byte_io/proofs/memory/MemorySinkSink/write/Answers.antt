@@ -1,0 +1,24 @@
+use Rattle.std.proofs.Common.{arith}
+use Rattle.std.proofs.lemmas.Grind.{common_steps}
+use Rattle.byte_io.proofs.memory.MemorySinkSink.write.Goals as goal
+
+pub returns-clause-bytes : goal.returns-clause-bytes
+returns-clause-bytes c = grind (arith, common_steps)
+
+pub returns-clause-fails : goal.returns-clause-fails
+returns-clause-fails c = grind (arith, common_steps)
+
+pub returns-then-refuses-clause-fails : goal.returns-then-refuses-clause-fails
+returns-then-refuses-clause-fails c = grind (arith, common_steps)
+
+pub returns-clause-some : goal.returns-clause-some
+returns-clause-some c = grind (arith, common_steps)
+
+pub copy_from_slice-requires : goal.copy_from_slice-requires
+copy_from_slice-requires c = grind (arith, common_steps)
+
+pub slice_bounds-copy_from_slice-end-2 : goal.slice_bounds-copy_from_slice-end-2
+slice_bounds-copy_from_slice-end-2 c = grind (arith, common_steps)
+
+pub returns-clause-count : goal.returns-clause-count
+returns-clause-count c = grind (arith, common_steps)
