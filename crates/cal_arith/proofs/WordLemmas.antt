@@ -1,5 +1,5 @@
 -- Years that pass through 32 bits, and sums of months and years over plain numbers.
-use Rattle.std.proofs.Common.{◌≡◌, Bool, true, false, ℕ, ℤ, pos, ◌+◌, ◌<◌, ◌+ℤ◌, ◌-ℤ◌, ◌<ℤ◌, ◌≤ℤ◌, to_z, of_z, w32, arith}
+use Rattle.std.proofs.Common.{◌≡◌, Fits, FitsSigned, Bool, true, false, ℕ, ℤ, pos, ◌+◌, ◌<◌, ◌+ℤ◌, ◌-ℤ◌, ◌*ℤ◌, ◌<ℤ◌, ◌≤ℤ◌, to_z, of_z, w32, arith}
 use Rattle.cal_days.specs.Day.{IsRuleYear, IsFieldYear, IsCoveredYear}
 use Rattle.cal_days.specs.Sums.{years_up}
 use Rattle.cal_days.proofs.Signed.{signed}
@@ -7,6 +7,13 @@ use Rattle.cal_days.proofs.Signed.{signed}
 -- a year comes out as it was
 pub word : (x y : ℤ) → x ≡ y → IsRuleYear y → to_z w32 (of_z w32 x) ≡ y
 word x y e h = omega (arith, signed, e, h)
+
+-- the year before and the year after
+pub previous_word : (x y : ℤ) → x ≡ y → IsRuleYear y → to_z w32 (of_z w32 (to_z w32 (of_z w32 x) -ℤ pos 1)) ≡ y -ℤ pos 1
+previous_word x y e h = omega (arith, signed, e, h)
+
+pub following_word : (x y : ℤ) → x ≡ y → IsRuleYear y → to_z w32 (of_z w32 (to_z w32 (of_z w32 x) +ℤ pos 1)) ≡ y +ℤ pos 1
+following_word x y e h = omega (arith, signed, e, h)
 
 pub next_word : (y : ℤ) → IsRuleYear y → to_z w32 (of_z w32 (to_z w32 (of_z w32 y) +ℤ pos 1)) ≡ y +ℤ pos 1
 next_word y h = omega (arith, signed, h)
@@ -21,6 +28,9 @@ from_to a b c p q = omega (arith, signed, p, q)
 pub between : (a b y : ℤ) → IsRuleYear a → IsRuleYear b → a ≤ℤ y → y ≤ℤ b → IsRuleYear y
 between a b y p q low high = (from_to _ a y p.0 low, from_to y b _ high q.1)
 
+pub joined : (z y : ℤ) → z ≡ y -ℤ pos 1 → y ≡ z +ℤ pos 1
+joined z y e = omega (arith, signed, e)
+
 -- the year after
 pub after-low : (a y z : ℤ) → z ≡ y +ℤ pos 1 → a ≤ℤ y → a ≤ℤ z
 after-low a y z e h = omega (arith, signed, e, h)
@@ -34,6 +44,19 @@ summed a b c n m e f = omega (arith, signed, e, f)
 
 pub summed-next : (a b c d : ℤ) (n m k : ℕ) → d ≡ c +ℤ pos k → c ≡ b +ℤ pos m → b ≡ a +ℤ pos n → d ≡ a +ℤ pos (n + m + k)
 summed-next a b c d n m k e f g = omega (arith, signed, e, f, g)
+
+-- the year after a rule year, and the months of 16000001 years, are counted in 32 bits
+pub next_fits : (x y : ℤ) → x ≡ y → IsRuleYear y → FitsSigned w32 (x +ℤ pos 1)
+next_fits x y e h = omega (arith, signed, e, h)
+
+pub few_months : (a b m k : ℤ) (n : ℕ) → IsRuleYear a → b ≤ℤ pos 8000001 → (k -ℤ m) ≤ℤ (pos 13 *ℤ (b -ℤ a)) → k ≡ m +ℤ pos n → Fits w32 n
+few_months a b m k n first last most e = omega (arith, signed, first, last, most, e)
+
+pub within-end : (y b : ℤ) → y ≤ℤ b → IsRuleYear b → y ≤ℤ pos 8000001
+within-end y b h q = omega (arith, signed, h, q.1)
+
+pub next-end : (y b : ℤ) → y ≤ℤ b → IsRuleYear b → (y +ℤ pos 1) ≤ℤ pos 8000001
+next-end y b h q = omega (arith, signed, h, q.1)
 
 -- one look-up more, for one year more
 pub ticked : (old start new : ℕ) (first from to after : ℤ) → new ≡ old + 1 → pos old ≤ℤ (pos start +ℤ (from -ℤ first)) → from ≤ℤ to → after ≡ to +ℤ pos 1 → pos new ≤ℤ (pos start +ℤ (after -ℤ first))

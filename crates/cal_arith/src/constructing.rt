@@ -1,6 +1,6 @@
 //! Dates of a year, a month and a day, as `Date::try_new` of icu_calendar makes them.
 
-ghost use Rattle.std.specs.Prelude.{◌≡◌, Err, IfOk, ok_or, pos, neg_ℤ, if◌then◌else◌};
+ghost use Rattle.std.specs.Prelude.{◌≡◌, Err, IfOk, ok_or, if◌then◌else◌};
 ghost use Rattle.cal_days.specs.Day.{IsCoveredYear, IsConstructorYear, is_constructor_year};
 ghost use Rattle.cal_types.specs.MonthParts.{month_parts};
 ghost use Rattle.cal_errors.specs.declared.errors.DateNewError.TheVariants.{InvalidYear, InvalidEra};

@@ -1,8 +1,7 @@
 //! The difference of two dates, as ECMAScript Temporal's NonISODateUntil.
 
-ghost use Rattle.std.specs.Prelude.{◌≡◌, ◌+◌, ◌-◌, ◌*◌, ◌<◌, ◌≤◌, ◌<ℤ◌, ◌-ℤ◌, unsigned_abs, IsTrue, false, Ok, ◌↔◌};
+ghost use Rattle.std.specs.Prelude.{◌≡◌, ◌+◌, ◌-◌, ◌*◌, ◌<◌, ◌≤◌, ◌<ℤ◌, ◌-ℤ◌, unsigned_abs, IsTrue, false, ◌↔◌};
 ghost use Rattle.cal_types.specs.CalendarList.{date};
-ghost use Rattle.cal_types.specs.Adding.{IsSum};
 ghost use Rattle.cal_types.specs.Difference.{admits_weeks, largest_unit_of};
 ghost use Rattle.cal_types.specs.Until.{IsUntil};
 ghost use Rattle.cal_arith.specs.Dates.{date_of, ymd, Belongs};

@@ -1,6 +1,6 @@
 //! What a date that belongs to its calendar shows of itself.
 
-ghost use Rattle.std.specs.Prelude.{◌≡◌, ◌+◌, ◌+ℤ◌, pos, neg_ℤ, ◌&&◌, nat_le};
+ghost use Rattle.std.specs.Prelude.{◌≡◌, ◌+◌, ◌+ℤ◌, pos, ◌&&◌, nat_le};
 ghost use Rattle.cal_days.specs.Day.{is_valid_day, is_covered_year};
 ghost use Rattle.cal_types.specs.MonthParts.{month_parts};
 ghost use Rattle.cal_types.specs.CalendarList.{date, day_number, is_date, is_valid_date, month_at, month_count, month_length, start_of_year, year_length};

@@ -22,6 +22,7 @@ mod placing;
 pub mod steps;
 pub mod years;
 mod years_between;
+mod years_by_number;
 
 pub use adding::can_be_named;
 pub use arithmetic_date::ArithmeticDate;

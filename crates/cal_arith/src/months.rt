@@ -10,6 +10,7 @@ ghost use Rattle.cal_arith.specs.Directions.{is_backward};
 use crate::direction::Direction;
 use crate::steps::Steps;
 use crate::years::{YearShapes, Years};
+use crate::years_by_number::year_by_number;
 use std::marker::Brand;
 use std::sync::ledger::{Blank, Ledger};
 
@@ -47,7 +48,7 @@ pub(crate) fn months_between_counted<C: YearShapes, L: Ledger>(
         count += months;
         number = next;
         if number < end {
-            let year = cal.year_counted(number, steps);
+            let year = year_by_number(number, cal, steps);
             count += u32::from(cal.months_in_provided_year(year));
             number += 1;
         }

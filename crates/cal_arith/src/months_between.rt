@@ -16,6 +16,7 @@ use crate::months::{YearMonth, months_between_counted};
 use crate::past::is_past_day;
 use crate::steps::Steps;
 use crate::years::YearShapes;
+use crate::years_by_number::year_by_number;
 use cal_types::DateDurationUnit;
 use std::sync::ledger::Ledger;
 
@@ -102,7 +103,7 @@ fn next_month<C: YearShapes, L: Ledger>(
         };
     }
     YearMonth {
-        year: cal.year_counted(cal.extended_from_year_info(here.year) + 1, steps),
+        year: year_by_number(cal.extended_from_year_info(here.year) + 1, cal, steps),
         month: 1,
     }
 }
@@ -127,7 +128,7 @@ fn previous_month<C: YearShapes, L: Ledger>(
             month: here.month - 1,
         };
     }
-    let year = cal.year_counted(cal.extended_from_year_info(here.year) - 1, steps);
+    let year = year_by_number(cal.extended_from_year_info(here.year) - 1, cal, steps);
     YearMonth {
         year,
         month: cal.months_in_provided_year(year),

@@ -16,6 +16,7 @@ use crate::months::YearMonth;
 use crate::past::surpasses_in_year;
 use crate::steps::Steps;
 use crate::years::YearShapes;
+use crate::years_by_number::year_by_number;
 use cal_types::{DateDurationUnit, Overflow};
 use std::sync::ledger::Ledger;
 
@@ -100,7 +101,7 @@ pub(crate) fn month_after_years<C: YearShapes, L: Ledger>(
     ensures ticks { steps.new ≡ steps.old + 1 }
 {
     let year = cal.extended_from_year_info(from.year);
-    let reached = cal.year_counted(toward_year(year, years, direction), steps);
+    let reached = year_by_number(toward_year(year, years, direction), cal, steps);
     YearMonth {
         year: reached,
         month: stand_in_place(from, reached, cal),

@@ -1,6 +1,6 @@
 //! What a calendar offers.
 
-ghost use Rattle.std.specs.Prelude.{◌≡◌, ◌↔◌, ◌+◌, ◌≤◌, ℕ, pos, ◌+ℤ◌, ◌-ℤ◌, unsigned_abs, Bool, List, Option, IsTrue, IsOk, IfOk, None, Some, Ok, false};
+ghost use Rattle.std.specs.Prelude.{◌≡◌, ◌↔◌, ◌+◌, ◌≤◌, ℕ, pos, ◌+ℤ◌, ◌-ℤ◌, unsigned_abs, Bool, List, Option, IsTrue, IsOk, IfOk, None, Some, false};
 ghost use Rattle.std.specs.Ordering.{int_cmp, int_eq};
 ghost use Rattle.cal_days.specs.Day.{IsCoveredYear, IsFieldYear, IsValidDay};
 ghost use Rattle.cal_types.specs.Bag.{bag_of};

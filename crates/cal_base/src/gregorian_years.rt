@@ -1,7 +1,7 @@
 //! How the Gregorian calendars count their years, as the Buddhist and the Minguo calendar count the ISO years
 //! from a year of their own.
 
-ghost use Rattle.std.specs.Prelude.{◌≡◌, ℕ, ℤ, pos, neg_ℤ, List, Option, Some};
+ghost use Rattle.std.specs.Prelude.{◌≡◌, ℕ, ℤ, List, Option, Some};
 ghost use Rattle.cal_days.specs.Day.{IsFieldYear, IsRuleYear, IsCoveredYear, IsConstructorYear};
 ghost use Rattle.cal_errors.specs.declared.algorithm.CalendarAlgorithm.{CalendarAlgorithm};
 ghost use Rattle.cal_types.specs.declared.year.EraYear.{EraYear};

@@ -13,6 +13,7 @@ mod numbered_year;
 pub mod plain_months;
 mod refs;
 pub mod scaffold;
+pub mod year_days;
 
 pub use abstract_gregorian::AbstractGregorian;
 pub use arithmetic::{Arithmetic, Incompatible};

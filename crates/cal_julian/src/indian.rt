@@ -3,7 +3,7 @@
 //! Source: the report of India's Calendar Reform Committee (1955), and CLDR (UTS 35) for its era.
 
 ghost use Rattle.std.specs.Prelude.{◌≡◌, ◌+◌, ◌-◌, ◌<◌, ◌≤◌, ◌↔◌, IsTrue, true, if◌then◌else◌, nat_le, neg_ℤ, pos, ◌+ℤ◌, ◌-ℤ◌};
-ghost use Rattle.cal_days.specs.Day.{IsBetween, IsRuleYear, IsValidDay, is_field_year};
+ghost use Rattle.cal_days.specs.Day.{IsBetween, IsRuleYear, IsValidDay};
 ghost use Rattle.cal_days.specs.Gregorian.{first_of_march, gregorian_leap};
 ghost use Rattle.cal_types.specs.CalendarList.{date, day_number, IsDate, IsOn};
 ghost use Rattle.cal_julian.specs.IndianList.{indian_leap, indian_list, indian_month_length, vaisakha_days_before, vaisakha_month};

@@ -1,7 +1,7 @@
 //! The Julian calendar (Reingold and Dershowitz, Calendrical Calculations, chapter 3).
 
 ghost use Rattle.std.specs.Prelude.{◌≡◌, ◌↔◌, ◌≤◌, IsTrue, neg_ℤ, pos};
-ghost use Rattle.cal_days.specs.Day.{IsBetween, IsFieldYear, IsRuleYear, IsValidDay, is_field_year};
+ghost use Rattle.cal_days.specs.Day.{IsBetween, IsFieldYear, IsRuleYear, IsValidDay};
 ghost use Rattle.cal_days.specs.Julian.{julian_leap};
 ghost use Rattle.cal_types.specs.CalendarList.{date, day_number, IsDate, IsOn};
 ghost use Rattle.cal_base.specs.GregorianList.{gregorian_month_length};

@@ -1,7 +1,7 @@
 //! The Persian calendar, which Iran uses.
 
 ghost use Rattle.std.specs.Prelude.{◌≡◌};
-ghost use Rattle.cal_days.specs.Day.{IsRuleYear, is_field_year};
+ghost use Rattle.cal_days.specs.Day.{IsRuleYear};
 ghost use Rattle.cal_julian.specs.PersianNames.{persian_reference_year};
 
 use crate::persian_corrections::PersianCorrections;

@@ -1,6 +1,6 @@
 //! Which day a week begins with, and which days are its weekend, as CLDR's week data (UTS 35) say it of a region.
 
-ghost use Rattle.std.specs.Prelude.{◌≡◌, ◌≤◌};
+ghost use Rattle.std.specs.Prelude.{◌≡◌};
 ghost use Rattle.std.specs.Iterator.{YieldsFirst, item_count};
 ghost use Rattle.cal_types.specs.WeekdaySet.{days_of_week, weekdays_left};
 

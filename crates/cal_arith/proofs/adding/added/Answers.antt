@@ -4,6 +4,7 @@ use Rattle.cal_types.specs.CalendarList.{spot, month_at, IsMonthsAfter}
 use Rattle.cal_types.specs.Adding.{is_addable}
 use Rattle.cal_types.specs.Difference.{toward}
 use Rattle.std.proofs.lemmas.Bool.Decides.{nat_tests}
+use Rattle.std.proofs.lemmas.Grind.{common_steps}
 use Rattle.cal_days.proofs.Signed.{signed}
 use Rattle.cal_days.proofs.RangeLemmas.{is_between-true}
 use Rattle.cal_types.proofs.ListLemmas.{spot-place}
@@ -96,3 +97,6 @@ returns-in-Some-ordinal_in_other_year-clause-sum g c =
     let addable : is_addable c.args.duration ≡ true = sym c.can_be_added.ensures ∙ c.if-not-can_be_added.false in
     let field = field_is g s in
     rw (addable, field, there) (z, j, moved, c.sum_from_month.ensures.sum)
+
+pub sum_from_month-requires-clause-days : goal.sum_from_month-requires-clause-days
+sum_from_month-requires-clause-days g c = grind (arith, common_steps)

@@ -1,11 +1,11 @@
 use Rattle.std.proofs.Common.{◌≡◌, ◌∙◌, ℤ, pos, ◌+◌, ◌+ℤ◌, ◌<ℤ◌, ◌≤ℤ◌, to_z, of_z, w32, refl, ap, subst, sym, arith}
+use Rattle.std.proofs.lemmas.Grind.{common_steps}
 use Rattle.cal_days.specs.Day.{IsRuleYear}
 use Rattle.cal_days.proofs.Signed.{signed}
 use Rattle.cal_types.specs.CalendarList.{month_count, month_number}
 use Rattle.cal_types.proofs.ListLemmas.{month_number-next}
-use Rattle.cal_arith.proofs.GivenLemmas.{given_by}
 use Rattle.cal_arith.proofs.MonthSteps.{months-between}
-use Rattle.cal_arith.proofs.WordLemmas.{word, next_word, between, from_to, after-low, after-high, before-next, none_more, none_ticked, not_below, summed, summed-next, ticked, unticked, fewer}
+use Rattle.cal_arith.proofs.WordLemmas.{word, next_word, between, from_to, after-low, after-high, before-next, none_more, none_ticked, not_below, summed, summed-next, ticked, unticked, fewer, few_months, next-end, within-end, next_fits}
 use Rattle.cal_arith.proofs.months.months_between_counted.Given.{Over}
 use Rattle.cal_arith.proofs.months.months_between_counted.Goals.{After-months_by_number-next, After-from-count}
 use Rattle.cal_arith.proofs.months.months_between_counted.Goals as goal
@@ -54,7 +54,7 @@ pub overflow_add-count : goal.overflow_add-count
 overflow_add-count g c =
     let s = (goal.at.overflow_add-count g c).After-months_by_number-next in
     let most = months-between (g.C.YearShapes.years c.args.cal.now).list (g.met.C.YearShapes.lawful c.args.cal.now) (first g s) (next g s) (low g s) in
-    omega (arith, signed, most, counted g s, low g s, high g s, c.requires.first.range, c.requires.last.range)
+    few_months _ _ _ _ _ c.requires.first.range (within-end _ _ (high g s) c.requires.last.range) most.1 (counted g s)
 
 -- where no year is looked up, the last one is reached
 pub years-preserved : goal.years-preserved
@@ -74,20 +74,20 @@ years-smaller g c =
     let s = (goal.at.years-smaller g c).After-months_by_number-next in
     fewer (last g s) (to_z w32 c.years.number-bits) _ (omega (arith, signed, c.years-test.true, c.if-number-end.false)) (subst (λ (y : ℤ). y ≤ℤ last g s) (sym (kept g s)) (high g s))
 
-pub year_counted-year-requires : goal.year_counted-year-requires
-year_counted-year-requires g c =
-    let s = (goal.at.year_counted-year-requires g c).After-months_by_number-next in
-    subst IsRuleYear (sym (kept g s)) (rule g s)
+pub year_by_number-year-requires-clause-from : goal.year_by_number-year-requires-clause-from
+year_by_number-year-requires-clause-from g c =
+    let s = (goal.at.year_by_number-year-requires-clause-from g c).After-months_by_number-next in
+    (subst IsRuleYear (sym (kept g s)) (rule g s)).0
 
-pub months_in_provided_year-requires : goal.months_in_provided_year-requires
-months_in_provided_year-requires g c =
-    let s = (goal.at.months_in_provided_year-requires g c).After-months_by_number-next in
-    (given_by (g.C.YearShapes.years c.args.cal.now) (g.met.C.YearShapes.numbered c.args.cal.now) _ _ c.months_by_number-next.result.0 c.year_counted-year.ensures.year (kept g s) (rule g s)).0
+pub year_by_number-year-requires-clause-to : goal.year_by_number-year-requires-clause-to
+year_by_number-year-requires-clause-to g c =
+    let s = (goal.at.year_by_number-year-requires-clause-to g c).After-months_by_number-next in
+    (subst IsRuleYear (sym (kept g s)) (rule g s)).1
 
 -- the months up to the year after it
-module _ (g : Over) (c : After-from-count g) (kept : to_z w32 (of_z w32 c.months_by_number-next.result.0) ≡ c.months_by_number-next.result.0) (range : IsRuleYear c.months_by_number-next.result.0) where
-  year : (g.C.YearShapes.years c.args.cal.now).extended c.year_counted-year.result ≡ c.months_by_number-next.result.0
-  year = (given_by (g.C.YearShapes.years c.args.cal.now) (g.met.C.YearShapes.numbered c.args.cal.now) _ _ c.months_by_number-next.result.0 c.year_counted-year.ensures.year kept range).1
+module _ (g : Over) (c : After-from-count g) (kept : to_z w32 (of_z w32 c.months_by_number-next.result.0) ≡ c.months_by_number-next.result.0) where
+  year : (g.C.YearShapes.years c.args.cal.now).extended c.year_by_number-year.result ≡ c.months_by_number-next.result.0
+  year = c.year_by_number-year.ensures.number ∙ kept
 
   counted_on : month_number (g.C.YearShapes.years c.args.cal.now).list (c.months_by_number-next.result.0 +ℤ pos 1) 1 ≡ month_number (g.C.YearShapes.years c.args.cal.now).list ((g.C.YearShapes.years c.args.cal.now).extended c.args.first) 1 +ℤ pos (c.years.count + c.months_by_number-next.result.1 + c.from-count.result)
   counted_on =
@@ -101,12 +101,12 @@ pub overflow_add-count-then-number-end : goal.overflow_add-count-then-number-end
 overflow_add-count-then-number-end g c =
     let at = goal.at.overflow_add-count-then-number-end g c in let s = at.After-months_by_number-next in
     let most = months-between (g.C.YearShapes.years c.args.cal.now).list (g.met.C.YearShapes.lawful c.args.cal.now) (first g s) (next g s +ℤ pos 1) (after-low (first g s) (next g s) _ refl (low g s)) in
-    omega (arith, signed, most, counted_on g at.After-from-count (kept g s) (rule g s), low g s, high g s, c.requires.first.range, c.requires.last.range)
+    few_months _ _ _ _ _ c.requires.first.range (next-end _ _ (high g s) c.requires.last.range) most.1 (counted_on g at.After-from-count (kept g s))
 
 pub overflow_add-number : goal.overflow_add-number
 overflow_add-number g c =
     let s = (goal.at.overflow_add-number g c).After-months_by_number-next in
-    omega (arith, signed, kept g s, rule g s)
+    next_fits _ _ (kept g s) (rule g s)
 
 -- a year is looked up where the last one isn't reached yet
 below : (g : Over) (c : After-from-count g) → to_z w32 (of_z w32 c.months_by_number-next.result.0) ≡ c.months_by_number-next.result.0
@@ -119,10 +119,10 @@ years-preserved-then-number-end g c =
     let at = goal.at.years-preserved-then-number-end g c in let s = at.After-months_by_number-next in
     let one = next_word (next g s) (rule g s) in
     record {
-      counted = ap (λ (y : ℤ). month_number (g.C.YearShapes.years c.args.cal.now).list y 1) one ∙ counted_on g at.After-from-count (kept g s) (rule g s);
+      counted = ap (λ (y : ℤ). month_number (g.C.YearShapes.years c.args.cal.now).list y 1) one ∙ counted_on g at.After-from-count (kept g s);
       low = after-low (first g s) (next g s) _ one (low g s);
       high = after-high (next g s) _ (last g s) one (below g at.After-from-count (kept g s) (to_end g s));
-      ticks = ticked c.years.steps c.args.steps.now _ (first g s) (to_z w32 c.years.number-bits) (next g s) _ c.year_counted-year.ensures.tick c.years.invariant.ticks c.months_by_number-next.ensures.within.0 one;
+      ticks = ticked c.years.steps c.args.steps.now _ (first g s) (to_z w32 c.years.number-bits) (next g s) _ c.year_by_number-year.ensures.tick c.years.invariant.ticks c.months_by_number-next.ensures.within.0 one;
     }
 
 pub years-smaller-then-number-end : goal.years-smaller-then-number-end
@@ -131,3 +131,6 @@ years-smaller-then-number-end g c =
     let one = next_word (next g s) (rule g s) in
     fewer (last g s) (to_z w32 c.years.number-bits) _ (before-next _ (next g s) _ one c.months_by_number-next.ensures.within.0)
     (after-high (next g s) _ (last g s) one (below g at.After-from-count (kept g s) (to_end g s)))
+
+pub returns-clause-count : goal.returns-clause-count
+returns-clause-count g c = grind (arith, common_steps)

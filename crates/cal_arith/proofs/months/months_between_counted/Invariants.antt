@@ -1,4 +1,4 @@
-use Rattle.std.proofs.Common.{◌≡◌, pos, ◌+ℤ◌, ◌-ℤ◌, ◌*ℤ◌, ◌≤ℤ◌}
+use Rattle.std.proofs.Common.{◌≡◌, pos, ◌+ℤ◌, ◌-ℤ◌, ◌≤ℤ◌}
 use Rattle.cal_types.specs.CalendarList.{month_number}
 use Rattle.cal_days.specs.Sums.{years_up}
 use Rattle.cal_arith.proofs.months.months_between_counted.Given as goal

@@ -1,14 +1,12 @@
 use Rattle.std.proofs.Common.{◌≡◌, ℤ, ◌+ℤ◌, to_z, of_z, w32, ap, sym, ◌∙◌, subst}
 use Rattle.cal_days.specs.Day.{IsFieldYear, IsRuleYear}
 use Rattle.cal_types.specs.Difference.{toward}
-use Rattle.cal_arith.specs.Given.{IsGiven}
 use Rattle.cal_types.proofs.DifferenceLemmas.{years-between}
 use Rattle.cal_arith.specs.Dates.{date_of}
 use Rattle.cal_arith.specs.Directions.{is_backward}
-use Rattle.cal_arith.proofs.GivenLemmas.{given_by}
 use Rattle.cal_arith.proofs.WordLemmas.{field-rule, word}
 use Rattle.cal_arith.proofs.years_between.month_after_years.Given.{Over}
-use Rattle.cal_arith.proofs.years_between.month_after_years.Goals.{After-extended_from_year_info-year, After-toward_year, After-year_counted-reached}
+use Rattle.cal_arith.proofs.years_between.month_after_years.Goals.{After-extended_from_year_info-year, After-toward_year}
 use Rattle.cal_arith.proofs.years_between.month_after_years.Goals as goal
 
 module _ (g : Over) (c : After-extended_from_year_info-year g) where
@@ -32,24 +30,24 @@ module _ (g : Over) (c : After-toward_year g) (s : After-extended_from_year_info
   asked : to_z w32 (of_z w32 c.toward_year.result) ≡ there g s
   asked = word c.toward_year.result (there g s) sum rule
 
-pub year_counted-reached-requires : goal.year_counted-reached-requires
-year_counted-reached-requires g c =
-    let at = goal.at.year_counted-reached-requires g c in let s = at.After-extended_from_year_info-year in
-    let sum = c.toward_year.ensures ∙ ap (λ (y : ℤ). y +ℤ toward (is_backward c.args.direction) c.args.years) (year_same g s) in
-    subst IsRuleYear (sym (asked g at.After-toward_year s sum)) (field-rule _ (field g s))
+  handed : IsRuleYear (to_z w32 (of_z w32 c.toward_year.result))
+  handed = subst IsRuleYear (sym asked) rule
 
-reached : (g : Over) (c : After-year_counted-reached g) (s : After-extended_from_year_info-year g) → to_z w32 (of_z w32 c.toward_year.result) ≡ there g s → IsGiven (g.C.YearShapes.years c.args.cal.now) c.year_counted-reached.result × ((g.C.YearShapes.years c.args.cal.now).extended c.year_counted-reached.result ≡ there g s)
-reached g c s same = given_by (g.C.YearShapes.years c.args.cal.now) (g.met.C.YearShapes.numbered c.args.cal.now) _ _ (there g s) c.year_counted-reached.ensures.year same (field-rule _ (field g s))
-
-pub stand_in_place-requires-clause-reached : goal.stand_in_place-requires-clause-reached
-stand_in_place-requires-clause-reached g c =
-    let at = goal.at.stand_in_place-requires-clause-reached g c in let s = at.After-extended_from_year_info-year in
+pub year_by_number-reached-requires-clause-from : goal.year_by_number-reached-requires-clause-from
+year_by_number-reached-requires-clause-from g c =
+    let at = goal.at.year_by_number-reached-requires-clause-from g c in let s = at.After-extended_from_year_info-year in
     let sum = c.toward_year.ensures ∙ ap (λ (y : ℤ). y +ℤ toward (is_backward c.args.direction) c.args.years) (year_same g s) in
-    (reached g at.After-year_counted-reached s (asked g at.After-toward_year s sum)).0
+    (handed g at.After-toward_year s sum).0
+
+pub year_by_number-reached-requires-clause-to : goal.year_by_number-reached-requires-clause-to
+year_by_number-reached-requires-clause-to g c =
+    let at = goal.at.year_by_number-reached-requires-clause-to g c in let s = at.After-extended_from_year_info-year in
+    let sum = c.toward_year.ensures ∙ ap (λ (y : ℤ). y +ℤ toward (is_backward c.args.direction) c.args.years) (year_same g s) in
+    (handed g at.After-toward_year s sum).1
 
 pub returns-clause-month : goal.returns-clause-month
 returns-clause-month g c =
     let at = goal.at.returns-clause-month g c in let s = at.After-extended_from_year_info-year in
     let sum = c.toward_year.ensures ∙ ap (λ (y : ℤ). y +ℤ toward (is_backward c.args.direction) c.args.years) (year_same g s) in
-    let found = reached g at.After-year_counted-reached s (asked g at.After-toward_year s sum) in
-    record { year = found.0; number = found.1; range = subst IsFieldYear (sym found.1) (field g s); place = c.stand_in_place.ensures }
+    let number = c.year_by_number-reached.ensures.number ∙ asked g at.After-toward_year s sum in
+    record { year = c.year_by_number-reached.ensures.given; number = number; range = subst IsFieldYear (sym number) (field g s); place = c.stand_in_place.ensures }

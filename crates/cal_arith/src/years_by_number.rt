@@ -1,0 +1,23 @@
+//! Years by their numbers.
+
+ghost use Rattle.std.specs.Prelude.{◌≡◌, ◌+◌, ◌≤ℤ◌, pos, neg_ℤ};
+ghost use Rattle.cal_arith.specs.Given.{IsGiven};
+
+use crate::steps::Steps;
+use crate::years::YearShapes;
+use std::sync::ledger::Ledger;
+
+/// The year of an extended year from -8000000 to 8000000, at the cost of one tick.
+pub(crate) fn year_by_number<C: YearShapes, L: Ledger>(
+    extended_year: i32,
+    cal: &C,
+    steps: &mut Steps<L>,
+) -> C::YearInfo
+    requires from { neg_ℤ (pos 8000000) ≤ℤ extended_year }
+    requires to { extended_year ≤ℤ pos 8000000 }
+    ensures given { IsGiven (C.years cal.now) result }
+    ensures number { (C.years cal.now).extended result ≡ extended_year }
+    ensures tick { steps.new ≡ steps.old + 1 }
+{
+    cal.year_counted(extended_year, steps)
+}
