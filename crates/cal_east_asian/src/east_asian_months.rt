@@ -1,7 +1,7 @@
 //! The months of a Chinese or Korean year, by the place of its leap month, or 0 without one, and a bit for each month
 //! of 30 days, the first month's lowest.
 
-ghost use Rattle.std.specs.Prelude.{◌≡◌, ◌-◌, ◌*◌, ◌≤◌, sum_by};
+ghost use Rattle.std.specs.Prelude.{◌≡◌, ◌-◌, ◌≤◌, sum_by};
 ghost use Rattle.cal_types.specs.MonthParts.{month_parts};
 ghost use Rattle.cal_types.specs.CalendarList.{days_of};
 ghost use Rattle.cal_east_asian.specs.EastAsianYear.{months_of_year};

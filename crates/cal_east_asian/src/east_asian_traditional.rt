@@ -14,6 +14,7 @@ use crate::rules::Rules;
 use crate::same_rows::is_same_year;
 use cal_arith::{ArithmeticDate, DateFieldsResolver, Steps, YearShapes, Years, can_be_named};
 use cal_base::scaffold::UnstableSealed;
+use cal_base::year_days::counted_day;
 use cal_base::{Arithmetic, AsCalendar, Calendar, NamedYears};
 use cal_days::RataDie;
 use cal_types::{
@@ -74,8 +75,11 @@ impl<R: Rules> YearShapes for EastAsianTraditional<R> {
     }
 
     fn to_rata_die_inner(&self, year: EastAsianTraditionalYear, month: u8, day: u8) -> RataDie {
-        let before = days_before_month(year.long_months, month);
-        RataDie::new(year.new_year + i64::from(before) + i64::from(day) - 1)
+        counted_day(
+            year.new_year,
+            days_before_month(year.long_months, month),
+            day,
+        )
     }
 
     fn min_months_from(&self, _start: EastAsianTraditionalYear, count: i32) -> i32 {

@@ -16,6 +16,7 @@ use crate::tabular_algorithm::{
 use cal_arith::{ArithmeticDate, DateFieldsResolver, Steps, YearShapes, Years, can_be_named};
 use cal_base::plain_months::{is_plain, plain_ordinal};
 use cal_base::scaffold::UnstableSealed;
+use cal_base::year_days::counted_day;
 use cal_base::{Arithmetic, AsCalendar, Calendar, NamedYears};
 use cal_days::RataDie;
 use cal_types::{
@@ -126,8 +127,11 @@ impl<R: Rules> YearShapes for Hijri<R> {
     }
 
     fn to_rata_die_inner(&self, year: HijriYear, month: u8, day: u8) -> RataDie {
-        let before = days_before_month(year.long_months, month);
-        RataDie::new(year.first_day + i64::from(before) + i64::from(day) - 1)
+        counted_day(
+            year.first_day,
+            days_before_month(year.long_months, month),
+            day,
+        )
     }
 
     fn min_months_from(&self, _start: HijriYear, count: i32) -> i32 {

@@ -1,6 +1,6 @@
 //! Tables of years of a Hijri calendar, as they are observed or computed elsewhere.
 
-ghost use Rattle.std.specs.Prelude.{◌≡◌, ◌≢◌, ℕ, ◌<◌, ◌+◌, ◌&&◌, ◌||◌, nat_lt, int_le, length, slice_get, [], IsTrue, IfSome, IsNone, IsOk, ◌↔◌, MatchOption, MatchResult, pos};
+ghost use Rattle.std.specs.Prelude.{◌≡◌, ◌≢◌, ℕ, ◌<◌, ◌+◌, ◌&&◌, ◌||◌, int_le, length, slice_get, [], IsTrue, IfSome, IsNone, IsOk, ◌↔◌, MatchOption, MatchResult, pos};
 ghost use Rattle.cal_days.specs.Day.{IsRuleYear};
 ghost use Rattle.std.specs.Cmp.Lexicographic.{pointwise};
 ghost use Rattle.cal_hijri.specs.HijriRows.{is_same_row, years_of};

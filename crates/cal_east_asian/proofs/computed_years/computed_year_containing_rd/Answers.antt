@@ -1,4 +1,5 @@
 use Rattle.std.proofs.Common.{◌≡◌, pos, ◌-ℤ◌, ◌≤ℤ◌, ◌<ℤ◌, to_z, of_z, w32, arith}
+use Rattle.std.proofs.lemmas.Grind.{common_steps}
 use Rattle.cal_days.proofs.Signed.{signed}
 use Rattle.cal_east_asian.specs.laws.ComputedLaws.{computed_year, computed-years}
 use Rattle.cal_east_asian.proofs.Finding.{IsFound, earlier, itself, new_year-small}
@@ -33,3 +34,6 @@ within c =
 
 pub returns-else-to_i64_date-year-clause-last : goal.returns-else-to_i64_date-year-clause-last
 returns-else-to_i64_date-year-clause-last c = (within c).ends
+
+pub returns-then-to_i64_date-year-clause-range : goal.returns-then-to_i64_date-year-clause-range
+returns-then-to_i64_date-year-clause-range c = grind (arith, common_steps)

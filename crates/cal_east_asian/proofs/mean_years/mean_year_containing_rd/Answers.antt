@@ -1,4 +1,5 @@
 use Rattle.std.proofs.Common.{◌≡◌, pos, ◌-ℤ◌, ◌≤ℤ◌, ◌<ℤ◌, ℤ, to_z, of_z, w32, w64, arith}
+use Rattle.std.proofs.lemmas.Grind.{common_steps}
 use Rattle.cal_days.proofs.Signed.{signed}
 use Rattle.cal_east_asian.specs.MeanYears.{IsOffset}
 use Rattle.cal_east_asian.specs.MeanTraditionalYears.{mean_traditional_year}
@@ -46,3 +47,6 @@ returns-then-to_i64_date-year-clause-year c = mean-own c.args.utc_offset _ _ c.m
 
 pub returns-else-to_i64_date-year-clause-year : goal.returns-else-to_i64_date-year-clause-year
 returns-else-to_i64_date-year-clause-year c = mean-own c.args.utc_offset _ _ c.mean_year-year.result (offset_back c.args.utc_offset c.requires.offset) c.mean_year-year.ensures.year
+
+pub returns-then-to_i64_date-year-clause-range : goal.returns-then-to_i64_date-year-clause-range
+returns-then-to_i64_date-year-clause-range c = grind (arith, common_steps)

@@ -1,4 +1,5 @@
 use Rattle.std.proofs.Common.{◌≡◌, IsTrue, ℤ, pos, ◌≤ℤ◌, to_z, of_z, w32, w64, arith}
+use Rattle.std.proofs.lemmas.Grind.{common_steps}
 use Rattle.std.specs.Prelude.{int_le}
 use Rattle.std.proofs.lemmas.Int.{ints}
 use Rattle.cal_days.specs.Gregorian.{gregorian_start}
@@ -17,3 +18,6 @@ returns-then-since-ge18 c =
     let high = c.if-related_iso-gt8000000.false in
     let least = c.if-since-ge18.true in
     (λ h. ((omega (arith, signed, low), omega (arith, signed, high)), (omega (arith, signed, start, c.since-since.ensures, least), omega (arith, signed, start, c.since-since.ensures, h))), λ h. at_most (to_z w64 (of_z w64 c.since-since.result)) (pos 52) (omega (arith, signed, start, c.since-since.ensures, h)))
+
+pub returns-else-since-ge18 : goal.returns-else-since-ge18
+returns-else-since-ge18 c = grind (arith, common_steps)

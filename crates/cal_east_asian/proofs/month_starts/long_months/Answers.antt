@@ -1,4 +1,5 @@
 use Rattle.std.proofs.Common.{◌≡◌, ℕ, suc, ◌+◌, ◌-◌, ◌*◌, ◌/◌, ◌%◌, ◌^◌, ◌<◌, ◌≤◌, List, ℤ, pos, ◌-ℤ◌, unsigned_abs, to_z, of_z, w64, ap, sym, subst, ◌∙◌, arith}
+use Rattle.std.proofs.lemmas.Grind.{common_steps}
 use Rattle.std.proofs.lemmas.List.{get_or_default}
 use native.Mathlib.Nat.{pow-suc, mul_comm, div-div-eq-div-mul}
 use Rattle.cal_days.specs.Day.{IsBetween}
@@ -62,3 +63,9 @@ months-preserved c =
       lengths = more-lengths starts m c.args.months c.months.long_months b some within few days c.months.invariant.lengths;
       bits = more-bits starts m c.args.months c.months.long_months b some within few days c.months.invariant.bits;
     }
+
+pub overflow_cast-long_months : goal.overflow_cast-long_months
+overflow_cast-long_months c = grind (arith, common_steps)
+
+pub returns-then-not-is_month_length-clause-some : goal.returns-then-not-is_month_length-clause-some
+returns-then-not-is_month_length-clause-some c = grind (arith, common_steps)

@@ -1,4 +1,5 @@
 use Rattle.std.proofs.Common.{◌≡◌, ℕ, ◌+◌, ◌-◌, ◌*◌, ◌≤◌, length, take, drop, nat_abs, of_z, w32, ap, arith, ℤ, pos, ◌+ℤ◌, ◌-ℤ◌, ◌≤ℤ◌, ◌<ℤ◌}
+use Rattle.std.proofs.lemmas.Grind.{common_steps}
 use Rattle.std.proofs.lemmas.Int.{by_lt_z}
 use Rattle.cal_days.specs.Day.{IsRuleYear}
 use Rattle.cal_days.proofs.Signed.{signed, signed_casts}
@@ -85,3 +86,6 @@ pub returns : goal.returns
 returns c =
     let n = near c.args.table.now c.args.first c.args.from c.args.to c.requires.first c.requires.order c.if-from-to.false c.requires.places in
     (counted c.args.table.now c.args.first c.args.from c.args.to c.leap_rows_between-leaps.result n c.leap_rows_between-leaps.ensures).0
+
+pub leap_rows_between-leaps-requires-clause-within : goal.leap_rows_between-leaps-requires-clause-within
+leap_rows_between-leaps-requires-clause-within c = grind (arith, common_steps)

@@ -1,4 +1,4 @@
-use Rattle.std.proofs.Common.{◌≡◌, ◌∙◌, ◌+◌, ◌-◌, ◌≤◌, ◌-ℤ◌, ◌+ℤ◌, ℕ, ℤ, pos, neg_ℤ, sym, ap, arith}
+use Rattle.std.proofs.Common.{◌≡◌, ◌∙◌, ◌+◌, ◌-◌, ◌≤◌, ◌-ℤ◌, ◌+ℤ◌, ℕ, ℤ, pos, neg_ℤ, sym, ap, subst, to_z, of_z, w64, arith}
 use Rattle.cal_days.proofs.Signed.{signed}
 use Rattle.cal_days.specs.Day.{IsBetween}
 use Rattle.cal_arith.specs.Given.{IsGiven}
@@ -12,40 +12,25 @@ use Rattle.cal_east_asian.specs.declared.east_asian_traditional_year.EastAsianTr
 use Rattle.cal_east_asian.proofs.Finding.{new_year-small}
 use Rattle.cal_east_asian.proofs.east_asian_traditional.EastAsianTraditionalYearShapes.to_rata_die_inner.Goals as goal
 
-pub days_before_month-before-requires : goal.days_before_month-before-requires
-days_before_month-before-requires g c = (c.requires.date.place.0, omega (arith, c.requires.date.place.1, count-small (g.R.Rules.year_of c.args.self.now.0) c.args.year.related_iso))
+pub days_before_month-requires : goal.days_before_month-requires
+days_before_month-requires g c = (c.requires.date.place.0, omega (arith, c.requires.date.place.1, count-small (g.R.Rules.year_of c.args.self.now.0) c.args.year.related_iso))
 
 small : (year_of : ℤ → EastAsianTraditionalYear) → AreYears year_of → (y : EastAsianTraditionalYear) → IsGiven (east_asian_years year_of) y → IsBetween (neg_ℤ (pos 4000000000)) (pos 4000000000) y.new_year
 small year_of law y given = new_year-small year_of law y y.related_iso (sym given.same) given.range
 
-pub overflow_add-year : goal.overflow_add-year
-overflow_add-year g c =
-    let s = c.args.self.now.0 in
-    let first = small (g.R.Rules.year_of s) (g.met.R.Rules.lawful s) c.args.year c.requires.year in
-    omega (arith, signed, first, c.days_before_month-before.ensures.bound, c.from.ensures)
+-- the year's first day as it is handed over
+handed : (x : ℤ) → IsBetween (neg_ℤ (pos 4000000000)) (pos 4000000000) x → to_z w64 (of_z w64 x) ≡ x
+handed x h = omega (arith, signed, h)
 
-pub overflow_add-year-2 : goal.overflow_add-year-2
-overflow_add-year-2 g c =
+pub counted_day-requires-clause-first : goal.counted_day-requires-clause-first
+counted_day-requires-clause-first g c =
     let s = c.args.self.now.0 in
     let first = small (g.R.Rules.year_of s) (g.met.R.Rules.lawful s) c.args.year c.requires.year in
-    omega (arith, signed, first, c.days_before_month-before.ensures.bound, c.from.ensures, c.from-2.ensures, c.ranges.day.fits)
-
-pub overflow_sub-year : goal.overflow_sub-year
-overflow_sub-year g c =
-    let s = c.args.self.now.0 in
-    let first = small (g.R.Rules.year_of s) (g.met.R.Rules.lawful s) c.args.year c.requires.year in
-    omega (arith, signed, first, c.days_before_month-before.ensures.bound, c.from.ensures, c.from-2.ensures, c.ranges.day.fits)
-
-pub new-requires : goal.new-requires
-new-requires g c =
-    let s = c.args.self.now.0 in
-    let first = small (g.R.Rules.year_of s) (g.met.R.Rules.lawful s) c.args.year c.requires.year in
-    let few = c.days_before_month-before.ensures.bound in
-    (omega (arith, signed, first, few, c.from.ensures, c.from-2.ensures, c.ranges.day.fits), omega (arith, signed, first, few, c.from.ensures, c.from-2.ensures, c.ranges.day.fits))
+    subst (IsBetween (neg_ℤ (pos 4000000000)) (pos 4000000000)) (sym (handed _ first)) first
 
 -- the sum of the code is the day number
-sum : (first days last number start : ℤ) (before day : ℕ) → start ≡ first → days ≡ pos before → last ≡ pos day → 1 ≤ day → number ≡ first +ℤ days +ℤ last -ℤ pos 1 → number ≡ start +ℤ pos (before + (day - 1))
-sum first days last number start before day e1 e2 e3 one e4 = omega (arith, signed)
+sum : (first number start : ℤ) (before day : ℕ) → start ≡ first → 1 ≤ day → number ≡ first +ℤ pos before +ℤ pos day -ℤ pos 1 → number ≡ start +ℤ pos (before + (day - 1))
+sum first number start before day e one e2 = omega (arith, signed)
 
 -- the days before the month in a place
 before_place : (year_of : ℤ → EastAsianTraditionalYear) (y : ℤ) (i long : ℕ) → HasPlace (east_asian_list year_of) y i → (n : ℕ) → n + 1 ≡ i → days_before (east_asian_list year_of) y (n + 1) ≡ days_of_months long n → days_before (east_asian_list year_of) y i ≡ days_of_months long (i - 1)
@@ -58,12 +43,10 @@ returns g c =
     let s = c.args.self.now.0 in
     let year_of = g.R.Rules.year_of s in
     let year = c.args.year in
-    let first = small year_of (g.met.R.Rules.lawful s) year c.requires.year in
-    let few = c.days_before_month-before.ensures.bound in
-    let number : c.new.result ≡ year.new_year +ℤ c.from.result +ℤ c.from-2.result -ℤ pos 1 = omega (arith, signed, first, few, c.from.ensures, c.from-2.ensures, c.ranges.day.fits, c.new.ensures) in
     let n = c.args.month - 1 in
     let back : n + 1 ≡ c.args.month = omega (arith, c.requires.date.place.0) in
     let known = days_before-east_asian year_of year.related_iso n (omega (arith, c.requires.date.place)) ∙ ap (λ (long : ℕ). days_of_months long n) (long-given year_of year c.requires.year) in
-    let before : days_before (east_asian_list year_of) year.related_iso c.args.month ≡ c.days_before_month-before.result = before_place year_of year.related_iso c.args.month year.long_months c.requires.date.place n back known ∙ sym c.days_before_month-before.ensures.value in
-    sum year.new_year c.from.result c.from-2.result c.new.result (start_of_year (east_asian_list year_of) year.related_iso) (days_before (east_asian_list year_of) year.related_iso c.args.month) c.args.day
-    (start-given year_of year c.requires.year (g.met.R.Rules.lawful s)) (c.from.ensures ∙ ap pos (sym before)) c.from-2.ensures c.requires.date.day.0 number
+    let before : days_before (east_asian_list year_of) year.related_iso c.args.month ≡ c.days_before_month.result = before_place year_of year.related_iso c.args.month year.long_months c.requires.date.place n back known ∙ sym c.days_before_month.ensures.value in
+    let first = handed year.new_year (small year_of (g.met.R.Rules.lawful s) year c.requires.year) in
+    let number = c.counted_day.ensures ∙ (ap (λ (x : ℤ). x +ℤ pos c.days_before_month.result +ℤ pos c.args.day -ℤ pos 1) first ∙ ap (λ (n : ℕ). year.new_year +ℤ pos n +ℤ pos c.args.day -ℤ pos 1) (sym before)) in
+    sum year.new_year c.counted_day.result (start_of_year (east_asian_list year_of) year.related_iso) (days_before (east_asian_list year_of) year.related_iso c.args.month) c.args.day (start-given year_of year c.requires.year (g.met.R.Rules.lawful s)) c.requires.date.day.0 number

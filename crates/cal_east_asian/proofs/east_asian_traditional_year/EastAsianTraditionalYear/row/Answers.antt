@@ -1,4 +1,5 @@
 use Rattle.std.proofs.Common.{◌≡◌, ◌∙◌, ◌%◌, ◌^◌, ◌<◌, ◌+◌, ℕ, Bool, nat_eq, if◌then◌else◌, refl, ap, subst, arith, IsTrue, ℤ, pos, nat_abs, to_z, of_z, w32, w64, ◌+ℤ◌, ◌-ℤ◌, min}
+use Rattle.std.proofs.lemmas.Grind.{common_steps}
 use Rattle.cal_days.proofs.GregorianLemmas.{gregorian_start-bounds}
 use Rattle.cal_days.proofs.Signed.{by_bool, signed, signed_casts}
 use Rattle.cal_days.specs.Day.{IsRuleYear}
@@ -48,3 +49,9 @@ returns c =
     let few : min n 34 ≡ n = omega (arith, signed, offset, near) in
     let start : january_19 (rule_year (to_z w32 (of_z w32 y))) +ℤ pos (min n 34) ≡ c.args.self.new_year = omega (arith, signed, ap january_19 number, few, offset) in
     same_parts _ c.args.self number start (bits-same c.args.self.long_months c.args.self.leap_month c.args.self.valid.1.1 c.args.self.few) (place-same c.args.self.leap_month c.args.self.valid.1.1)
+
+pub overflow_sub-result-2 : goal.overflow_sub-result-2
+overflow_sub-result-2 c = grind (arith, common_steps)
+
+pub overflow_sub-result : goal.overflow_sub-result
+overflow_sub-result c = grind (arith, common_steps)
