@@ -1,6 +1,6 @@
 //! The anniversaries of a window, one after another.
 
-ghost use Rattle.std.specs.Prelude.{◌≡◌, ◌≤ℤ◌, Some};
+ghost use Rattle.std.specs.Prelude.{◌≡◌, Some};
 ghost use Rattle.cal_types.specs.MonthParts.{month_parts};
 ghost use Rattle.cal_anniversary.specs.Asking.{IsAsked};
 ghost use Rattle.cal_anniversary.specs.Listing.{IsListing};

@@ -3,7 +3,7 @@
 //! [`ask`](crate::any_calendar) goes through the calendars once for all of these questions, so that a further one is a
 //! function over any calendar.
 
-ghost use Rattle.std.specs.Prelude.{◌≡◌, ◌↔◌, ℕ, pos, ◌+ℤ◌, IsTrue};
+ghost use Rattle.std.specs.Prelude.{◌≡◌, ◌↔◌, pos, ◌+ℤ◌, IsTrue};
 ghost use Rattle.cal_types.specs.MonthInfoParts.{month_info_parts};
 ghost use Rattle.cal_types.specs.CalendarList.{Date, day_number, month_count, month_length, start_of_year, year_length};
 ghost use Rattle.cal_types.specs.CalendarSystem.{CalendarSystem, month_info_of};

@@ -1,6 +1,6 @@
 //! Days that are counted from Easter.
 
-ghost use Rattle.std.specs.Prelude.{◌≡◌, ◌-ℤ◌, ◌+ℤ◌, ◌≤ℤ◌, ◌<ℤ◌, pos, neg_ℤ};
+ghost use Rattle.std.specs.Prelude.{◌-ℤ◌, ◌+ℤ◌, ◌≤ℤ◌, ◌<ℤ◌, pos, neg_ℤ};
 ghost use Rattle.cal_days.specs.Day.{IsBetween, IsValidDay};
 ghost use Rattle.cal_days.specs.Easter.{IsSundayAfter};
 ghost use Rattle.cal_holidays.specs.Naming.{easter_moon, is_easter, year_start};

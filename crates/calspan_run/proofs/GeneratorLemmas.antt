@@ -7,8 +7,8 @@ use Rattle.cal_types.specs.Spans.{SpanDates}
 use Rattle.cal_types.specs.declared.span_error.SpanError.{SpanError}
 use Rattle.cal_types.proofs.SpanLemmas.{span-exists, span-unique}
 use Rattle.cal_tables.specs.Kinds.{TableContents, kind_system, no_contents}
-use Rattle.date_parts.specs.Parts.{AreNamed, AreRefused}
-use Rattle.date_parts.specs.declared.span_parts.SpanParts.{SpanParts}
+use Rattle.reply_texts.specs.DateParts.{AreNamed, AreRefused}
+use Rattle.reply_texts.specs.declared.span_parts.SpanParts.{SpanParts}
 use Rattle.calspan_run.specs.Generator.{generated_request, with_answer, with_refusal, with_span, no_totals, totals_text, IsCounted, AreTotals, IsGenerated}
 use Rattle.calspan_run.specs.Endings.{MayEnd}
 use Rattle.calspan_run.specs.Laws.{AreLasting}

@@ -13,8 +13,7 @@ use cal_days::RataDie;
 use cal_kinds::AnyCalendarKind;
 use cal_tables::Tables;
 use cal_types::Window;
-use date_parts::{DayParts, show_in};
-use reply_texts::{Pending, push_all, push_day};
+use reply_texts::{DayParts, Pending, push_all, push_day, show_in};
 
 /// How a day is written.
 #[derive(Clone, Copy)]

@@ -64,10 +64,6 @@ impl Rules for Late {
     ghost use Rattle.std.specs.Prelude.{true, refl};
     ghost use Rattle.cal_base.specs.laws.Compatibility.{all_alike, never_refused};
     ghost use Rattle.cal_hijri.specs.laws.HijriNameLaws.{no-references};
-    ghost use Rattle.cal_types.specs.CalendarList.{day_number};
-    ghost use Rattle.cal_hijri.specs.HijriSystem.{hijri_belongs, kept_date};
-    ghost use Rattle.cal_hijri.specs.TableRules.{table_year, umm_al_qura_system};
-    ghost use Rattle.cal_hijri.specs.TabularRules.{tabular_system, tabular_year};
     ghost use Rattle.lunar_tests.specs.LateYears.{late_year};
     ghost use Rattle.lunar_tests.specs.laws.LateYearLaws.{late-numbered, late-joins};
 

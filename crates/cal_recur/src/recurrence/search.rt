@@ -1,6 +1,6 @@
 //! The first occurrence in a window.
 
-ghost use Rattle.std.specs.Prelude.{◌≡◌, ◌*◌, ◌≤◌, ℕ, ℤ, IsTrue, IfSome, MatchOption, Some, None, cond};
+ghost use Rattle.std.specs.Prelude.{◌≡◌, ◌*◌, ◌≤◌, ℕ, IsTrue, IfSome, MatchOption, Some, None, cond};
 ghost use Rattle.cal_recur.specs.Occurrence.{occurrence};
 ghost use Rattle.cal_recur.specs.Rule.{overflow_of};
 ghost use Rattle.cal_recur.specs.FirstIndex.{AreBefore, constrained};

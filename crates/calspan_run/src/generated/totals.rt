@@ -2,7 +2,7 @@
 ghost use Rattle.std.specs.Prelude.{◌≡◌, ◌+◌, ◌<◌, ◌≤◌, ◌++◌};
 ghost use Rattle.arrayvec.specs.ArrayVec.{array_vec_len};
 ghost use Rattle.cal_days.specs.Day.{IsValidDay};
-ghost use Rattle.date_parts.specs.Parts.{IsDay};
+ghost use Rattle.reply_texts.specs.DateParts.{IsDay};
 ghost use Rattle.calspan_run.specs.Generator.{AreTotals, IsCounted, no_totals, parts_text, totals_text, with_refusal, with_span};
 ghost use Rattle.request_lines.specs.RequestSaid.{request_said};
 ghost use Rattle.calspan_run.specs.TotalBounds.{AreBounded, counted};
@@ -10,8 +10,7 @@ ghost use Rattle.calspan_run.specs.TotalBounds.{AreBounded, counted};
 use crate::generated::generator::generated_request;
 use crate::kinds::name_dates;
 use cal_tables::Tables;
-use date_parts::{DayParts, SpanParts};
-use reply_texts::{Pending, push_all, push_number, push_signed};
+use reply_texts::{DayParts, Pending, SpanParts, push_all, push_number, push_signed};
 use request_lines::Request;
 
 /// How many requests have an answer and how many are refused; the sum of the day numbers of all dates; and the sums

@@ -9,8 +9,7 @@ ghost use Rattle.calspan_run.specs.HolidayLines.{holiday_line, name_of};
 use crate::writer::ItemLines;
 use cal_base::Iso;
 use cal_holidays::{Book, Holiday};
-use date_parts::{DayParts, show_in};
-use reply_texts::{Pending, push_all, push_date};
+use reply_texts::{DayParts, Pending, push_all, push_date, show_in};
 
 /// Appends the name of a rule, by its number in a book, which takes at most 64 bytes. A number that the book hasn't has no
 /// name.

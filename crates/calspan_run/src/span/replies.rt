@@ -8,15 +8,14 @@ ghost use Rattle.cal_types.specs.CalendarSystem.{CalendarSystem};
 ghost use Rattle.cal_tables.specs.Kinds.{kind_system, table_contents};
 ghost use Rattle.request_lines.specs.Requests.{request_of};
 ghost use Rattle.request_lines.specs.RequestSaid.{header_said};
-ghost use Rattle.date_parts.specs.Parts.{AreNamed, IsDay};
+ghost use Rattle.reply_texts.specs.DateParts.{AreNamed, IsDay};
 ghost use Rattle.calspan_run.specs.Replies.{SaysSpan, IsReply};
 
 use crate::kinds::{TwoDays, name_dates, show_days};
 use cal_kinds::AnyCalendarKind;
 use cal_tables::Tables;
 use cal_types::DateFields;
-use date_parts::{DayParts, SpanParts};
-use reply_texts::{Pending, push_all, push_day, push_duration, push_error};
+use reply_texts::{DayParts, Pending, SpanParts, push_all, push_day, push_duration, push_error};
 use request_lines::Header;
 
 /// Both dates, the same days in the second calendar, and the difference.

@@ -5,9 +5,9 @@ ghost use Rattle.cal_types.specs.CalendarList.{IsOn, day_number};
 ghost use Rattle.cal_any.specs.AnySystem.{any_compatible, any_date, any_system};
 
 use super::Date;
+use crate::into_any_calendar::IntoAnyCalendar;
 use cal_any::AnyCalendar;
 use cal_base::{AsCalendar, Calendar, Ref};
-use cal_into_any::IntoAnyCalendar;
 
 impl<'t, C: IntoAnyCalendar<'t>> Date<C> {
     /// The same date, of the calendar in its variant of [`AnyCalendar`].

@@ -3,12 +3,12 @@
 ghost use Rattle.cal_days.specs.Day.{IsValidDay};
 
 use calspan_run::{TwoDays, name_dates, show_days};
-use date_parts::{DayParts, SpanParts};
 use icu_calendar::{
     AnyCalendar, AnyCalendarKind, AsCalendar, BagSide, Calendar, Date, DateDifferenceOptions,
     DateDuration, DateDurationUnit, DateFromFieldsError, DateFromFieldsOptions, Overflow, Span,
     SpanError, Tables, named_dates, span,
 };
+use reply_texts::{DayParts, SpanParts};
 use std::process::Abort;
 use test_dates::{
     GREGORIAN, IN_DAYS, ISO, JULIAN, REJECT, calendar_of, date_named, duration, fields, has_parts,

@@ -6,11 +6,11 @@ ghost use Rattle.cal_types.specs.CalendarSystem.{CalendarSystem};
 ghost use Rattle.cal_types.specs.Month.{code_text};
 ghost use Rattle.cal_types.specs.MonthParts.{month_parts};
 ghost use Rattle.reply_texts.specs.DateTexts.{year_text, date_text, day_text, part_text, parts_text, duration_text, cause_text, side_text, error_text};
-ghost use Rattle.date_parts.specs.Parts.{IsDayParts};
+ghost use Rattle.reply_texts.specs.DateParts.{IsDayParts};
 
+use crate::day_parts::DayParts;
 use crate::text::{Pending, push_all, push_number, push_signed, push_two_digits};
 use cal_types::{BagSide, DateDuration, DateFromFieldsError, Month, SpanError, YearInfo};
-use date_parts::DayParts;
 
 /// A year of an era, or of a cycle.
 fn push_year(text: &mut Pending, year: &YearInfo)

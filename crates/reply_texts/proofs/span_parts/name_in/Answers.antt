@@ -1,5 +1,5 @@
 use Rattle.std.proofs.Common.{sym}
-use Rattle.date_parts.proofs.span_parts.name_in.Goals as goal
+use Rattle.reply_texts.proofs.span_parts.name_in.Goals as goal
 
 pub returns-clause-named : goal.returns-clause-named
 returns-clause-named g c = record {

@@ -11,8 +11,8 @@ use Rattle.cal_types.specs.CalendarSystem.{CalendarSystem, resolve_fields}
 use Rattle.cal_types.specs.Until.{IsUntil}
 use Rattle.cal_types.specs.Spans.{RefusesBag}
 use Rattle.cal_types.specs.declared.span_error.SpanError.{SpanError}
-use Rattle.date_parts.specs.declared.day_parts.DayParts.{DayParts}
-use Rattle.date_parts.specs.declared.span_parts.SpanParts.{SpanParts}
+use Rattle.reply_texts.specs.declared.day_parts.DayParts.{DayParts}
+use Rattle.reply_texts.specs.declared.span_parts.SpanParts.{SpanParts}
 
 -- the day has two digits, and its number is valid
 pub record IsDay (p : DayParts) : Type 0 where

@@ -4,7 +4,7 @@ use Rattle.std.specs.Fmt.{decimal}
 use Rattle.cal_errors.specs.declared.errors.DateFromFieldsError.{DateFromFieldsError}
 use Rattle.cal_errors.specs.declared.errors.DateFromFieldsError.TheVariants as cause
 use Rattle.reply_texts.specs.DateTexts.{cause_text}
-use Rattle.reply_texts.proofs.parts.push_cause.Goals as goal
+use Rattle.reply_texts.proofs.date_texts.push_cause.Goals as goal
 
 -- what was pushed is the text of the cause
 said : (old all : List ℕ) (cause named : DateFromFieldsError) → all ≡ old ++ cause_text named → cause ≡ named → all ≡ old ++ cause_text cause

@@ -1,6 +1,6 @@
 use Rattle.std.proofs.Common.{◌≡◌, ℕ, List, [], ◌∷◌, ◌++◌, append_assoc, arith}
 use Rattle.std.proofs.lemmas.Grind.{common_steps}
-use Rattle.reply_texts.proofs.parts.push_error.Goals as goal
+use Rattle.reply_texts.proofs.date_texts.push_error.Goals as goal
 
 -- the parts of a refusal, one after another
 pushed : (old head side cause a b d e all : List ℕ) → a ≡ old ++ head → b ≡ a ++ side → d ≡ b ++ 32 ∷ [] → e ≡ d ++ cause → all ≡ e ++ 10 ∷ [] → all ≡ old ++ (head ++ side ++ 32 ∷ cause ++ 10 ∷ [])

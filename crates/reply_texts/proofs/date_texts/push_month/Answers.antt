@@ -1,6 +1,6 @@
 use Rattle.std.proofs.Common.{arith}
 use Rattle.std.proofs.lemmas.Grind.{common_steps}
-use Rattle.reply_texts.proofs.parts.push_month.Goals as goal
+use Rattle.reply_texts.proofs.date_texts.push_month.Goals as goal
 
 pub push-requires-then-is_leap : goal.push-requires-then-is_leap
 push-requires-then-is_leap c = grind (arith, common_steps)

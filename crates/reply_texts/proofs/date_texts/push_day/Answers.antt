@@ -1,5 +1,5 @@
 use Rattle.std.proofs.Common.{◌≡◌, ℕ, List, [], ◌∷◌, ◌++◌, append_assoc}
-use Rattle.reply_texts.proofs.parts.push_day.Goals as goal
+use Rattle.reply_texts.proofs.date_texts.push_day.Goals as goal
 
 -- both dates, one after another
 pushed : (old first second a b all : List ℕ) → a ≡ old ++ first → b ≡ a ++ 32 ∷ [] → all ≡ b ++ second → all ≡ old ++ (first ++ 32 ∷ second)

@@ -1,6 +1,6 @@
 use Rattle.std.proofs.Common.{◌≡◌, ℕ, Bool, true, false, List, [], ◌∷◌, ◌++◌, if◌then◌else◌, refl, sym, ap, ◌∙◌, append_assoc}
 use Rattle.reply_texts.specs.DateTexts.{parts_text, nonzero_text}
-use Rattle.reply_texts.proofs.parts.push_duration.Goals as goal
+use Rattle.reply_texts.proofs.date_texts.push_duration.Goals as goal
 
 -- the text of a duration that has parts
 nonzero : (negative : Bool) (parts : List ℕ) → (parts ≡ [] → ⊥) → nonzero_text negative parts ≡ (if negative then 45 ∷ [] else []) ++ 80 ∷ parts

@@ -1,6 +1,6 @@
 use Rattle.std.proofs.Common.{arith}
 use Rattle.std.proofs.lemmas.Grind.{common_steps}
-use Rattle.reply_texts.proofs.parts.push_year.Goals as goal
+use Rattle.reply_texts.proofs.date_texts.push_year.Goals as goal
 
 pub returns-in-Era-clause-items : goal.returns-in-Era-clause-items
 returns-in-Era-clause-items c = grind (arith, common_steps)

@@ -6,7 +6,7 @@ use Rattle.cal_types.specs.CalendarList.{day_number}
 use Rattle.cal_types.specs.Month.{code_text}
 use Rattle.reply_texts.specs.DateTexts.{year_text}
 use Rattle.reply_texts.specs.Texts.{two_digits}
-use Rattle.reply_texts.proofs.parts.push_date.Goals as goal
+use Rattle.reply_texts.proofs.date_texts.push_date.Goals as goal
 
 -- the parts of a date, one after another
 pushed : (old year printed month day number a b d e f g h k all : List ℕ) → a ≡ old ++ year → b ≡ a ++ 47 ∷ [] → d ≡ b ++ printed → e ≡ d ++ 47 ∷ []

@@ -2,7 +2,7 @@
 
 ghost use Rattle.std.specs.Prelude.{◌≡◌, IsTrue};
 ghost use Rattle.cal_types.specs.CalendarList.{day_number};
-ghost use Rattle.date_parts.specs.Parts.{IsDayParts};
+ghost use Rattle.reply_texts.specs.DateParts.{IsDayParts};
 
 use cal_base::Calendar;
 use cal_days::RataDie;

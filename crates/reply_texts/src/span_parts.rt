@@ -4,7 +4,7 @@ ghost use Rattle.std.specs.Prelude.{IfOk, IfErr};
 ghost use Rattle.cal_days.specs.Day.{IsValidDay};
 ghost use Rattle.cal_types.specs.Bag.{bag_of};
 ghost use Rattle.cal_types.specs.Difference.{largest_unit_of};
-ghost use Rattle.date_parts.specs.Parts.{AreNamed, AreRefused, IsShown};
+ghost use Rattle.reply_texts.specs.DateParts.{AreNamed, AreRefused, IsShown};
 
 use crate::day_parts::{DayParts, parts_of};
 use cal_base::Calendar;
