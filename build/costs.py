@@ -4,7 +4,8 @@
 Each is proved with one job, as many side by side as there are processors, over libraries of statements in a folder of its own, which a later
 run takes over for crates that haven't changed. With names of crates, these are measured, and those below them that aren't built yet. With
 `--functions NAME` it proves one crate and lists its functions by what they took: in seconds by the clock, and in millions of steps, once those
-of the elaboration and once those of the kernel; the crates below are built first.
+of the elaboration and once those of the kernel; the crates below are built first. With `--goals NAME` it lists the goals and lemmas so, each with
+what its tactics took: a `search` that took half a million steps, or that a `grind` stands behind, is worth an answer.
 
 Run it where nothing else runs. Machines and days differ, so a crate is compared with itself on one machine, or by the multiples. The steps are
 the same on each machine, whatever runs beside it, but none are counted of a function's borrows (its `Lts`).
@@ -28,6 +29,9 @@ PARTS = {"Lts", "Tie", "Proof", "Goals", "Answers", "Invariants", "Mir", "Code",
 PARTS |= {"Given", "Named", "Reads", "TheLink", "View"}
 # What a declaration took, in the record of kept work: the steps of its elaboration, and those of the kernel.
 STEPS = re.compile(rb'"steps":\[(\d+),(\d+),\d+\]')
+# The same with what the tactics of the declaration took before it, and its name.
+DECLARATION = re.compile(rb'"calls":(\[[^{}]*?\]),"goals":.*?"metas":\[[^\]]*\],"name":"([^"]*)".*?' + STEPS.pattern, re.DOTALL)
+TACTIC = re.compile(rb'\["(\w+)",\[\d+,\d+\],(\d+)\]')
 
 
 class Task(NamedTuple):
@@ -146,8 +150,8 @@ def steps_of_functions(kept: Path) -> dict[str, tuple[int, int]]:
     return taken
 
 
-def show_functions(room: Path, name: str) -> None:
-    """Proves a crate with one job, and lists what its functions took."""
+def kept_work(room: Path, name: str) -> Path:
+    """Proves a crate with one job, and answers the folder of the work that is kept."""
     below = [it for it in program.crates_below([name]) if it != name]
     if below and (status := program.Build(room, below, False).whole()):
         sys.exit(status)
@@ -155,6 +159,12 @@ def show_functions(room: Path, name: str) -> None:
     kept.mkdir(parents=True)
     words = command(Task(name, False), program.crates_below([name]), program.kit(), room, kept)
     subprocess.run(words, cwd=program.TOP / "crates" / name, stdout=subprocess.DEVNULL, stderr=subprocess.DEVNULL, check=True)
+    return kept
+
+
+def show_functions(room: Path, name: str) -> None:
+    """Lists what the functions of a crate took."""
+    kept = kept_work(room, name)
     seconds, steps = seconds_of_functions(kept), steps_of_functions(kept)
     print("seconds  elaboration  kernel  function")
     for function, taken in sorted(seconds.items(), key=lambda it: -it[1])[:40]:
@@ -164,11 +174,27 @@ def show_functions(room: Path, name: str) -> None:
     print(f"{sum(seconds.values()):7.1f} {elaborated:12.2f} {checked:7.1f}  in all")
 
 
+def show_goals(room: Path, name: str) -> None:
+    """Lists what the goals and lemmas of a crate took."""
+    found = []
+    for it in kept_work(room, name).rglob("records/*.decls.oantt"):
+        module = it.name.removesuffix(".decls.oantt").removeprefix("Rattle-")
+        for calls, goal, elaborated, checked in DECLARATION.findall(it.read_bytes()):
+            tactics = " ".join(f"{tactic.decode()} {int(steps) / 1e6:.2f}" for tactic, steps in TACTIC.findall(calls) if int(steps) >= 10000)
+            found.append((int(elaborated) / 1e6, int(checked) / 1e6, f"{module} {goal.decode()}", tactics))
+    print("elaboration  kernel  goal or lemma, tactics")
+    for elaborated, checked, goal, tactics in sorted(found, key=lambda it: -it[0] - it[1])[:60]:
+        print(f"{elaborated:11.2f} {checked:7.2f}  {goal}: {tactics}")
+
+
 def main(words: list[str]) -> int:
     room = program.room_of_checkout() / "costs"
     room.mkdir(parents=True, exist_ok=True)
     if words[:1] == ["--functions"]:
         show_functions(room, words[1])
+        return 0
+    if words[:1] == ["--goals"]:
+        show_goals(room, words[1])
         return 0
     unit = selftest()
     print(f"rt selftest: {unit:.0f} s")
