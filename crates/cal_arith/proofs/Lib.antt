@@ -6,3 +6,4 @@ pub mod OrderLemmas
 pub mod YearLemmas
 pub mod FieldLemmas
 pub mod MonthSteps
+pub mod MonthSums

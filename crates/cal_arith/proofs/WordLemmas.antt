@@ -15,9 +15,6 @@ previous_word x y e h = omega (arith, signed, e, h)
 pub following_word : (x y : ℤ) → x ≡ y → IsRuleYear y → to_z w32 (of_z w32 (to_z w32 (of_z w32 x) +ℤ pos 1)) ≡ y +ℤ pos 1
 following_word x y e h = omega (arith, signed, e, h)
 
-pub next_word : (y : ℤ) → IsRuleYear y → to_z w32 (of_z w32 (to_z w32 (of_z w32 y) +ℤ pos 1)) ≡ y +ℤ pos 1
-next_word y h = omega (arith, signed, h)
-
 -- a year that fields may name is one of the rules
 pub field-rule : (y : ℤ) → IsFieldYear y → IsRuleYear y
 field-rule y h = (omega (arith, signed, h.0), omega (arith, signed, h.1))
@@ -28,8 +25,8 @@ from_to a b c p q = omega (arith, signed, p, q)
 pub between : (a b y : ℤ) → IsRuleYear a → IsRuleYear b → a ≤ℤ y → y ≤ℤ b → IsRuleYear y
 between a b y p q low high = (from_to _ a y p.0 low, from_to y b _ high q.1)
 
-pub joined : (z y : ℤ) → z ≡ y -ℤ pos 1 → y ≡ z +ℤ pos 1
-joined z y e = omega (arith, signed, e)
+pub joined : (z y : ℤ) (n : ℕ) → z ≡ y -ℤ pos n → y ≡ z +ℤ pos n
+joined z y n e = omega (arith, signed, e)
 
 -- the year after
 pub after-low : (a y z : ℤ) → z ≡ y +ℤ pos 1 → a ≤ℤ y → a ≤ℤ z

@@ -1,5 +1,5 @@
 -- From where months are counted.
-use Rattle.std.specs.Prelude.{◌≡◌, ◌≤◌, ◌<◌, ◌+ℤ◌, ◌*ℤ◌, ◌≤ℤ◌, ℕ, Bool, Some, pos, neg_ℤ}
+use Rattle.std.specs.Prelude.{◌≡◌, ◌<◌, ◌+ℤ◌, ◌*ℤ◌, ◌≤ℤ◌, ℕ, Bool, Some, pos, neg_ℤ}
 use Rattle.cal_days.specs.Day.{IsBetween, IsFieldYear}
 use Rattle.cal_types.specs.declared.options.Overflow.TheVariants.{Constrain}
 use Rattle.cal_types.specs.CalendarList.{month_at, month_number, spot}
@@ -9,11 +9,10 @@ use Rattle.cal_arith.specs.declared.months.MonthsFrom.{MonthsFrom}
 use Rattle.cal_arith.specs.declared.months.YearMonth.{YearMonth}
 use Rattle.cal_arith.specs.Given.{CalendarYears, HasMonth, IsGiven}
 
--- a month from which so many months are counted, forward or back
-pub record IsCountable {Y : Type 0} (years : CalendarYears Y) (given : Y) (i n : ℕ) : Type 0 where
+-- a month from which months are counted, forward or back
+pub record IsCountable {Y : Type 0} (years : CalendarYears Y) (given : Y) (i : ℕ) : Type 0 where
   pub range : IsBetween (neg_ℤ (pos 2080000)) (pos 2080000) (years.extended given)
   pub month : HasMonth years given i
-  pub months : n ≤ 27050000
 
 -- the month so many years from a date's: of its month, or of what stands in for it in that year
 pub record IsYearsFrom {Y : Type 0} (years : CalendarYears Y) (from : Ymd Y) (back : Bool) (n : ℕ)

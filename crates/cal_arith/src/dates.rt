@@ -1,7 +1,7 @@
 //! Dates as a year, the place of a month and a day.
 
 ghost use Rattle.std.specs.Prelude.{◌≡◌, ◌<◌, ◌+ℤ◌, pos};
-ghost use Rattle.cal_types.specs.CalendarList.{IsOn, date, day_number, start_of_year, year_length};
+ghost use Rattle.cal_types.specs.CalendarList.{HasPlace, IsOn, date, day_number, month_length, start_of_year, year_length};
 ghost use Rattle.cal_days.specs.Day.{IsValidDay};
 ghost use Rattle.cal_arith.specs.Given.{IsGiven};
 ghost use Rattle.cal_arith.specs.Dates.{date_of, ymd, Belongs, IsGivenDate};
@@ -28,6 +28,15 @@ pub(crate) fn to_rata_die<C: YearShapes>(date: Ymd<C::YearInfo>, cal: &C) -> Rat
     cal.to_rata_die_inner(date.year, date.month, date.day)
 }
 
+/// How many days the month in a place of a given year has.
+fn length_of_month<C: YearShapes>(year: C::YearInfo, month: u8, cal: &C) -> u16
+    requires year { IsGiven (C.years cal.now) year }
+    requires place { let y = C.years cal.now in HasPlace y.list (y.extended year) month }
+    ensures { let y = C.years cal.now in result ≡ month_length y.list (y.extended year) month }
+{
+    u16::from(cal.days_in_provided_month(year, month))
+}
+
 /// The place of the month and the day of the month of a day of a given year, which is counted from 0; each
 /// month before it is asked for its length.
 pub(crate) fn month_by_month<C: YearShapes>(
@@ -42,11 +51,11 @@ pub(crate) fn month_by_month<C: YearShapes>(
 {
     let mut month = 1;
     let mut rest = day_of_year;
-    let mut length = u16::from(cal.days_in_provided_month(year, month));
+    let mut length = length_of_month(year, month, cal);
     'months: while rest >= length {
         rest -= length;
         month += 1;
-        length = u16::from(cal.days_in_provided_month(year, month));
+        length = length_of_month(year, month, cal);
     }
     (month, rest as u8 + 1)
 }

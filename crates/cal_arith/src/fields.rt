@@ -5,11 +5,11 @@ ghost use Rattle.std.specs.Prelude.{◌≡◌, ◌≤◌, ◌&&◌, IfOk, IfSome
 ghost use Rattle.cal_days.specs.Day.{IsRuleYear};
 ghost use Rattle.cal_types.specs.Bag.{bag_of};
 ghost use Rattle.cal_types.specs.MonthParts.{month_parts};
-ghost use Rattle.cal_types.specs.CalendarList.{spot};
+ghost use Rattle.cal_types.specs.CalendarList.{HasPlace, spot};
 ghost use Rattle.cal_types.specs.Resolving.{after, day_or_first, in_reference_year, in_year, is_ecma, missing_fields_of, month_of_kind, month_said, or_plain_month, overflow_of, place_in_year, resolve, resolved_in_month, resolved_in_year, resolved_number, resolved_place, same_place, same_year, valid_date, without_year, year_and_month, year_named, year_of_era};
 ghost use Rattle.cal_arith.specs.Dates.{answer_by, answer_of, date_of, Belongs, IsGivenDate};
 ghost use Rattle.cal_arith.specs.FieldNames.{month_name, month_of_year, seen};
-ghost use Rattle.cal_arith.specs.Given.{HasMonth, IsGiven};
+ghost use Rattle.cal_arith.specs.Given.{IsGiven};
 
 use crate::adding::can_be_named;
 use crate::arithmetic_date::ArithmeticDate;
@@ -17,6 +17,7 @@ use crate::dates::Ymd;
 use crate::getters::{has_valid_day, is_up_to};
 use crate::month_names::{MonthOfYear, NamedMonth, named_month};
 use crate::years::{DateFieldsResolver, YearShapes, Years};
+use crate::years_by_number::year_with_number;
 use cal_types::{
     DateFields, DateFromFieldsError, DateFromFieldsOptions, EcmaReferenceYearError,
     MissingFieldsStrategy, Month, Overflow,
@@ -217,7 +218,7 @@ fn month_of_year<'a, C: DateFieldsResolver>(
 {
     match year {
         Some(year) => Ok(MonthOfYear {
-            year: cal.year_info_from_extended(year),
+            year: year_with_number(year, cal),
             month,
         }),
         None => without_year(month, ordinal_month, day, overflow, strategy, cal),
@@ -309,7 +310,8 @@ fn date_in_month<C: Years>(
     overflow: Overflow,
     cal: &C,
 ) -> Result<Ymd<C::YearInfo>, DateFromFieldsError>
-    requires { HasMonth (C.years cal.now) year month }
+    requires year { IsGiven (C.years cal.now) year }
+    requires place { let y = C.years cal.now in HasPlace y.list (y.extended year) month }
     ensures resolved { let y = C.years cal.now in
         answer_of y result ≡ resolved_in_month y.list (y.extended year) month overflow day }
     ensures belongs { IfOk result (λ d. Belongs (C.years cal.now) d) }

@@ -10,7 +10,7 @@ ghost use Rattle.cal_arith.specs.Directions.{is_backward};
 use crate::direction::Direction;
 use crate::steps::Steps;
 use crate::years::{YearShapes, Years};
-use crate::years_by_number::year_by_number;
+use crate::years_by_number::{year_by_number, year_with_number};
 use std::marker::Brand;
 use std::sync::ledger::{Blank, Ledger};
 
@@ -110,7 +110,7 @@ fn years_ahead<C: Years>(
     ensures there { 13 * ahead ≤ months → IsSome result }
 {
     let number = cal.extended_from_year_info(year);
-    let there = cal.year_info_from_extended(number + ahead as i32);
+    let there = year_with_number(number + ahead as i32, cal);
     let between = months_between_years(year, there, cal);
     if between > months {
         return None;
@@ -156,7 +156,7 @@ fn jumped<C: Years>(year: C::YearInfo, months: u32, count: u32, cal: &C) -> Mont
     }
     let number = cal.extended_from_year_info(year);
     MonthsFrom {
-        year: cal.year_info_from_extended(number + 1),
+        year: year_with_number(number + 1, cal),
         months: months - count,
     }
 }
@@ -192,7 +192,8 @@ fn months_later<C: Years>(
     months: u32,
     cal: &C,
 ) -> YearMonth<C::YearInfo>
-    requires { IsCountable (C.years cal.now) year month months }
+    requires from { IsCountable (C.years cal.now) year month }
+    requires months { months ≤ 27050000 }
     ensures year { IsGiven (C.years cal.now) result.year }
     ensures moved { let y = C.years cal.now in
         IsMonthsAfter y.list (y.extended year) month (pos months) (y.extended result.year) result.month }
@@ -207,13 +208,14 @@ fn month_from_before<C: Years>(
     months: u32,
     cal: &C,
 ) -> YearMonth<C::YearInfo>
-    requires { IsCountable (C.years cal.now) year month months }
+    requires from { IsCountable (C.years cal.now) year month }
+    requires months { months ≤ 27050000 }
     ensures year { IsGiven (C.years cal.now) result.year }
     ensures moved { let y = C.years cal.now in
         IsMonthsAfter y.list (y.extended year) month (neg_ℤ (pos months)) (y.extended result.year) result.month }
 {
     let number = cal.extended_from_year_info(year) - (months / 12) as i32 - 1;
-    let start = cal.year_info_from_extended(number);
+    let start = year_with_number(number, cal);
     let between = months_between_years(start, year, cal);
     month_after_first(start, between + (u32::from(month) - 1) - months, cal)
 }
@@ -225,7 +227,8 @@ fn months_earlier<C: Years>(
     months: u32,
     cal: &C,
 ) -> YearMonth<C::YearInfo>
-    requires { IsCountable (C.years cal.now) year month months }
+    requires from { IsCountable (C.years cal.now) year month }
+    requires months { months ≤ 27050000 }
     ensures year { IsGiven (C.years cal.now) result.year }
     ensures moved { let y = C.years cal.now in
         IsMonthsAfter y.list (y.extended year) month (neg_ℤ (pos months)) (y.extended result.year) result.month }
@@ -236,7 +239,7 @@ fn months_earlier<C: Years>(
             month: month - months as u8,
         };
     }
-    let before = cal.year_info_from_extended(cal.extended_from_year_info(year) - 1);
+    let before = year_with_number(cal.extended_from_year_info(year) - 1, cal);
     let count = u32::from(cal.months_in_provided_year(before));
     let back = months - u32::from(month);
     if back < count {
@@ -256,7 +259,8 @@ pub(crate) fn months_away<C: Years>(
     direction: Direction,
     cal: &C,
 ) -> YearMonth<C::YearInfo>
-    requires { IsCountable (C.years cal.now) year month months }
+    requires from { IsCountable (C.years cal.now) year month }
+    requires months { months ≤ 27050000 }
     ensures year { IsGiven (C.years cal.now) result.year }
     ensures moved { let y = C.years cal.now in
         IsMonthsAfter y.list (y.extended year) month (toward (is_backward direction) months)

@@ -4,7 +4,7 @@ ghost use Rattle.std.specs.Prelude.{◌≡◌, ◌+◌, ◌≤ℤ◌, pos, neg_�
 ghost use Rattle.cal_arith.specs.Given.{IsGiven};
 
 use crate::steps::Steps;
-use crate::years::YearShapes;
+use crate::years::{YearShapes, Years};
 use std::sync::ledger::Ledger;
 
 /// The year of an extended year from -8000000 to 8000000, at the cost of one tick.
@@ -20,4 +20,14 @@ pub(crate) fn year_by_number<C: YearShapes, L: Ledger>(
     ensures tick { steps.new ≡ steps.old + 1 }
 {
     cal.year_counted(extended_year, steps)
+}
+
+/// The year of an extended year from -8000000 to 8000000.
+pub(crate) fn year_with_number<C: Years>(extended_year: i32, cal: &C) -> C::YearInfo
+    requires from { neg_ℤ (pos 8000000) ≤ℤ extended_year }
+    requires to { extended_year ≤ℤ pos 8000000 }
+    ensures given { IsGiven (C.years cal.now) result }
+    ensures number { (C.years cal.now).extended result ≡ extended_year }
+{
+    cal.year_info_from_extended(extended_year)
 }

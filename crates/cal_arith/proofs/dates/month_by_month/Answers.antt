@@ -6,8 +6,8 @@ use Rattle.cal_arith.proofs.dates.month_by_month.Given.{Over}
 use Rattle.cal_arith.proofs.dates.month_by_month.Goals.{In-months}
 use Rattle.cal_arith.proofs.dates.month_by_month.Goals as goal
 
-pub days_in_provided_month-requires : goal.days_in_provided_month-requires
-days_in_provided_month-requires g c = record { year = c.requires.year; place = first-place _ _ (g.met.C.YearShapes.lawful c.args.cal.now) }
+pub length_of_month-length-requires-clause-place : goal.length_of_month-length-requires-clause-place
+length_of_month-length-requires-clause-place g c = first-place _ _ (g.met.C.YearShapes.lawful c.args.cal.now)
 
 pub months-init : goal.months-init
 months-init g c =
@@ -24,8 +24,8 @@ next g c =
     let next_place = place-next list y c.months.month c.months.rest c.months.invariant.place (omega arith) (omega arith) in
     (next_place.0, omega (arith, next_place.1))
 
-pub days_in_provided_month-requires-in-months : goal.days_in_provided_month-requires-in-months
-days_in_provided_month-requires-in-months g c = record { year = c.requires.year; place = (next g c).0 }
+pub length_of_month-length-requires-in-months-clause-place : goal.length_of_month-length-requires-in-months-clause-place
+length_of_month-length-requires-in-months-clause-place g c = (next g c).0
 
 pub months-preserved : goal.months-preserved
 months-preserved g c =

@@ -1,30 +1,34 @@
-use Rattle.std.proofs.Common.{◌≡◌, ℕ, ◌≤◌, ◌<◌, ◌-◌, ℤ, pos, ◌+ℤ◌, ◌*ℤ◌, ◌≤ℤ◌, ap, arith}
+use Rattle.std.proofs.Common.{◌∙◌, ℕ, ◌≤◌, ℤ, pos, ◌+ℤ◌, to_z, of_z, w32, ap, subst, sym, arith}
+use Rattle.cal_days.specs.Day.{IsRuleYear}
 use Rattle.cal_types.specs.CalendarList.{month_number}
-use Rattle.cal_days.proofs.Signed.{signed}
 use Rattle.cal_types.proofs.ListLemmas.{month_number-next}
-use Rattle.cal_arith.proofs.GivenLemmas.{given_by}
+use Rattle.cal_arith.proofs.MonthSums.{following_rule, left_over, fewer_left, bound_left}
+use Rattle.cal_arith.proofs.WordLemmas.{following_word}
+use Rattle.cal_arith.proofs.months.jumped.Given.{Over}
+use Rattle.cal_arith.proofs.months.jumped.Goals.{After-extended_from_year_info-number}
 use Rattle.cal_arith.proofs.months.jumped.Goals as goal
 
--- the months that are left behind a year
-left : (there next here : ℤ) (length count months : ℕ) → there ≡ next → next ≡ here +ℤ pos length → count ≡ length → count ≤ months → there +ℤ pos (months - count) ≡ here +ℤ pos months
-left there next here length count months e f g h = omega (arith, signed, e, f, g, h)
+rule : (g : Over) (c : After-extended_from_year_info-number g) → IsRuleYear (to_z w32 (of_z w32 (to_z w32 (of_z w32 c.extended_from_year_info-number.result) +ℤ pos 1)))
+rule g c =
+    let word = following_word c.extended_from_year_info-number.result _ c.extended_from_year_info-number.ensures c.requires.year.range in
+    subst IsRuleYear (sym word) (following_rule _ c.args.months c.requires.year.range c.requires.range)
 
-less : (length count months : ℕ) → 12 ≤ length → count ≡ length → count ≤ months → months - count < months
-less length count months least f h = omega (arith, least, f, h)
+pub year_with_number-requires-clause-from : goal.year_with_number-requires-clause-from
+year_with_number-requires-clause-from g c = (rule g (goal.at.year_with_number-requires-clause-from g c).After-extended_from_year_info-number).0
 
--- and their bound
-bounded : (there here : ℤ) (length count months : ℕ) → there ≡ here +ℤ pos 1 → 12 ≤ length → count ≡ length → count ≤ months → (pos 12 *ℤ there +ℤ pos (months - count)) ≤ℤ (pos 12 *ℤ here +ℤ pos months)
-bounded there here length count months e least f h = omega (arith, signed, e, least, f, h)
+pub year_with_number-requires-clause-to : goal.year_with_number-requires-clause-to
+year_with_number-requires-clause-to g c = (rule g (goal.at.year_with_number-requires-clause-to g c).After-extended_from_year_info-number).1
 
 pub returns : goal.returns
 returns g c =
     let years = g.C.YearShapes.years c.args.cal.now in let here = years.extended c.args.year in
-    let count = (g.met.C.YearShapes.lawful c.args.cal.now).count here in
-    let next = given_by years (g.met.C.YearShapes.numbered c.args.cal.now) _ _ (here +ℤ pos 1) c.year_info_from_extended.ensures
-    (omega (arith, signed, c.requires.year.range)) (omega (arith, signed, c.requires.year.range, c.requires.range, count)) in
+    let count = sym c.requires.count in
+    let least = subst (λ (n : ℕ). 12 ≤ n) count ((g.met.C.YearShapes.lawful c.args.cal.now).count here).0 in
+    let next = c.year_with_number.ensures.number ∙ following_word c.extended_from_year_info-number.result here c.extended_from_year_info-number.ensures c.requires.year.range in
+    let joins = ap (λ (y : ℤ). month_number years.list y 1) next ∙ month_number-next years.list here ∙ ap (λ (n : ℕ). month_number years.list here 1 +ℤ pos n) count in
     record {
-      given = next.0;
-      moved = left _ _ _ _ c.args.count c.args.months (ap (λ (y : ℤ). month_number years.list y 1) next.1) (month_number-next years.list here) c.requires.count c.requires.within;
-      fewer = less _ _ _ count.0 c.requires.count c.requires.within;
-      bound = bounded _ here _ c.args.count c.args.months next.1 count.0 c.requires.count c.requires.within;
+      given = c.year_with_number.ensures.given;
+      moved = left_over _ _ c.args.count c.args.months joins c.requires.within;
+      fewer = fewer_left 1 c.args.count c.args.months least (omega arith) c.requires.within;
+      bound = bound_left _ here 1 c.args.count c.args.months next least c.requires.within;
     }

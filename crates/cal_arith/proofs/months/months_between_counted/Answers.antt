@@ -5,7 +5,7 @@ use Rattle.cal_days.proofs.Signed.{signed}
 use Rattle.cal_types.specs.CalendarList.{month_count, month_number}
 use Rattle.cal_types.proofs.ListLemmas.{month_number-next}
 use Rattle.cal_arith.proofs.MonthSteps.{months-between}
-use Rattle.cal_arith.proofs.WordLemmas.{word, next_word, between, from_to, after-low, after-high, before-next, none_more, none_ticked, not_below, summed, summed-next, ticked, unticked, fewer, few_months, next-end, within-end, next_fits}
+use Rattle.cal_arith.proofs.WordLemmas.{word, following_word, between, from_to, after-low, after-high, before-next, none_more, none_ticked, not_below, summed, summed-next, ticked, unticked, fewer, few_months, next-end, within-end, next_fits}
 use Rattle.cal_arith.proofs.months.months_between_counted.Given.{Over}
 use Rattle.cal_arith.proofs.months.months_between_counted.Goals.{After-months_by_number-next, After-from-count}
 use Rattle.cal_arith.proofs.months.months_between_counted.Goals as goal
@@ -117,7 +117,7 @@ below g c here there = omega (arith, signed, here, there, c.if-number-end.true)
 pub years-preserved-then-number-end : goal.years-preserved-then-number-end
 years-preserved-then-number-end g c =
     let at = goal.at.years-preserved-then-number-end g c in let s = at.After-months_by_number-next in
-    let one = next_word (next g s) (rule g s) in
+    let one = following_word _ (next g s) refl (rule g s) in
     record {
       counted = ap (λ (y : ℤ). month_number (g.C.YearShapes.years c.args.cal.now).list y 1) one ∙ counted_on g at.After-from-count (kept g s);
       low = after-low (first g s) (next g s) _ one (low g s);
@@ -128,7 +128,7 @@ years-preserved-then-number-end g c =
 pub years-smaller-then-number-end : goal.years-smaller-then-number-end
 years-smaller-then-number-end g c =
     let at = goal.at.years-smaller-then-number-end g c in let s = at.After-months_by_number-next in
-    let one = next_word (next g s) (rule g s) in
+    let one = following_word _ (next g s) refl (rule g s) in
     fewer (last g s) (to_z w32 c.years.number-bits) _ (before-next _ (next g s) _ one c.months_by_number-next.ensures.within.0)
     (after-high (next g s) _ (last g s) one (below g at.After-from-count (kept g s) (to_end g s)))
 

@@ -23,4 +23,4 @@ returns-clause-next g c =
     let year : z ≡ y -ℤ pos 1 = c.year_by_number-year.ensures.number ∙ previous_word _ _ c.extended_from_year_info.ensures (field-rule _ c.requires.range) in
     let first : c.args.here.month ≡ 1 = omega (arith, c.requires.month.place) in
     let count = (g.met.C.YearShapes.lawful c.args.cal.now).count z in
-    ap (month_number list y) first ∙ month_number-year_end list z y c.months_in_provided_year.result (omega (arith, c.months_in_provided_year.ensures, count)) c.months_in_provided_year.ensures (joined _ _ year)
+    ap (month_number list y) first ∙ month_number-year_end list z y c.months_in_provided_year.result (omega (arith, c.months_in_provided_year.ensures, count)) c.months_in_provided_year.ensures (joined _ _ 1 year)
