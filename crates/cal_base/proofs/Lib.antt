@@ -1,3 +1,4 @@
 pub mod OffsetYears
 pub mod OffsetAnswers
 pub mod OwnAnswers
+pub mod CountedDayLemmas

@@ -1,7 +1,7 @@
-use Rattle.std.proofs.Common.{◌≡◌, ◌∙◌, ◌+◌, ◌-◌, ◌≤◌, ◌-ℤ◌, ◌+ℤ◌, ℕ, ℤ, pos, neg_ℤ, sym, ap, subst, to_z, of_z, w64, arith}
-use Rattle.cal_days.proofs.Signed.{signed}
+use Rattle.std.proofs.Common.{◌≡◌, ◌∙◌, ◌+◌, ◌-◌, ◌-ℤ◌, ◌+ℤ◌, ℕ, ℤ, pos, neg_ℤ, sym, ap, subst, arith}
 use Rattle.cal_days.specs.Day.{IsBetween}
 use Rattle.cal_arith.specs.Given.{IsGiven}
+use Rattle.cal_base.proofs.CountedDayLemmas.{handed, sum}
 use Rattle.cal_types.specs.CalendarList.{HasPlace, days_before, start_of_year}
 use Rattle.cal_east_asian.specs.EastAsianYears.{AreYears}
 use Rattle.cal_east_asian.specs.EastAsianPlaces.{days_of_months}
@@ -18,19 +18,11 @@ days_before_month-requires g c = (c.requires.date.place.0, omega (arith, c.requi
 small : (year_of : ℤ → EastAsianTraditionalYear) → AreYears year_of → (y : EastAsianTraditionalYear) → IsGiven (east_asian_years year_of) y → IsBetween (neg_ℤ (pos 4000000000)) (pos 4000000000) y.new_year
 small year_of law y given = new_year-small year_of law y y.related_iso (sym given.same) given.range
 
--- the year's first day as it is handed over
-handed : (x : ℤ) → IsBetween (neg_ℤ (pos 4000000000)) (pos 4000000000) x → to_z w64 (of_z w64 x) ≡ x
-handed x h = omega (arith, signed, h)
-
 pub counted_day-requires-clause-first : goal.counted_day-requires-clause-first
 counted_day-requires-clause-first g c =
     let s = c.args.self.now.0 in
     let first = small (g.R.Rules.year_of s) (g.met.R.Rules.lawful s) c.args.year c.requires.year in
     subst (IsBetween (neg_ℤ (pos 4000000000)) (pos 4000000000)) (sym (handed _ first)) first
-
--- the sum of the code is the day number
-sum : (first number start : ℤ) (before day : ℕ) → start ≡ first → 1 ≤ day → number ≡ first +ℤ pos before +ℤ pos day -ℤ pos 1 → number ≡ start +ℤ pos (before + (day - 1))
-sum first number start before day e one e2 = omega (arith, signed)
 
 -- the days before the month in a place
 before_place : (year_of : ℤ → EastAsianTraditionalYear) (y : ℤ) (i long : ℕ) → HasPlace (east_asian_list year_of) y i → (n : ℕ) → n + 1 ≡ i → days_before (east_asian_list year_of) y (n + 1) ≡ days_of_months long n → days_before (east_asian_list year_of) y i ≡ days_of_months long (i - 1)

@@ -1,7 +1,7 @@
-use Rattle.std.proofs.Common.{◌≡◌, ◌∙◌, ◌≤◌, ◌-ℤ◌, ◌+ℤ◌, ◌+◌, ◌-◌, ℕ, ℤ, pos, neg_ℤ, sym, ap, subst, to_z, of_z, w64, arith}
-use Rattle.cal_days.proofs.Signed.{signed}
+use Rattle.std.proofs.Common.{◌≡◌, ◌∙◌, ◌-ℤ◌, ◌+ℤ◌, ◌+◌, ◌-◌, ℕ, ℤ, pos, neg_ℤ, sym, ap, subst, arith}
 use Rattle.cal_days.specs.Day.{IsBetween}
 use Rattle.cal_arith.specs.Given.{IsGiven}
+use Rattle.cal_base.proofs.CountedDayLemmas.{handed, sum}
 use Rattle.cal_types.specs.CalendarList.{days_before, start_of_year}
 use Rattle.cal_hijri.specs.HijriList.{hijri_list, hijri_years, Joins, Numbered}
 use Rattle.cal_hijri.specs.HijriMonths.{prior_days}
@@ -21,19 +21,11 @@ days_before_month-requires g c =
 small : (year_of : ℤ → HijriYear) → Numbered year_of → Joins year_of → (y : HijriYear) → IsGiven (hijri_years year_of) y → IsBetween (neg_ℤ (pos 4000000000)) (pos 4000000000) y.first_day
 small year_of numbered joins y given = first_day-small year_of numbered joins y y.extended_year (sym given.same) given.range
 
--- the year's first day as it is handed over
-handed : (x : ℤ) → IsBetween (neg_ℤ (pos 4000000000)) (pos 4000000000) x → to_z w64 (of_z w64 x) ≡ x
-handed x h = omega (arith, signed, h)
-
 pub counted_day-requires-clause-first : goal.counted_day-requires-clause-first
 counted_day-requires-clause-first g c =
     let s = c.args.self.now.0 in
     let first = small (g.R.Rules.year_of s) (g.met.R.Rules.numbered s) (g.met.R.Rules.joins s) c.args.year c.requires.year in
     subst (IsBetween (neg_ℤ (pos 4000000000)) (pos 4000000000)) (sym (handed _ first)) first
-
--- the sum of the code is the day number
-sum : (first number start : ℤ) (before day : ℕ) → start ≡ first → 1 ≤ day → number ≡ first +ℤ pos before +ℤ pos day -ℤ pos 1 → number ≡ start +ℤ pos (before + (day - 1))
-sum first number start before day e one e2 = omega (arith, signed)
 
 pub returns : goal.returns
 returns g c =
