@@ -24,3 +24,9 @@ returns-in-Err-from_fields-8-clause-resolved c = refused_fields _ (calendar.Hijr
 
 pub returns-in-Err-from_fields-9-clause-resolved : goal.returns-in-Err-from_fields-9-clause-resolved
 returns-in-Err-from_fields-9-clause-resolved c = refused_fields _ (calendar.HijriUmmAlQura c.in-HijriUmmAlQura.calendar) c.in-Err-from_fields-9.cause (bag_of c.args.fields) c.args.options c.in-HijriUmmAlQura.is c.in-Err-from_fields-9.ensures.resolved
+
+pub returns-in-Ok-from_fields-7-clause-resolved : goal.returns-in-Ok-from_fields-7-clause-resolved
+returns-in-Ok-from_fields-7-clause-resolved c = resolved_date _ (calendar.HijriSimulated c.in-HijriSimulated.calendar) (inner.HijriSimulated c.in-Ok-from_fields-7.date) (bag_of c.args.fields) c.args.options c.in-HijriSimulated.is c.in-Ok-from_fields-7.ensures.resolved
+
+pub returns-in-Ok-from_fields-9-clause-resolved : goal.returns-in-Ok-from_fields-9-clause-resolved
+returns-in-Ok-from_fields-9-clause-resolved c = resolved_date _ (calendar.HijriUmmAlQura c.in-HijriUmmAlQura.calendar) (inner.HijriUmmAlQura c.in-Ok-from_fields-9.date) (bag_of c.args.fields) c.args.options c.in-HijriUmmAlQura.is c.in-Ok-from_fields-9.ensures.resolved
