@@ -4,11 +4,13 @@ use super::*;
 use EthiopianEraStyle::{AmeteAlem, AmeteMihret};
 use TabularAlgorithmEpoch::{Friday, Thursday};
 use TabularAlgorithmLeapYears::{TypeI, TypeII};
+use icu_calendar::east_asian::Rules as EastAsianRules;
+use icu_calendar::hijri::Rules as HijriRules;
 use icu_calendar::{
     AsCalendar, Buddhist, Calendar, ChineseTraditional, Coptic, DateNewError, EastAsianTable,
-    Ethiopian, EthiopianEraStyle, Hebrew, Hijri, HijriTable, Indian, Japanese, KoreanTraditional,
-    Persian, PersianCorrections, Roc, Side, TabularAlgorithmEpoch, TabularAlgorithmLeapYears,
-    YearInput,
+    EastAsianTraditional, Ethiopian, EthiopianEraStyle, Hebrew, Hijri, HijriTable, Indian,
+    Japanese, KoreanTraditional, Persian, PersianCorrections, Roc, Side, TabularAlgorithmEpoch,
+    TabularAlgorithmLeapYears, YearInput,
 };
 use std::cmp::Ordering;
 use test_dates::{day, number_in};
@@ -161,14 +163,23 @@ fn eras_of_buddha_and_of_japan_name_known_dates(rt: HostRuntime) {
     }
 }
 
-/// That dates of days in a tabular Hijri calendar show what is known of them.
+/// That dates of days in a Hijri calendar show what is known of them.
+fn assert_known_in_hijri<R: HijriRules + Copy>(
+    rt: &impl Abort,
+    calendar: Hijri<R>,
+    known: &[(i64, Shown)],
+) {
+    assert_known(rt, calendar, known);
+}
+
+/// The same in a tabular Hijri calendar.
 fn assert_tabular(
     rt: &impl Abort,
     leap_years: TabularAlgorithmLeapYears,
     epoch: TabularAlgorithmEpoch,
     known: &[(i64, Shown)],
 ) {
-    assert_known(rt, Hijri::new_tabular(leap_years, epoch), known);
+    assert_known_in_hijri(rt, Hijri::new_tabular(leap_years, epoch), known);
 }
 
 #[test]
@@ -187,11 +198,8 @@ fn known_days_have_known_hijri_dates(rt: HostRuntime) {
     ];
     assert_tabular(&rt, TypeII, Thursday, &tabular);
     let simulated = [(738750, (1445, "M02", 1, "ah", 1445))];
-    assert_known(
-        &rt,
-        Hijri::new_simulated_mecca(HijriTable::none()),
-        &simulated,
-    );
+    let calendar = Hijri::new_simulated_mecca(HijriTable::none());
+    assert_known_in_hijri(&rt, calendar, &simulated);
 }
 
 /// A day in the four tabular calendars: 1945-11-12 is the 6th of Dhu al-Hijja 1364 from Friday on, as Reingold and
@@ -290,6 +298,11 @@ fn days_of_other_solar_calendars_come_back_from_their_fields(rt: HostRuntime) {
     assert_back(&rt, Persian::new(PersianCorrections::none()));
 }
 
+/// The same of a Hijri calendar.
+fn assert_back_in_hijri<R: HijriRules + Copy>(rt: &impl Abort, calendar: Hijri<R>) {
+    assert_back(rt, calendar);
+}
+
 #[test]
 fn hijri_days_come_back_from_their_fields(rt: HostRuntime) {
     for &(leap_years, epoch) in &[
@@ -298,20 +311,24 @@ fn hijri_days_come_back_from_their_fields(rt: HostRuntime) {
         (TypeI, Friday),
         (TypeI, Thursday),
     ] {
-        assert_back(&rt, Hijri::new_tabular(leap_years, epoch));
+        assert_back_in_hijri(&rt, Hijri::new_tabular(leap_years, epoch));
     }
-    assert_back(&rt, Hijri::new_umm_al_qura(HijriTable::none()));
+    assert_back_in_hijri(&rt, Hijri::new_umm_al_qura(HijriTable::none()));
+}
+
+/// The same of the Chinese or the Korean calendar.
+fn assert_back_in_east_asian<R: EastAsianRules + Copy>(
+    rt: &impl Abort,
+    calendar: EastAsianTraditional<R>,
+) {
+    assert_back(rt, calendar);
 }
 
 #[test]
 fn lunisolar_days_come_back_from_their_fields(rt: HostRuntime) {
     assert_back(&rt, Hebrew);
-    assert_back(
-        &rt,
-        ChineseTraditional::new(EastAsianTable::none(Side::China)),
-    );
-    assert_back(
-        &rt,
-        KoreanTraditional::new(EastAsianTable::none(Side::Korea)),
-    );
+    let china = ChineseTraditional::new(EastAsianTable::none(Side::China));
+    assert_back_in_east_asian(&rt, china);
+    let korea = KoreanTraditional::new(EastAsianTable::none(Side::Korea));
+    assert_back_in_east_asian(&rt, korea);
 }

@@ -15,11 +15,6 @@ fn calendar_in<'a, 't>(date: &'a Date<AnyCalendar<'t>>) -> &'a AnyCalendar<'t> {
     date.calendar()
 }
 
-/// The kind of the calendar of a date of any calendar.
-fn kind_in(date: &Date<AnyCalendar<'_>>) -> AnyCalendarKind {
-    date.calendar().kind()
-}
-
 /// That a date of a calendar is the same one as a date of any calendar, that the calendar comes back from its variant,
 /// and that another variant is handed back.
 fn assert_any<'t, C: IntoAnyCalendar<'t> + Copy>(
@@ -32,8 +27,9 @@ fn assert_any<'t, C: IntoAnyCalendar<'t> + Copy>(
     let (_, month, day_of_month) = parts_in(&date);
     let any = date.to_any();
     assert!(rt; has_parts(&any, 730120, extended_year, month, day_of_month));
-    assert!(rt; kind_in(&any) == kind);
-    assert!(rt; C::from_any_ref(calendar_in(&any)).is_some());
+    let held = calendar_in(&any);
+    assert!(rt; held.kind() == kind);
+    assert!(rt; C::from_any_ref(held).is_some());
     assert_variant(rt, calendar, kind);
 }
 

@@ -2,10 +2,11 @@
 
 use crate::tests::expected::assert_holds;
 use cal_hijri::Rules;
+use icu_calendar::east_asian::Rules as EastAsianRules;
 use icu_calendar::{
-    AnyCalendar, AnyCalendarKind, AsCalendar, Calendar, Date, DateError, EraStartDate, EraYear,
-    Hijri, Japanese, JapaneseEras, LunisolarDateError, Month, RangeError, Ref,
-    TabularAlgorithmEpoch, TabularAlgorithmLeapYears, TinyAsciiStr,
+    AnyCalendar, AnyCalendarKind, AsCalendar, Calendar, Date, DateError, EastAsianTraditional,
+    EraStartDate, EraYear, Hijri, Japanese, JapaneseEras, LunisolarDateError, Month, RangeError,
+    Ref, TabularAlgorithmEpoch, TabularAlgorithmLeapYears, TinyAsciiStr,
 };
 use std::cmp::Ordering;
 use std::fmt::Debug;
@@ -21,6 +22,13 @@ where
         Ok(date) => Some(number_in(&date)),
         Err(_) => None,
     }
+}
+
+/// The day number of a date of the Chinese or the Korean calendar that was made.
+fn day_in_east_asian<R: EastAsianRules, E: Drop>(
+    made: Result<Date<EastAsianTraditional<R>>, E>,
+) -> Option<i64> {
+    day_of(made)
 }
 
 /// The day number of the date that a Hijri calendar makes of a year, a month and a day.
@@ -53,9 +61,13 @@ fn day_made(
 ) -> Option<i64> {
     match calendar {
         AnyCalendar::Buddhist(_) => day_of(Date::try_new_buddhist(year, place, day)),
-        AnyCalendar::Chinese(c) => day_of(Date::try_new_chinese_traditional(year, month, day, *c)),
+        AnyCalendar::Chinese(c) => {
+            day_in_east_asian(Date::try_new_chinese_traditional(year, month, day, *c))
+        }
         AnyCalendar::Coptic(_) => day_of(Date::try_new_coptic(year, place, day)),
-        AnyCalendar::Dangi(c) => day_of(Date::try_new_korean_traditional(year, month, day, *c)),
+        AnyCalendar::Dangi(c) => {
+            day_in_east_asian(Date::try_new_korean_traditional(year, month, day, *c))
+        }
         AnyCalendar::Ethiopian(c) => {
             day_of(Date::try_new_ethiopian(c.era_style(), year, place, day))
         }
@@ -263,63 +275,50 @@ const KINDS: [AnyCalendarKind; 20] = [
     AnyCalendarKind::HijriTabularTypeIThursday,
 ];
 
-/// The month of a date as a constructor takes it.
-fn input_of<A: AsCalendar>(date: &Date<A>) -> Month
+/// The month of a date as a constructor takes it, the year in its era, where it has one, and whether the date comes
+/// after another.
+fn answers_of<A: AsCalendar>(date: &Date<A>, before: &Date<A>) -> (Month, Option<EraYear>, bool)
 where
     A::Calendar: Calendar,
 {
-    date.month().to_input()
+    let comes_after = before.date_cmp(date) == Some(Ordering::Less);
+    (date.month().to_input(), date.year().era(), comes_after)
 }
 
-/// The month of a date of any calendar as a constructor takes it.
-fn month_of(date: &Date<AnyCalendar<'_>>) -> Month {
-    input_of(date)
+/// The same of dates of any calendar. What hands over `AnyCalendar` is dear to prove, so one function asks such dates.
+fn answers_of_any(
+    date: &Date<AnyCalendar<'static>>,
+    before: &Date<AnyCalendar<'static>>,
+) -> (Month, Option<EraYear>, bool) {
+    answers_of(date, before)
 }
 
-/// The year of a date in its era, where it has one.
-fn era_of<A: AsCalendar>(date: &Date<A>) -> Option<EraYear>
-where
-    A::Calendar: Calendar,
-{
-    date.year().era()
-}
-
-/// The day number of the date that a Japanese calendar makes of the parts of a date.
-fn day_of_japanese(date: &Date<AnyCalendar<'_>>, calendar: &Japanese) -> Option<i64> {
-    let (_, place, day) = parts_of(date);
-    let named = era_of(date)?;
-    day_in_era((named.era.as_str(), named.year), place, day, Ref(calendar))
-}
-
-/// The day number of the date that the calendar's own constructor makes of a date's parts.
-fn day_made_again(date: &Date<AnyCalendar<'static>>) -> Option<i64> {
-    let (year, place, day) = parts_of(date);
-    match date.calendar() {
-        AnyCalendar::Japanese(c) | AnyCalendar::JapaneseExtended(c) => day_of_japanese(date, c),
-        other => day_made(other, year, (place, month_of(date)), day),
+/// The day number of the date that a calendar's own constructor makes of a date's parts, its month and its year in an era.
+fn day_made_again(
+    calendar: &AnyCalendar<'static>,
+    (year, place, day): (i32, u8, u8),
+    month: Month,
+    named: Option<EraYear>,
+) -> Option<i64> {
+    match calendar {
+        AnyCalendar::Japanese(c) | AnyCalendar::JapaneseExtended(c) => {
+            let named = named?;
+            day_in_era((named.era.as_str(), named.year), place, day, Ref(c))
+        }
+        other => day_made(other, year, (place, month), day),
     }
-}
-
-/// Whether a date comes before another.
-fn is_before<A: AsCalendar>(date: &Date<A>, other: &Date<A>) -> bool
-where
-    A::Calendar: Calendar,
-{
-    date.date_cmp(other) == Some(Ordering::Less)
-}
-
-/// Whether a date of any calendar comes before another.
-fn comes_before(date: &Date<AnyCalendar<'static>>, other: &Date<AnyCalendar<'static>>) -> bool {
-    is_before(date, other)
 }
 
 /// That each of so many days from one on has a date after that of the day before, which its own constructor makes.
 fn assert_made_again(rt: &impl Abort, kind: AnyCalendarKind, first: i64, count: i64) {
+    let calendar = calendar_of(kind);
     let mut before = date_on(first.saturating_sub(1), kind);
     for number in first..first.saturating_add(count) {
         let date = date_on(number, kind);
-        assert_holds(rt, number, day_made_again(&date) == Some(number));
-        assert_holds(rt, number, comes_before(&before, &date));
+        let (month, named, comes_after) = answers_of_any(&date, &before);
+        let made = day_made_again(&calendar, parts_of(&date), month, named);
+        assert_holds(rt, number, made == Some(number));
+        assert_holds(rt, number, comes_after);
         before = date;
     }
 }
