@@ -52,69 +52,69 @@ where
     }
 }
 
-/// The date of a form with its weekday, or the fault of the form.
-fn print_form<A: AsCalendar, E: fmt::Display + Drop>(
+/// A date with its weekday and the day of its year, behind a number and what it is.
+fn print_in_full<A: AsCalendar>(
     rt: &HostRuntime,
-    day: u8,
-    made: Result<Date<A>, E>,
+    number: u32,
+    what: &str,
+    date: &Date<A>,
 ) -> io::Result<()>
 where
     A::Calendar: Calendar,
 {
-    match made {
-        Ok(date) => println!(rt; "form of 2020-02-{day}: {date:?}, a {:?}", date.weekday()),
-        Err(fault) => println!(rt; "form of 2020-02-{day}: {fault}"),
+    let (day, days) = (date.day_of_year().0, date.days_in_year());
+    println!(rt;
+        "{number} {what}: {date:?}, a {:?}, day {day} of {days}",
+        date.weekday()
+    )
+}
+
+/// The same of a date of any calendar. What hands over `AnyCalendar` is dear to prove, so one function prints such dates.
+fn print_any(
+    rt: &HostRuntime,
+    number: u32,
+    what: &str,
+    date: &Date<AnyCalendar<'static>>,
+) -> io::Result<()> {
+    print_in_full(rt, number, what, date)
+}
+
+/// A date of any calendar, or the fault in its place.
+fn print_any_answer<E: fmt::Display + Drop>(
+    rt: &HostRuntime,
+    number: u32,
+    what: &str,
+    answer: Result<Date<AnyCalendar<'static>>, E>,
+) -> io::Result<()> {
+    match answer {
+        Ok(date) => print_any(rt, number, what, &date),
+        Err(fault) => println!(rt; "{number} {what}: {fault}"),
     }
 }
 
 /// A form that is filled in rightly, and one that isn't.
 fn print_forms(rt: &HostRuntime) -> io::Result<()> {
-    for &day in &[29, 30] {
-        print_form(rt, day, date_of_form(2020, 2, day, GREGORIAN))?;
+    for &day in &[29u8, 30] {
+        let made = date_of_form(2020, 2, day, GREGORIAN);
+        print_any_answer(rt, u32::from(day), "February 2020", made)?;
     }
     Ok(())
-}
-
-/// A day in the calendar that was chosen.
-fn print_same_day<A: AsCalendar>(
-    rt: &HostRuntime,
-    iso: &Date<Iso>,
-    chosen: &Date<A>,
-) -> io::Result<()>
-where
-    A::Calendar: Calendar,
-{
-    let (day, days) = (chosen.day_of_year().0, chosen.days_in_year());
-    println!(rt; "the same day: {iso:?} is {chosen:?}, day {day} of {days}")
 }
 
 /// 2020-02-29 in the Julian calendar.
 fn print_chosen_calendar(rt: &HostRuntime) -> io::Result<()> {
     let iso = Date::from_rata_die(RataDie::new(737484), Iso);
     let julian = in_chosen_calendar(&iso, AnyCalendar::Julian(Julian));
-    print_same_day(rt, &iso, &julian)
-}
-
-/// The date so many months after the first, or why there is none.
-fn print_later<A: AsCalendar, E: fmt::Display + Drop>(
-    rt: &HostRuntime,
-    months: u32,
-    later: Result<Date<A>, E>,
-) -> io::Result<()>
-where
-    A::Calendar: Calendar,
-{
-    match later {
-        Ok(date) => println!(rt; "{months} months after the first: {date:?}"),
-        Err(fault) => println!(rt; "{months} months after the first: {fault}"),
-    }
+    print_date(rt, "day 737484", &iso)?;
+    print_any(rt, 737484, "in the chosen calendar", &julian)
 }
 
 /// One month and two months after 2020-01-31.
 fn print_recurrence(rt: &HostRuntime) -> io::Result<()> {
     for &months in &[1, 2] {
         let first = Date::from_rata_die(RataDie::new(737455), Gregorian);
-        print_later(rt, months, months_later(first.to_any(), months))?;
+        let later = months_later(first.to_any(), months);
+        print_any_answer(rt, months, "months after the first", later)?;
     }
     Ok(())
 }
