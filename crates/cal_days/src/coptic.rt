@@ -19,7 +19,7 @@ const YEARS_BEFORE: i32 = 1001000;
 /// The days of these years.
 const DAYS_BEFORE: i64 = 365615250;
 
-/// The first day of a year from -8009999 to 8009999.
+/// Returns the first day of a year from -8009999 to 8009999.
 #[tactic(auto, using(crate::proofs::Signed::signed))]
 pub fn year_start(year: i32) -> RataDie
     requires { IsShiftedYear year }
@@ -30,7 +30,7 @@ pub fn year_start(year: i32) -> RataDie
     RataDie::new(FIRST_DAY_OF_YEAR_1 + 365 * (i64::from(year) - 1) + fourths)
 }
 
-/// Whether a year has 366 days.
+/// Returns whether a year has 366 days.
 #[tactic(auto, using(crate::proofs::Signed::signed), unfolding(crate::specs::Division::floor_mod))]
 pub fn is_leap_year(year: i32) -> bool
     ensures { IsTrue result ↔ IsTrue (coptic_leap year) }
@@ -38,7 +38,7 @@ pub fn is_leap_year(year: i32) -> bool
     year.rem_euclid(4) == 3
 }
 
-/// The year, and how many of its days have passed, both counted from 0.
+/// Returns the year, and how many of its days have passed, both counted from 0.
 fn counted_year(days: u32) -> (u32, u32)
     requires { days < 731000000 }
     ensures value { coptic_days result.0 + result.1 ≡ days }
@@ -51,7 +51,7 @@ fn counted_year(days: u32) -> (u32, u32)
     (scaled / DAYS_IN_4_YEARS, scaled % DAYS_IN_4_YEARS / 4)
 }
 
-/// The year that contains a valid day, -365242499 to 365242134, and how many days of that year lie before the
+/// Returns the year that contains a valid day, -365242499 to 365242134, and how many days of that year lie before the
 /// day.
 pub fn year_and_day_from_fixed(rd: RataDie) -> (i32, u16)
     requires { IsValidDay rd }
@@ -65,7 +65,7 @@ pub fn year_and_day_from_fixed(rd: RataDie) -> (i32, u16)
     (year as i32 - YEARS_BEFORE + 1, day as u16)
 }
 
-/// The year that contains a valid day, -365242499 to 365242134.
+/// Returns the year that contains a valid day, -365242499 to 365242134.
 pub fn year_from_fixed(rd: RataDie) -> i32
     requires { IsValidDay rd }
     ensures first { coptic_start result ≤ℤ rd }

@@ -13,7 +13,7 @@ const YEARS_IN_METONIC_CYCLE: i32 = 19;
 /// How many days April 19 lies after March 1.
 pub const FROM_MARCH_1_TO_APRIL_19: i64 = 49;
 
-/// The place of a year in the Metonic cycle, from 0.
+/// Returns the place of a year in the Metonic cycle, from 0.
 pub fn year_in_metonic_cycle(year: i32) -> u32
     ensures value { result ≡ metonic_year year }
     ensures bound { result < 19 }
@@ -21,7 +21,7 @@ pub fn year_in_metonic_cycle(year: i32) -> u32
     year.rem_euclid(YEARS_IN_METONIC_CYCLE) as u32
 }
 
-/// The first Sunday after a day, and not on it.
+/// Returns the first Sunday after a day, and not on it.
 pub fn sunday_after(day: i64) -> RataDie
     requires { IsNear day }
     ensures { IsSundayAfter day result }

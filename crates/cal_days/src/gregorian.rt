@@ -26,7 +26,7 @@ const YEARS_BEFORE: i32 = 8400000;
 /// The days of these years.
 const DAYS_BEFORE: i64 = 3068037000;
 
-/// The days of so many years that begin on March 1, counted from one that 400 divides.
+/// Returns the days of so many years that begin on March 1, counted from one that 400 divides.
 fn days_of_march_years(years: u32) -> u64
     requires { years ≤ 17000000 }
     ensures value { result ≡ march_days years }
@@ -36,7 +36,7 @@ fn days_of_march_years(years: u32) -> u64
     365 * u64::from(years) + u64::from(years / 4 - centuries + centuries / 4)
 }
 
-/// March 1 of a year from -8010000 to 8009999.
+/// Returns March 1 of a year from -8010000 to 8009999.
 pub fn march_start(year: i32) -> RataDie
     requires { IsBetween (neg_ℤ (pos 8010000)) (pos 8009999) year }
     ensures { result ≡ first_of_march year }
@@ -45,7 +45,7 @@ pub fn march_start(year: i32) -> RataDie
     RataDie::new(days - DAYS_BEFORE + MARCH_OF_YEAR_0)
 }
 
-/// The first day of a year from -8009999 to 8009999.
+/// Returns the first day of a year from -8009999 to 8009999.
 pub fn year_start(year: i32) -> RataDie
     requires { IsShiftedYear year }
     ensures formula { result ≡ gregorian_start year }
@@ -54,7 +54,7 @@ pub fn year_start(year: i32) -> RataDie
     RataDie::new(march_start(year - 1).to_i64_date() + 306)
 }
 
-/// Whether a year has 366 days.
+/// Returns whether a year has 366 days.
 #[tactic(auto, using(crate::proofs::Signed::signed), unfolding(crate::specs::Division::floor_mod))]
 pub fn is_leap_year(year: i32) -> bool
     ensures { IsTrue result ↔ IsTrue (gregorian_leap year) }
@@ -67,7 +67,7 @@ pub fn is_leap_year(year: i32) -> bool
 /// is negative.
 const VALID_YEARS_BEFORE: i32 = 1000000;
 
-/// How many days a valid day lies after March 1 of the year -1000000.
+/// Returns how many days a valid day lies after March 1 of the year -1000000.
 fn days_since_march(rd: RataDie) -> u32
     requires { IsValidDay rd }
     ensures value { pos result ≡ rd +ℤ pos 365242805 }
@@ -76,7 +76,7 @@ fn days_since_march(rd: RataDie) -> u32
     (rd.to_i64_date() + 365242500 - MARCH_OF_YEAR_0) as u32
 }
 
-/// The year that begins on March 1, and how many of its days have passed, both counted from 0.
+/// Returns the year that begins on March 1, and how many of its days have passed, both counted from 0.
 fn march_year(days: u32) -> (u32, u32)
     requires { days < 730500000 }
     ensures value { march_days result.0 + result.1 ≡ days }
@@ -90,8 +90,8 @@ fn march_year(days: u32) -> (u32, u32)
     (100 * century + in_century / 1461, in_century % 1461 / 4)
 }
 
-/// The year on whose March 1, or after it within a year, a valid day lies, -365242499 to 365242134, and how many
-/// days it lies after that.
+/// Returns the year on whose March 1, or after it within a year, a valid day lies, -365242499 to 365242134, and how
+/// many days it lies after that.
 pub fn march_year_and_day_from_fixed(rd: RataDie) -> (i32, u16)
     requires { IsValidDay rd }
     ensures day { first_of_march result.0 +ℤ pos result.1 ≡ rd }
@@ -103,7 +103,7 @@ pub fn march_year_and_day_from_fixed(rd: RataDie) -> (i32, u16)
     (year as i32 - VALID_YEARS_BEFORE, day as u16)
 }
 
-/// The year that contains a valid day, -365242499 to 365242134.
+/// Returns the year that contains a valid day, -365242499 to 365242134.
 pub fn year_from_fixed(rd: RataDie) -> i32
     requires { IsValidDay rd }
     ensures first { gregorian_start result ≤ℤ rd }
@@ -114,7 +114,7 @@ pub fn year_from_fixed(rd: RataDie) -> i32
     if day >= 306 { year + 1 } else { year }
 }
 
-/// The century of a year; that of the years 1 to 99 is 1.
+/// Returns the century of a year; that of the years 1 to 99 is 1.
 fn century(year: i32) -> i64
     ensures value { result ≡ century_of year }
     ensures range { IsBetween (neg_ℤ (pos 21474836)) (pos 21474837) result }
@@ -122,8 +122,8 @@ fn century(year: i32) -> i64
     i64::from(year.div_euclid(100)) + 1
 }
 
-/// The days from the full moon to April 19, before the moons that would be too late are set right. The moon falls
-/// behind with the leap days that centuries drop, and gains 8 days in 25 centuries.
+/// Returns the days from the full moon to April 19, before the moons that would be too late are set right. The moon
+/// falls behind with the leap days that centuries drop, and gains 8 days in 25 centuries.
 fn shifted_epact(metonic: u32, century: i64) -> u32
     requires year { metonic < 19 }
     requires century { IsBetween (neg_ℤ (pos 21474836)) (pos 21474837) century }
@@ -135,15 +135,15 @@ fn shifted_epact(metonic: u32, century: i64) -> u32
     (i64::from(14 + 11 * metonic) - dropped + gained).rem_euclid(30) as u32
 }
 
-/// Whether the full moon comes a day earlier than its epact says, so that it is on April 18 at the latest, and on no
-/// day twice in 19 years.
+/// Returns whether the full moon comes a day earlier than its epact says, so that it is on April 18 at the latest, and
+/// on no day twice in 19 years.
 fn is_full_moon_earlier(epact: u32, metonic: u32) -> bool
     ensures { result ≡ is_moon_earlier epact metonic }
 {
     epact == 0 || (epact == 1 && metonic > 10)
 }
 
-/// The days from the ecclesiastical full moon to April 19.
+/// Returns the days from the ecclesiastical full moon to April 19.
 fn adjusted_epact(year: i32) -> u32
     ensures value { result ≡ gregorian_epact year }
     ensures bound { result < 31 }
@@ -153,7 +153,7 @@ fn adjusted_epact(year: i32) -> u32
     epact + u32::from(is_full_moon_earlier(epact, metonic))
 }
 
-/// The leap days of the years from 1 to `year`; below year 1, those of the years after it are taken away.
+/// Returns the leap days of the years from 1 to `year`; below year 1, those of the years after it are taken away.
 fn leap_days_through(year: i32) -> i32
     ensures value { result ≡ leap_days_through year }
     ensures range { IsBetween (neg_ℤ (pos 600000000)) (pos 600000000) result }
@@ -161,7 +161,7 @@ fn leap_days_through(year: i32) -> i32
     year.div_euclid(4) - year.div_euclid(100) + year.div_euclid(400)
 }
 
-/// The day number of April 19 of a year.
+/// Returns the day number of April 19 of a year.
 fn april_19(year: i32) -> i64
     ensures value { result ≡ gregorian_april_19 year }
     ensures range { IsBetween (neg_ℤ (pos 800000000000)) (pos 800000000000) result }
@@ -170,8 +170,8 @@ fn april_19(year: i32) -> i64
     days + MARCH_OF_YEAR_0 + FROM_MARCH_1_TO_APRIL_19
 }
 
-/// The day of Easter in a year of the Gregorian calendar: the first Sunday after the ecclesiastical full moon. The
-/// rule is carried on to all years, before the reform of 1582 and below year 1 too.
+/// Returns the day of Easter in a year of the Gregorian calendar: the first Sunday after the ecclesiastical full moon.
+/// The rule is carried on to all years, before the reform of 1582 and below year 1 too.
 ///
 /// The source is Reingold and Dershowitz, Calendrical Calculations, chapter 9.
 pub fn easter(year: i32) -> RataDie

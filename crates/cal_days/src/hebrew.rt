@@ -35,12 +35,12 @@ struct Molad {
     day: u64,
     /// The parts of that day that have passed since noon of the day before.
     part: u64,
-    /// What division by 19 leaves of the months before the year: below 7 where the year before has 13 months,
-    /// and from 12 on where this year has.
+    /// What division by 19 leaves of the months before the year: below 7 if the year before has 13 months,
+    /// and from 12 on if this year has.
     left: u32,
 }
 
-/// The new moon with which a year begins.
+/// Returns the new moon with which a year begins.
 fn molad_of(year: i32) -> Molad
     requires { IsBetween (neg_ℤ (pos 8000001)) (pos 8000001) year }
     ensures day { pos result.day ≡ moon_day year +ℤ pos 3021929485 }
@@ -57,28 +57,29 @@ fn molad_of(year: i32) -> Molad
     }
 }
 
-/// Whether no year starts on a weekday, of which Sunday is 0: on a Sunday, a Wednesday or a Friday.
+/// Returns whether no year starts on a weekday, of which Sunday is 0: on a Sunday, a Wednesday or a Friday.
 fn is_weekday_shunned(weekday: u64) -> bool
     ensures { result ≡ is_shunned weekday }
 {
     weekday == 0 || weekday == 3 || weekday == 5
 }
 
-/// Whether a year that starts on its new moon's day, or the day after, would have 356 days.
+/// Returns whether a year that starts on its new moon's day, or the day after, would have 356 days.
 fn is_too_long(weekday: u64, moon: Molad) -> bool
     ensures { result ≡ has_356_days weekday moon.part moon.left }
 {
     weekday == 2 && moon.part >= 16404 && moon.left < 12
 }
 
-/// Whether the year before a year that starts on its new moon's day would have 382 days.
+/// Returns whether the year before a year that starts on its new moon's day would have 382 days.
 fn is_after_too_short(weekday: u64, moon: Molad) -> bool
     ensures { result ≡ follows_382_days weekday moon.part moon.left }
 {
     weekday == 1 && moon.part >= 23269 && moon.left < 7
 }
 
-/// By how many days a year starts after its new moon. At most one of the reasons holds, on one weekday or another.
+/// Returns by how many days a year starts after its new moon. At most one of the reasons holds, on one weekday or
+/// another.
 fn days_put_off(moon: Molad) -> u64
     ensures { result ≡ postponement (moon.day % 7) moon.part moon.left }
 {
@@ -88,7 +89,7 @@ fn days_put_off(moon: Molad) -> u64
         + u64::from(is_after_too_short(weekday, moon))
 }
 
-/// The first day of a year.
+/// Returns the first day of a year.
 fn first_day(year: i32) -> RataDie
     requires { IsBetween (neg_ℤ (pos 8000001)) (pos 8000001) year }
     ensures { result ≡ hebrew_start year }
@@ -97,7 +98,7 @@ fn first_day(year: i32) -> RataDie
     RataDie::new((moon.day + days_put_off(moon)) as i64 - DAYS_BEFORE)
 }
 
-/// The first day of a year from -8000000 to 8000000.
+/// Returns the first day of a year from -8000000 to 8000000.
 pub fn year_start(year: i32) -> RataDie
     requires { IsRuleYear year }
     ensures formula { result ≡ hebrew_start year }
@@ -106,7 +107,7 @@ pub fn year_start(year: i32) -> RataDie
     first_day(year)
 }
 
-/// How many days a year from -8000000 to 8000000 has: 353, 354 or 355, or as a leap year 383, 384 or 385.
+/// Returns how many days a year from -8000000 to 8000000 has: 353, 354 or 355, or as a leap year 383, 384 or 385.
 pub fn year_length(year: i32) -> u16
     requires { IsRuleYear year }
     ensures value { result ≡ hebrew_year_length year }
@@ -115,7 +116,7 @@ pub fn year_length(year: i32) -> u16
     first_day(year + 1).since(first_day(year)) as u16
 }
 
-/// Whether a year has 13 months.
+/// Returns whether a year has 13 months.
 #[tactic(auto, using(crate::proofs::Signed::signed), unfolding(crate::specs::Division::floor_mod))]
 pub fn is_leap_year(year: i32) -> bool
     ensures { IsTrue result ↔ IsTrue (hebrew_leap year) }
@@ -129,7 +130,7 @@ const VALID_YEARS_BEFORE: i32 = 1378944;
 /// The days of these years, those from the first day of year 1 to day 0, and 400 more.
 const VALID_DAYS_BEFORE: i64 = 505028741;
 
-/// The year that contains a valid day, or the one after it.
+/// Returns the year that contains a valid day, or the one after it.
 fn near_year(rd: RataDie) -> i32
     requires { IsValidDay rd }
     ensures low { hebrew_start (result -ℤ pos 1) ≤ℤ rd }
@@ -152,7 +153,7 @@ pub struct DayInYear {
     pub year_length: u16,
 }
 
-/// A day in a year, whose first day and the next year's are given.
+/// Returns a day in a year, whose first day and the next year's are given.
 fn day_in_year(rd: RataDie, year: i32, first: RataDie, next: RataDie) -> DayInYear
     requires first { first ≡ hebrew_start year }
     requires next { next ≡ hebrew_start (year +ℤ pos 1) }
@@ -169,7 +170,8 @@ fn day_in_year(rd: RataDie, year: i32, first: RataDie, next: RataDie) -> DayInYe
     }
 }
 
-/// The year that contains a valid day, -365242499 to 365242134, with its length, and which day of the year it is.
+/// Returns the year that contains a valid day, -365242499 to 365242134, with its length, and which day of the year it
+/// is.
 pub fn day_in_year_from_fixed(rd: RataDie) -> DayInYear
     requires { IsValidDay rd }
     ensures day { hebrew_start result.year +ℤ pos result.day ≡ rd }
@@ -186,7 +188,7 @@ pub fn day_in_year_from_fixed(rd: RataDie) -> DayInYear
     }
 }
 
-/// The year that contains a valid day, -365242499 to 365242134.
+/// Returns the year that contains a valid day, -365242499 to 365242134.
 pub fn year_from_fixed(rd: RataDie) -> i32
     requires { IsValidDay rd }
     ensures first { hebrew_start result ≤ℤ rd }

@@ -22,7 +22,7 @@ const YEARS_IN_CYCLE: i64 = 30;
 /// Their days, and how many thirtieths of a day a mean year has.
 const DAYS_IN_CYCLE: i64 = 10631;
 
-/// The first day of a tabular year from -8000000 to 8000000, where year 1 starts on `epoch`, which is
+/// Returns the first day of a tabular year from -8000000 to 8000000, where year 1 starts on `epoch`, which is
 /// [`THURSDAY_EPOCH`] or [`FRIDAY_EPOCH`].
 #[tactic(auto, using(crate::proofs::Signed::signed))]
 pub fn year_start(year: i32, epoch: i64) -> RataDie
@@ -37,7 +37,7 @@ pub fn year_start(year: i32, epoch: i64) -> RataDie
     RataDie::new(days_before + epoch)
 }
 
-/// Whether a tabular year has 355 days and not 354.
+/// Returns whether a tabular year has 355 days and not 354.
 #[tactic(auto, using(crate::proofs::Signed::signed), unfolding(crate::specs::Division::floor_mod))]
 pub fn is_leap_year(year: i32) -> bool
     ensures { IsTrue result ↔ IsTrue (islamic_leap year) }
@@ -45,8 +45,8 @@ pub fn is_leap_year(year: i32) -> bool
     (11 * i64::from(year) + 14).rem_euclid(30) < 11
 }
 
-/// The day on which a mean year from -8000000 to 8000000 starts: that of year 1 is [`FRIDAY_EPOCH`]. What is less
-/// than a day is left out, toward year 1.
+/// Returns the day on which a mean year from -8000000 to 8000000 starts: that of year 1 is [`FRIDAY_EPOCH`]. What is
+/// less than a day is left out, toward year 1.
 #[tactic(auto, using(crate::proofs::Signed::signed))]
 pub fn mean_start(year: i32) -> RataDie
     requires { IsRuleYear year }
@@ -57,7 +57,8 @@ pub fn mean_start(year: i32) -> RataDie
     RataDie::new(FRIDAY_EPOCH + scaled / YEARS_IN_CYCLE)
 }
 
-/// The mean year in which so many thirtieths of a day since the start of year 1 are over. A mean year has 10631.
+/// Returns the mean year in which so many thirtieths of a day since the start of year 1 are over. A mean year has
+/// 10631.
 #[tactic(auto, using(crate::proofs::Signed::signed))]
 fn year_of_thirtieths(thirtieths: i64) -> i32
     requires { IsBetween (neg_ℤ (pos 12000000000)) (pos 12000000000) thirtieths }
@@ -66,7 +67,7 @@ fn year_of_thirtieths(thirtieths: i64) -> i32
     thirtieths.div_euclid(DAYS_IN_CYCLE) as i32 + 1
 }
 
-/// The last year whose mean start is on or before a valid day, -365242499 to 365242134.
+/// Returns the last year whose mean start is on or before a valid day, -365242499 to 365242134.
 #[tactic(auto, using(crate::proofs::Signed::signed))]
 pub fn mean_year_from_fixed(rd: RataDie) -> i32
     requires { IsValidDay rd }

@@ -34,7 +34,7 @@ const VALID_YEARS_BEFORE: i32 = 1000000;
 /// The days of these years.
 const VALID_DAYS_BEFORE: i64 = 365250000;
 
-/// The first day of a year from -8000000 to 8000000.
+/// Returns the first day of a year from -8000000 to 8000000.
 #[tactic(auto, using(crate::proofs::Signed::signed))]
 pub fn year_start(year: i32) -> RataDie
     requires { IsRuleYear year }
@@ -45,7 +45,7 @@ pub fn year_start(year: i32) -> RataDie
     RataDie::new(365 * before + before.div_euclid(4) + FIRST_DAY_OF_YEAR_1)
 }
 
-/// Whether a year has 366 days.
+/// Returns whether a year has 366 days.
 #[tactic(auto, using(crate::proofs::Signed::signed), unfolding(crate::specs::Division::floor_mod))]
 pub fn is_leap_year(year: i32) -> bool
     ensures { IsTrue result ↔ IsTrue (julian_leap year) }
@@ -53,7 +53,7 @@ pub fn is_leap_year(year: i32) -> bool
     year.rem_euclid(4) == 0
 }
 
-/// The days of so many years that begin on March 1, counted from one that 4 divides.
+/// Returns the days of so many years that begin on March 1, counted from one that 4 divides.
 fn days_of_march_years(years: u32) -> u64
     requires { years ≤ 17000000 }
     ensures value { result ≡ julian_march_days years }
@@ -62,7 +62,7 @@ fn days_of_march_years(years: u32) -> u64
     u64::from(DAYS_IN_4_YEARS) * u64::from(years) / 4
 }
 
-/// March 1 of a year from -8010000 to 8009999.
+/// Returns March 1 of a year from -8010000 to 8009999.
 pub fn march_start(year: i32) -> RataDie
     requires { IsBetween (neg_ℤ (pos 8010000)) (pos 8009999) year }
     ensures { result ≡ julian_first_of_march year }
@@ -71,7 +71,7 @@ pub fn march_start(year: i32) -> RataDie
     RataDie::new(days - DAYS_BEFORE + MARCH_OF_YEAR_0)
 }
 
-/// How many days a valid day lies after March 1 of the year -1000000.
+/// Returns how many days a valid day lies after March 1 of the year -1000000.
 fn days_since_march(rd: RataDie) -> u32
     requires { IsValidDay rd }
     ensures value { pos result ≡ rd +ℤ pos 365250307 }
@@ -80,7 +80,7 @@ fn days_since_march(rd: RataDie) -> u32
     (rd.to_i64_date() + VALID_DAYS_BEFORE - MARCH_OF_YEAR_0) as u32
 }
 
-/// The year that begins on March 1, and how many of its days have passed, both counted from 0.
+/// Returns the year that begins on March 1, and how many of its days have passed, both counted from 0.
 fn march_year(days: u32) -> (u32, u32)
     requires { days < 730500000 }
     ensures value { julian_march_days result.0 + result.1 ≡ days }
@@ -92,8 +92,8 @@ fn march_year(days: u32) -> (u32, u32)
     (scaled / DAYS_IN_4_YEARS, scaled % DAYS_IN_4_YEARS / 4)
 }
 
-/// The year on whose March 1, or after it within a year, a valid day lies, -365242499 to 365242134, and how many
-/// days it lies after that.
+/// Returns the year on whose March 1, or after it within a year, a valid day lies, -365242499 to 365242134, and how
+/// many days it lies after that.
 pub fn march_year_and_day_from_fixed(rd: RataDie) -> (i32, u16)
     requires { IsValidDay rd }
     ensures day { julian_first_of_march result.0 +ℤ pos result.1 ≡ rd }
@@ -105,7 +105,7 @@ pub fn march_year_and_day_from_fixed(rd: RataDie) -> (i32, u16)
     (year as i32 - VALID_YEARS_BEFORE, day as u16)
 }
 
-/// The year that contains a valid day, -365242499 to 365242134.
+/// Returns the year that contains a valid day, -365242499 to 365242134.
 pub fn year_from_fixed(rd: RataDie) -> i32
     requires { IsValidDay rd }
     ensures first { julian_start result ≤ℤ rd }
@@ -116,7 +116,7 @@ pub fn year_from_fixed(rd: RataDie) -> i32
     if day >= 306 { year + 1 } else { year }
 }
 
-/// The days from the ecclesiastical full moon to April 19.
+/// Returns the days from the ecclesiastical full moon to April 19.
 fn epact(year: i32) -> u32
     ensures value { result ≡ julian_epact year }
     ensures bound { result < 30 }
@@ -124,7 +124,7 @@ fn epact(year: i32) -> u32
     (14 + 11 * year_in_metonic_cycle(year)) % 30
 }
 
-/// The day number of April 19 of a year.
+/// Returns the day number of April 19 of a year.
 fn april_19(year: i32) -> i64
     ensures value { result ≡ julian_april_19 year }
     ensures range { IsBetween (neg_ℤ (pos 800000000000)) (pos 800000000000) result }
@@ -133,8 +133,8 @@ fn april_19(year: i32) -> i64
     days + MARCH_OF_YEAR_0 + FROM_MARCH_1_TO_APRIL_19
 }
 
-/// The day of Easter in a year of the Julian calendar: the first Sunday after the ecclesiastical full moon. The rule
-/// is carried on to all years, below year 1 too.
+/// Returns the day of Easter in a year of the Julian calendar: the first Sunday after the ecclesiastical full moon. The
+/// rule is carried on to all years, below year 1 too.
 ///
 /// The source is Reingold and Dershowitz, Calendrical Calculations, chapter 9.
 pub fn easter(year: i32) -> RataDie

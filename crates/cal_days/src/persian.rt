@@ -25,7 +25,7 @@ const YEARS_BEFORE: i32 = 1023000;
 /// The days of these years.
 const DAYS_BEFORE: i64 = 373643000;
 
-/// The first day of a year from -8000000 to 8000000.
+/// Returns the first day of a year from -8000000 to 8000000.
 #[tactic(auto, using(crate::proofs::Signed::signed))]
 pub fn year_start(year: i32) -> RataDie
     requires { IsRuleYear year }
@@ -37,7 +37,7 @@ pub fn year_start(year: i32) -> RataDie
     RataDie::new(FIRST_DAY_OF_YEAR_1 + 365 * (number - 1) + leap_days)
 }
 
-/// Whether a year from -8000000 to 8000000 has 366 days.
+/// Returns whether a year from -8000000 to 8000000 has 366 days.
 #[tactic(auto, using(crate::proofs::Signed::signed), unfolding(crate::specs::Division::floor_mod))]
 pub fn is_leap_year(year: i32) -> bool
     requires { IsRuleYear year }
@@ -46,7 +46,7 @@ pub fn is_leap_year(year: i32) -> bool
     (25 * year + 11).rem_euclid(33) < 8
 }
 
-/// The year that contains a valid day, -365242499 to 365242134.
+/// Returns the year that contains a valid day, -365242499 to 365242134.
 #[tactic(auto, using(crate::proofs::Signed::signed_casts))]
 pub fn year_from_fixed(rd: RataDie) -> i32
     requires { IsValidDay rd }

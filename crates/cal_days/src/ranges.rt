@@ -42,56 +42,56 @@ pub const MAX_ADDED_MONTHS: u32 = 27040000;
 /// The most days, with seven for a week, that are added: as many months of 31 days, 31 * 27040000.
 pub const MAX_ADDED_DAYS: u32 = 838240000;
 
-/// Whether a day number is that of a valid day: from -365242499 to 365242134.
+/// Returns whether a day number is that of a valid day: from -365242499 to 365242134.
 pub const fn is_valid_day(day: i64) -> bool
     ensures { result ≡ is_valid_day day }
 {
     FIRST_VALID_DAY <= day && day <= LAST_VALID_DAY
 }
 
-/// Whether the fields of a date may name a year: whether it lies from -1040000 to 1040000.
+/// Returns whether the fields of a date may name a year: whether it lies from -1040000 to 1040000.
 pub const fn is_field_year(year: i32) -> bool
     ensures { result ≡ is_field_year year }
 {
     -MAX_FIELD_YEAR <= year && year <= MAX_FIELD_YEAR
 }
 
-/// Whether the year rules are used for a year: whether it lies from -8000000 to 8000000.
+/// Returns whether the year rules are used for a year: whether it lies from -8000000 to 8000000.
 pub const fn is_rule_year(year: i32) -> bool
     ensures { result ≡ is_rule_year year }
 {
     -MAX_RULE_YEAR <= year && year <= MAX_RULE_YEAR
 }
 
-/// Whether constructors take a year: whether it lies from -9999 to 9999.
+/// Returns whether constructors take a year: whether it lies from -9999 to 9999.
 pub const fn is_constructor_year(year: i32) -> bool
     ensures { result ≡ is_constructor_year year }
 {
     -MAX_CONSTRUCTOR_YEAR <= year && year <= MAX_CONSTRUCTOR_YEAR
 }
 
-/// Whether each day of a year is valid in each calendar: whether its extended year lies from -980000 to 980000.
+/// Returns whether each day of a year is valid in each calendar: whether its extended year lies from -980000 to 980000.
 pub const fn is_covered_year(year: i32) -> bool
     ensures { result ≡ is_covered_year year }
 {
     -MAX_COVERED_YEAR <= year && year <= MAX_COVERED_YEAR
 }
 
-/// Whether so many years are added: at most 2080000.
+/// Returns whether so many years are added: at most 2080000.
 pub const fn are_addable_years(count: u32) -> bool
     ensures { result ≡ are_addable_years count }
 {
     count <= MAX_ADDED_YEARS
 }
 
-/// Whether so many months are added: at most 27040000.
+/// Returns whether so many months are added: at most 27040000.
 pub const fn are_addable_months(count: u32) -> bool
     ensures { result ≡ are_addable_months count }
 {
     count <= MAX_ADDED_MONTHS
 }
 
-/// Whether so many days are added, with seven for a week: at most 838240000.
+/// Returns whether so many days are added, with seven for a week: at most 838240000.
 pub const fn are_addable_days(count: u64) -> bool
     ensures { result ≡ are_addable_days count }
 {

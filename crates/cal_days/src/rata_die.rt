@@ -33,7 +33,7 @@ impl Model for RataDie {
 }
 
 impl RataDie {
-    /// The day of a number from -2^55 to 2^55 - 1.
+    /// Returns the day of a number from -2^55 to 2^55 - 1.
     ///
     /// ```
     /// let day = RataDie::new(738946); // 2024-03-01
@@ -46,7 +46,7 @@ impl RataDie {
         RataDie { day: value }
     }
 
-    /// The number of the day.
+    /// Returns the number of the day.
     ///
     /// ```
     /// assert!(rt; RataDie::new(1).to_i64_date() == 1); // 0001-01-01
@@ -58,7 +58,7 @@ impl RataDie {
         self.day
     }
 
-    /// How many days lie from `other` to this day; negative where this day is the earlier one.
+    /// Returns how many days lie from `other` to this day; negative if this day is the earlier one.
     ///
     /// ```
     /// assert!(rt; RataDie::new(738946).since(RataDie::new(738915)) == 31); // from 2024-01-30
@@ -69,7 +69,7 @@ impl RataDie {
         self.day - other.day
     }
 
-    /// The day that lies `days` days later, or earlier where `days` is negative. `None` exactly where its
+    /// Returns the day that lies `days` days later, or earlier if `days` is negative. `None` exactly if its
     /// number isn't from -2^55 to 2^55 - 1.
     ///
     /// ```

@@ -1,4 +1,4 @@
-//! The calendars by the names of CLDR's `ca` key (UTS 35).
+//! The names of calendars in CLDR (UTS 35, the key `ca`).
 
 ghost use Rattle.std.specs.Prelude.{◌≡◌, Some, IfSome};
 ghost use Rattle.cal_errors.specs.Algorithm.{algorithm_name, algorithm_named};
@@ -22,7 +22,7 @@ pub enum CalendarAlgorithm {
     Gregory,
     /// `hebrew`
     Hebrew,
-    /// `islamic`, and its kinds
+    /// `islamic`, alone or with its kind
     Hijri(Option<HijriCalendarAlgorithm>),
     /// `indian`
     Indian,
@@ -50,7 +50,7 @@ pub enum HijriCalendarAlgorithm {
 }
 
 impl CalendarAlgorithm {
-    /// The algorithm's name, such as `gregory` or `islamic-civil`.
+    /// Returns the name of the algorithm, such as `gregory` or `islamic-civil`.
     ///
     /// ```
     /// assert!(rt; CalendarAlgorithm::Gregory.as_str() == "gregory");
@@ -81,7 +81,7 @@ impl CalendarAlgorithm {
         }
     }
 
-    /// The algorithm with this name. None exactly where no algorithm has it.
+    /// Returns the algorithm with this name, or None if no algorithm has it.
     ///
     /// ```
     /// assert!(rt; CalendarAlgorithm::from_name(b"hebrew") == Some(CalendarAlgorithm::Hebrew));

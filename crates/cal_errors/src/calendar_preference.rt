@@ -1,23 +1,22 @@
-//! Which calendar is meant where a caller names none, or names a Hijri calendar without its kind, by CLDR's key `ca`
-//! (UTS 35).
+//! The calendar to use if a caller names none, or names a Hijri calendar without its kind (UTS 35, the key `ca`).
 
 ghost use Rattle.std.specs.Prelude.{◌≡◌};
 ghost use Rattle.cal_errors.specs.Algorithm.{resolved};
 
 use crate::algorithm::{CalendarAlgorithm, HijriCalendarAlgorithm};
 
-/// The calendars that stand in for what a caller leaves open.
+/// The defaults for what a caller leaves open.
 #[derive(Clone, Copy, Debug, PartialEq, Eq)]
 pub struct CalendarPreference {
-    /// The algorithm where none is given.
+    /// The algorithm if none is given.
     pub default_algorithm: CalendarAlgorithm,
-    /// The kind where the algorithm is `islamic` alone.
+    /// The kind if the algorithm is `islamic` alone.
     pub default_hijri_algorithm: HijriCalendarAlgorithm,
 }
 
 impl CalendarPreference {
-    /// The algorithm that is meant: the default where none is given, the default kind for `islamic` alone, and any
-    /// other as it is.
+    /// Returns the algorithm to use: the default if none is given, the default kind for `islamic` alone, and any
+    /// other unchanged.
     ///
     /// ```
     /// let preference = CalendarPreference {

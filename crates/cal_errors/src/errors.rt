@@ -1,79 +1,79 @@
-//! The errors of the calendars, one type for each kind of call.
+//! The errors of the calendars: one type for each kind of call, and the conversions between them.
 
 ghost use Rattle.std.specs.Prelude.{◌≡◌};
 
 use std::fmt;
 use thiserror::Error;
 
-/// An argument is out of its range; `min` and `max` are the least and the greatest that are allowed.
+/// An argument out of its range, `min` to `max`.
 #[derive(Clone, Copy, Debug, PartialEq, Error)]
 #[error(fmt = write_range)]
 pub struct RangeError {
-    /// The argument's name, such as `day`.
+    /// The name of the argument, such as `day`.
     pub field: &'static str,
-    /// The value that was given.
+    /// The given value.
     pub value: i32,
-    /// The least value that is allowed.
+    /// The least allowed value.
     pub min: i32,
-    /// The greatest value that is allowed.
+    /// The greatest allowed value.
     pub max: i32,
 }
 
-/// A date can't be made of an era, a year, a month and a day by number.
+/// The reason why an era, a year, a month and a day, each as a number, make no date.
 #[derive(Clone, Copy, Debug, PartialEq, Error)]
 pub enum DateError {
-    /// A number is out of its range, as in [`RangeError`].
+    /// A number is out of its range, as with [`RangeError`].
     #[error(fmt = write_range)]
     Range {
-        /// The argument's name.
+        /// The name of the argument.
         field: &'static str,
-        /// The value that was given.
+        /// The given value.
         value: i32,
-        /// The least value that is allowed.
+        /// The least allowed value.
         min: i32,
-        /// The greatest value that is allowed.
+        /// The greatest allowed value.
         max: i32,
     },
-    /// The calendar doesn't have the era.
+    /// The calendar has no era with this code.
     #[error("Unknown era")]
     UnknownEra,
 }
 
-/// A date can't be made of a bag of fields.
+/// The reason why a bag of fields makes no date.
 #[derive(Clone, Copy, Debug, PartialEq, Error)]
 pub enum DateFromFieldsError {
-    /// The fields name no whole date.
+    /// Fields are missing: the others name no whole date.
     NotEnoughFields,
-    /// Two fields say the same thing in two ways that exclude each other.
+    /// Two fields name the same thing in ways that exclude each other.
     TooManyFields,
-    /// The year or the date is beyond what the calendars hold.
+    /// The year or the date is out of the range of the calendars.
     Overflow,
-    /// The calendar doesn't have the era.
+    /// The calendar has no era with this code.
     InvalidEra,
-    /// The year in its era and the extended year differ.
+    /// The era year and the extended year name different years.
     InconsistentYear,
     /// The month code isn't `M`, two digits and an optional `L`.
     MonthCodeInvalidSyntax,
-    /// No year of the calendar has the month.
+    /// The month isn't one of the calendar's months, as with [`MonthError::NotInCalendar`].
     MonthNotInCalendar,
-    /// This year doesn't have the month.
+    /// The month doesn't occur in this year.
     MonthNotInYear,
-    /// The month and its place in the year differ.
+    /// The month and the ordinal month name different months.
     InconsistentMonth,
-    /// The place isn't from 1 to the year's count of months.
+    /// The ordinal month isn't from 1 to `max`.
     InvalidOrdinalMonth {
-        /// The year's count of months.
+        /// The number of months of the year.
         max: u8,
     },
-    /// The day isn't from 1 to the month's length.
+    /// The day isn't from 1 to `max`.
     InvalidDay {
-        /// The month's length.
+        /// The length of the month in days.
         max: u8,
     },
 }
 
 impl DateFromFieldsError {
-    /// The text, and the greatest number that is allowed where the text ends in it.
+    /// Returns the text, and the greatest allowed number if the text ends in it.
     fn message(self) -> (&'static str, Option<u8>) {
         match self {
             DateFromFieldsError::NotEnoughFields => ("Not enough fields", None),
@@ -107,81 +107,81 @@ impl fmt::Display for DateFromFieldsError {
     }
 }
 
-/// A duration can't be added to a date.
+/// The reason why a duration can't be added to a date.
 #[derive(Clone, Copy, Debug, PartialEq, Error)]
 pub enum DateAddError {
-    /// The duration or the sum is beyond what the calendars hold.
+    /// The duration or the sum is out of the range of the calendars.
     #[error("Result out of range")]
     Overflow,
-    /// The year that the sum falls into doesn't have the month.
+    /// The month doesn't occur in the year of the sum.
     #[error("The specified month exists in this calendar, but not for this year")]
     MonthNotInYear,
-    /// The month that the sum falls into doesn't have the day.
+    /// The day isn't from 1 to `max`, in the month of the sum.
     #[error("Invalid day for month, max is {max}")]
     InvalidDay {
-        /// The month's length.
+        /// The length of the month in days.
         max: u8,
     },
 }
 
-/// A date can't be made of a year, a month and a day.
+/// The reason why a year, a month and a day make no date.
 #[derive(Clone, Copy, Debug, PartialEq, Error)]
 pub enum DateNewError {
     /// The given year isn't from -9999 to 9999.
     #[error("Invalid year, must be within -9999..=9999")]
     InvalidYear,
-    /// The calendar doesn't have the era.
+    /// The calendar has no era with this code.
     #[error("Unknown era or invalid syntax")]
     InvalidEra,
-    /// No year of the calendar has the month.
+    /// The month isn't one of the calendar's months, as with [`MonthError::NotInCalendar`].
     #[error("The specified month does not exist in this calendar")]
     MonthNotInCalendar,
-    /// This year doesn't have the month.
+    /// The month doesn't occur in this year.
     #[error("The specified month exists in this calendar, but not for this year")]
     MonthNotInYear,
-    /// The day isn't from 1 to the month's length.
+    /// The day isn't from 1 to `max`.
     #[error("Invalid day for month, max is {max}")]
     InvalidDay {
-        /// The month's length.
+        /// The length of the month in days.
         max: u8,
     },
 }
 
-/// A date of a lunisolar calendar can't be made of an extended year, a month and a day.
+/// The reason why an extended year, a month and a day make no date of a lunisolar calendar.
 #[derive(Clone, Copy, Debug, PartialEq, Error)]
 pub enum LunisolarDateError {
-    /// The year isn't from -9999 to 9999.
+    /// The extended year isn't from -9999 to 9999.
     #[error("Invalid year")]
     InvalidYear,
-    /// No year of the calendar has the month.
+    /// The month isn't one of the calendar's months, as with [`MonthError::NotInCalendar`].
     #[error("The specified month does not exist in this calendar")]
     MonthNotInCalendar,
-    /// This year doesn't have the month.
+    /// The month doesn't occur in this year.
     #[error("The specified month exists in this calendar, but not for this year")]
     MonthNotInYear,
-    /// The day isn't from 1 to the month's length.
+    /// The day isn't from 1 to `max`.
     #[error("Invalid day for month, max is {max}")]
     InvalidDay {
-        /// The month's length.
+        /// The length of the month in days.
         max: u8,
     },
 }
 
-/// Two dates of calendars that can't be compared met.
+/// The error of an operation on two dates whose calendars aren't compatible.
 #[derive(Clone, Copy, Debug, PartialEq, Error)]
 #[error("Attempted to interact two `Date`s with different calendars")]
 pub struct MismatchedCalendarError;
 
-/// A text isn't a duration.
+/// The reason why a text is no duration.
 #[derive(Clone, Copy, Debug, PartialEq, Eq)]
 pub enum DateDurationParseError {
-    /// The text isn't an optional minus, `P`, and numbers that are each followed by `Y`, `M`, `W` or `D`.
+    /// The text isn't an optional minus, `P`, and numbers, each followed by `Y`, `M`, `W` or `D`.
     InvalidStructure,
-    /// A part of a time begins, with `T`.
+    /// A part of a time begins with `T`.
     TimeNotSupported,
     /// A unit has no number.
     MissingValue,
-    /// A unit stands twice.
+    /// A unit occurs twice.
     DuplicateUnit,
     /// A number is above the greatest `u32`.
     NumberOverflow,
@@ -189,48 +189,52 @@ pub enum DateDurationParseError {
     PlusNotAllowed,
 }
 
-/// The calendar doesn't have the era.
+/// The error for an era code that the calendar doesn't have.
 #[derive(Clone, Copy, Debug, PartialEq)]
 pub struct UnknownEraError;
 
-/// A text isn't a month code.
+/// The reason why a text is no month code.
 #[derive(Clone, Copy, Debug, PartialEq, Eq)]
 pub enum MonthCodeParseError {
     /// The text isn't `M`, two digits and an optional `L`.
     InvalidSyntax,
 }
 
-/// A month isn't there.
+/// The reason why a year has no such month.
 #[derive(Clone, Copy, Debug, PartialEq)]
 pub enum MonthError {
-    /// No year of the calendar has it.
+    /// The month isn't one of the calendar's months: `M13` in a calendar of twelve months, or `M03L` in the Hebrew
+    /// calendar.
+    ///
+    /// No year has such a month. A leap month that the calendar's rules may place is one of its months, even if no
+    /// year has it yet: [`MonthError::NotInYear`] is the error for it.
     NotInCalendar,
-    /// This year doesn't have it.
+    /// The month is one of the calendar's months, but doesn't occur in this year.
     NotInYear,
 }
 
-/// A month and a day have no reference year, in which a date without a year stands.
+/// The reason why a month and a day have no reference year: the year that is used for a date without one.
 #[derive(Clone, Copy, Debug, PartialEq, Eq)]
 pub enum EcmaReferenceYearError {
-    /// The calendar gives no reference years.
+    /// The calendar has no reference years.
     Unimplemented,
-    /// No year of the calendar has the month.
+    /// The month isn't one of the calendar's months, as with [`MonthError::NotInCalendar`].
     MonthNotInCalendar,
-    /// The leap month has no reference year with so many days; under [`crate::Overflow::Constrain`] the
-    /// plain month of its number stands in.
+    /// No reference year has the leap month with so many days. With `Overflow::Constrain` the plain month of its
+    /// number takes its place.
     UseRegularIfConstrain,
 }
 
-/// Bytes aren't a small ASCII text.
+/// The reason why bytes are no small ASCII text.
 #[derive(Clone, Copy, Debug, PartialEq)]
 pub enum TinyStrError {
-    /// There are more bytes than the text holds.
+    /// There are more bytes than the text can hold.
     TooLong,
     /// A byte is 0 or above 127.
     NonAscii,
 }
 
-/// A table of years isn't accepted.
+/// The first fault of rows that make no table of years.
 #[derive(Clone, Copy, Debug, PartialEq, Eq, Error)]
 #[error("Row {row} of the table breaks its rule on {part}")]
 pub struct TableFault {
@@ -240,41 +244,45 @@ pub struct TableFault {
     pub part: TablePart,
 }
 
-/// What a row of a table of years is tested for, in this order.
+/// A rule for the rows of a table of years. Each row is tested for the rules in the order of the variants.
 #[derive(Clone, Copy, Debug, PartialEq, Eq, Error)]
 pub enum TablePart {
-    /// The row's year is in range and follows the row before.
+    /// Each field of the row is within its range, so that the row names a year.
+    #[error("range")]
+    Range,
+    /// The row's year is within the range of the table, and comes after the year of the row before it: directly after
+    /// it, except in Persian corrections.
     #[error("year")]
     Year,
-    /// The row starts where the year before it ends.
+    /// The row starts on the day after the year before it.
     #[error("join")]
     Join,
-    /// The last row ends where the computed year after it starts.
+    /// The computed year after the last row starts on the day after it.
     #[error("end")]
     End,
-    /// Of each three years in a row one has a leap month.
+    /// One of any three consecutive years has a leap month.
     #[error("leap")]
     Leap,
-    /// The row's year is one that the rule without the table makes a leap year.
+    /// The row's year is a leap year by the rule without the table.
     #[error("rule")]
     Rule,
 }
 
-/// Rows don't lengthen a table.
+/// The reason why rows don't lengthen a table.
 #[derive(Clone, Copy, Debug, PartialEq, Eq, Error)]
 pub enum LengthenFault {
-    /// The rows don't begin with those of the table.
+    /// The rows don't begin with the rows of the table.
     #[error("Row {row} of the table isn't among the new rows in its place")]
     Differs {
-        /// The table's first row, counted from 1, that doesn't stand in its place.
+        /// The first row of the table, counted from 1, that the rows don't have in its place.
         row: usize,
     },
-    /// The rows begin with those of the table, but no table has them.
+    /// The rows begin with the rows of the table, but make no table themselves.
     #[error("{0}")]
     Table(TableFault),
 }
 
-/// The range's fields as they are.
+/// Converts to [`DateError::Range`] with the same fields.
 impl From<RangeError> for DateError {
     ghost use Rattle.cal_errors.specs.declared.errors.DateError.TheVariants.{Range};
 
@@ -296,7 +304,7 @@ impl From<RangeError> for DateError {
     }
 }
 
-/// [`DateError::UnknownEra`].
+/// Converts to [`DateError::UnknownEra`].
 impl From<UnknownEraError> for DateError {
     ghost use Rattle.cal_errors.specs.declared.errors.DateError.TheVariants.{UnknownEra};
 
@@ -307,7 +315,7 @@ impl From<UnknownEraError> for DateError {
     }
 }
 
-/// [`DateNewError::InvalidEra`].
+/// Converts to [`DateNewError::InvalidEra`].
 impl From<UnknownEraError> for DateNewError {
     ghost use Rattle.cal_errors.specs.declared.errors.DateNewError.TheVariants.{InvalidEra};
 
@@ -318,7 +326,7 @@ impl From<UnknownEraError> for DateNewError {
     }
 }
 
-/// [`DateFromFieldsError::InvalidEra`].
+/// Converts to [`DateFromFieldsError::InvalidEra`].
 impl From<UnknownEraError> for DateFromFieldsError {
     ghost use Rattle.cal_errors.specs.declared.errors.DateFromFieldsError.TheVariants.{InvalidEra};
 
@@ -329,7 +337,7 @@ impl From<UnknownEraError> for DateFromFieldsError {
     }
 }
 
-/// [`DateFromFieldsError::MonthCodeInvalidSyntax`].
+/// Converts to [`DateFromFieldsError::MonthCodeInvalidSyntax`].
 impl From<MonthCodeParseError> for DateFromFieldsError {
     ghost use Rattle.cal_errors.specs.declared.errors.DateFromFieldsError.TheVariants.{MonthCodeInvalidSyntax};
 
@@ -340,7 +348,7 @@ impl From<MonthCodeParseError> for DateFromFieldsError {
     }
 }
 
-/// The variant that says the same of the month.
+/// Converts to the variant of the same meaning.
 impl From<MonthError> for DateFromFieldsError {
     ghost use Rattle.cal_errors.specs.Errors.{fields_error_of_month};
 
@@ -354,8 +362,10 @@ impl From<MonthError> for DateFromFieldsError {
     }
 }
 
-/// A calendar without reference years wants the year, so fields without one are too few; a leap month
-/// without a reference year isn't in the year.
+/// Converts to the error of fields without a year.
+///
+/// If the calendar has no reference years, fields are missing: the year. A leap month without a reference year
+/// doesn't occur in the year.
 impl From<EcmaReferenceYearError> for DateFromFieldsError {
     ghost use Rattle.cal_errors.specs.Errors.{fields_error_of_reference_year};
 
@@ -370,7 +380,7 @@ impl From<EcmaReferenceYearError> for DateFromFieldsError {
     }
 }
 
-/// Writes which argument is out of which range.
+/// Writes the name and the value of an argument, and its range.
 fn write_range<W: fmt::Write>(
     field: &str,
     value: &i32,
@@ -384,7 +394,7 @@ fn write_range<W: fmt::Write>(
     )
 }
 
-/// Writes a text, and behind it the greatest number that is allowed where there is one.
+/// Writes a text, followed by the greatest allowed number if there is one.
 fn write_message<W: fmt::Write>(
     text: &str,
     max: Option<u8>,

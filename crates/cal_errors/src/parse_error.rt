@@ -1,4 +1,4 @@
-//! The error of what is read of a text.
+//! The error of reading a date from a text.
 
 ghost use Rattle.std.specs.Prelude.{◌≡◌};
 
@@ -6,20 +6,20 @@ use crate::algorithm::CalendarAlgorithm;
 use crate::errors::RangeError;
 use thiserror::Error;
 
-/// A date can't be read from a text of RFC 9557, or from what was read of one.
+/// The reason why no date can be read from a text in the format of RFC 9557.
 #[derive(Clone, Copy, Debug, PartialEq, Error)]
 pub enum ParseError {
-    /// The text isn't of the form, or its month or its day doesn't exist.
+    /// The text doesn't have the format, or its month or its day doesn't exist.
     #[error("Syntax error in the RFC 9557 string")]
     Syntax,
-    /// There is no date.
+    /// The date is missing.
     #[error("Missing fields")]
     MissingFields,
-    /// No algorithm has the calendar's name.
+    /// No calendar algorithm has the name in the text.
     #[error("Unknown calendar")]
     UnknownCalendar,
-    /// The text is of another calendar than the one that it is read into: the expected calendar, and the one that
-    /// was found.
+    /// The text names another calendar than the date is read in: first the expected calendar, then the one in the
+    /// text.
     #[error("Expected calendar {} but found calendar {}", .0.as_str(), .1.as_str())]
     MismatchedCalendar(CalendarAlgorithm, CalendarAlgorithm),
     /// A year, a month or a day is out of its range.
@@ -27,7 +27,7 @@ pub enum ParseError {
     Range(RangeError),
 }
 
-/// [`ParseError::Range`].
+/// Converts to [`ParseError::Range`].
 impl From<RangeError> for ParseError {
     ghost use Rattle.cal_errors.specs.declared.parse_error.ParseError.TheVariants.{Range};
 

@@ -31,11 +31,11 @@ pub enum AnyCalendarKind {
     Hebrew,
     /// The Indian calendar.
     Indian,
-    /// The tabular Hijri calendar with the leap years of type II, from Friday on.
+    /// The tabular Hijri calendar with leap year rule II and the Friday epoch.
     HijriTabularTypeIIFriday,
-    /// The Hijri calendar as it is simulated for Mecca.
+    /// The simulated Hijri calendar of Mecca.
     HijriSimulatedMecca,
-    /// The tabular Hijri calendar with the leap years of type II, from Thursday on.
+    /// The tabular Hijri calendar with leap year rule II and the Thursday epoch.
     HijriTabularTypeIIThursday,
     /// The Hijri calendar of Umm al-Qura.
     HijriUmmAlQura,
@@ -43,7 +43,7 @@ pub enum AnyCalendarKind {
     Iso,
     /// The Japanese calendar.
     Japanese,
-    /// The Japanese calendar, by the name that CLDR once gave its older eras.
+    /// The Japanese calendar, by CLDR's former name for it with older eras.
     JapaneseExtended,
     /// The Julian calendar.
     Julian,
@@ -51,20 +51,20 @@ pub enum AnyCalendarKind {
     Persian,
     /// The ROC calendar.
     Roc,
-    /// The tabular Hijri calendar with the leap years of type I, from Friday on.
+    /// The tabular Hijri calendar with leap year rule I and the Friday epoch.
     HijriTabularTypeIFriday,
-    /// The tabular Hijri calendar with the leap years of type I, from Thursday on.
+    /// The tabular Hijri calendar with leap year rule I and the Thursday epoch.
     HijriTabularTypeIThursday,
 }
 
-/// Whether a text is a name: of its length, and with its bytes.
+/// Returns whether a text is a name.
 fn is_name(bytes: &[u8], name: &[u8]) -> bool
     ensures { result ≡ is_code bytes.now name.now }
 {
     bytes == name
 }
 
-/// A kind, where a word is its name.
+/// Returns a kind if a word is its name.
 fn kind_if(word: &[u8], name: &[u8], kind: AnyCalendarKind) -> Option<AnyCalendarKind>
     ensures { result ≡ kind_if word.now (Some (name.now, kind)) }
 {
@@ -75,8 +75,8 @@ fn kind_if(word: &[u8], name: &[u8], kind: AnyCalendarKind) -> Option<AnyCalenda
     }
 }
 
-/// The place in the table of names that a word would have, by its length, its first byte and its last. The names have
-/// places of their own, so that a word is compared with one of them alone, whichever it is.
+/// Returns the place of a word in the table of names, from its length, its first byte and its last. Every name has a
+/// place of its own, so a word is compared with one name only.
 fn place_of(word: &[u8]) -> usize
     requires { 0 < length word.now }
     ensures { result ≡ place_of word.now }
@@ -86,7 +86,7 @@ fn place_of(word: &[u8]) -> usize
     (2 * (word.len() % 16) + first + last) % 64
 }
 
-/// The name that has a place in the table of names, and its kind.
+/// Returns the name at a place in the table of names, and its kind.
 fn named_at(place: usize) -> Option<(&'static [u8], AnyCalendarKind)>
     ensures { option_map (λ named. (named.0.now, named.1)) result ≡ named_at place }
 {
@@ -122,12 +122,14 @@ fn named_at(place: usize) -> Option<(&'static [u8], AnyCalendarKind)>
 }
 
 impl AnyCalendarKind {
-    /// The kind of a program name, which is that of CLDR (UTS 35) where CLDR has one.
+    /// Returns the kind with a program name. Names that CLDR has are CLDR's (UTS 35).
     ///
     /// The names are `iso`, `gregorian`, `julian`, `buddhist`, `chinese`, `coptic`, `dangi`, `ethiopic`, `ethioaa`,
     /// `hebrew`, `indian`, `islamic-civil`, `islamic-simulated`, `islamic-tbla`, `islamic-umalqura`, `japanese`,
-    /// `persian`, `roc`, `islamic-type1-friday` and `islamic-type1-thursday`. None for any other text:
+    /// `persian`, `roc`, `islamic-type1-friday` and `islamic-type1-thursday`. Returns `None` for any other text.
     /// `JapaneseExtended` has no name.
+    ///
+    /// # Examples
     ///
     /// ```
     /// let kind = AnyCalendarKind::from_program_name(b"hebrew")?;
@@ -146,7 +148,7 @@ impl AnyCalendarKind {
     }
 }
 
-/// The name of the variant that a kind is.
+/// Returns the name of the variant.
 macro_rules! variant_name {
     ($kind:ident, $($variant:ident),*) => {
         match $kind {
@@ -155,7 +157,7 @@ macro_rules! variant_name {
     };
 }
 
-/// The name of the variant, as `HijriUmmAlQura`.
+/// Writes the name of the variant, such as `HijriUmmAlQura`.
 impl fmt::Display for AnyCalendarKind {
     ghost use Rattle.std.specs.Prelude.{Some};
     ghost use Rattle.cal_kinds.specs.KindNames.{variant_name};
@@ -190,8 +192,8 @@ impl fmt::Display for AnyCalendarKind {
     }
 }
 
-/// The kind that CLDR's name of a calendar stands for (UTS 35, the key `ca`). An error exactly for `islamic` and
-/// `islamic-rgsa`, which stand for no kind. The tabular calendars with the leap years of type I have no name of CLDR's.
+/// Converts CLDR's name of a calendar to its kind (UTS 35, the key `ca`). Fails exactly for `islamic` and `islamic-rgsa`,
+/// which stand for no kind. CLDR has no name for the tabular calendars with leap year rule I.
 impl TryFrom<CalendarAlgorithm> for AnyCalendarKind {
     type Error = ();
 
@@ -217,7 +219,7 @@ impl TryFrom<CalendarAlgorithm> for AnyCalendarKind {
     }
 }
 
-/// The kind that a kind of CLDR's `islamic` stands for.
+/// Converts CLDR's name of a Hijri calendar to its kind.
 fn kind_of_hijri(kind: Option<HijriCalendarAlgorithm>) -> Result<AnyCalendarKind, ()>
     ensures { result ≡ ok_or (kind_of_algorithm (Hijri kind)) tt }
 {

@@ -1,4 +1,4 @@
-//! The kinds of calendars, by their names.
+//! The kinds of calendars, and their names: [`AnyCalendarKind`].
 #![tactic(auto)]
 
 mod any_calendar_kind;

@@ -2,16 +2,17 @@
 use Rattle.std.specs.Prelude.{◌≡◌, ℕ, ◌+◌, ◌<◌, Bool, false, List, IsTrue}
 use Rattle.cal_types.specs.Rows.{IsRow}
 use Rattle.cal_errors.specs.declared.errors.TablePart.{TablePart}
-use Rattle.cal_errors.specs.declared.errors.TablePart.TheVariants.{Year, Join, End, Leap, Rule}
+use Rattle.cal_errors.specs.declared.errors.TablePart.TheVariants.{Range, Year, Join, End, Leap, Rule}
 use Rattle.cal_errors.specs.declared.errors.TableFault.{TableFault}
 
 -- the order of the parts
 abbrev pub rank : TablePart → ℕ
-rank Year = 0
-rank Join = 1
-rank End = 2
-rank Leap = 3
-rank Rule = 4
+rank Range = 0
+rank Year = 1
+rank Join = 2
+rank End = 3
+rank Leap = 4
+rank Rule = 5
 
 -- a row meets each part; `meets` tells which parts it meets
 abbrev pub MeetsAll : (TablePart → Bool) → Type 0

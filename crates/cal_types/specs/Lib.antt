@@ -34,6 +34,7 @@ pub mod SameYear
 pub mod Rows
 pub mod Faults
 pub mod RowTests
+pub mod RowFaults
 pub mod Lengthening
 pub mod laws
 pub mod Spans

@@ -5,3 +5,4 @@ pub mod RowTestLaws
 pub mod FaultLaws
 pub mod LengtheningLaws
 pub mod YearArguments
+pub mod RowFaultLaws

@@ -1,18 +1,19 @@
-//! Days and weeks by their number in a month or a year.
+//! The numbers of days and weeks within a month or a year.
 
-/// The day's number in its month, from 1.
+/// The number of a day in its month, from 1.
 #[derive(Clone, Copy, Debug, PartialEq)]
 pub struct DayOfMonth(pub u8);
 
-/// The day's number in its year, from 1.
+/// The number of a day in its year, from 1.
 #[derive(Clone, Copy, Debug, PartialEq)]
 pub struct DayOfYear(pub u16);
 
-/// Which of the days of its weekday in the month a day is, from 1: the first Monday, the second Monday.
+/// The number of a day among the days of its weekday in the month, from 1: the first Monday, the second Monday.
 #[derive(Clone, Copy, Debug, PartialEq)]
 pub struct DayOfWeekInMonth(pub u8);
 
-/// 1 for the first seven days of the month, 2 for the next seven, and so on. The day 0, which no month has, gives 1.
+/// Returns 1 for the first seven days of the month, 2 for the next seven, and so on. For the day 0, which no month has,
+/// it is 1.
 impl From<DayOfMonth> for DayOfWeekInMonth {
     ghost use Rattle.std.specs.Prelude.{◌≡◌};
     ghost use Rattle.cal_types.specs.WeekNumber.{week_of_day};
@@ -24,11 +25,11 @@ impl From<DayOfMonth> for DayOfWeekInMonth {
     }
 }
 
-/// A week of ISO 8601: its number in the year that its Thursday is in.
+/// A week of ISO 8601: its number, and the ISO year that its Thursday is in.
 #[derive(Clone, Copy, Debug, PartialEq)]
 pub struct IsoWeekOfYear {
-    /// The week's number in its year, from 1; week 1 has the year's first Thursday.
+    /// The number of the week in its year, from 1. Week 1 contains the first Thursday of the year.
     pub week_number: u8,
-    /// The ISO year of the week's Thursday.
+    /// The ISO year that the Thursday of the week is in.
     pub iso_year: i32,
 }

@@ -20,23 +20,25 @@ pub enum DateDurationUnit {
     Days,
 }
 
-/// A signed duration: the parts have no sign, and `is_negative` turns the whole back in time.
+/// A signed duration. Its parts have no sign; `is_negative` turns the whole back in time.
 #[derive(Clone, Copy, Debug, PartialEq, Eq, Default)]
 pub struct DateDuration {
-    /// Whether the duration goes back in time; a duration of zero may have either sign.
+    /// Whether the duration leads back in time. An empty duration may have either sign.
     pub is_negative: bool,
-    /// The count of years.
+    /// The number of years.
     pub years: u32,
-    /// The count of months.
+    /// The number of months.
     pub months: u32,
-    /// The count of weeks.
+    /// The number of weeks of seven days.
     pub weeks: u32,
-    /// The count of days.
+    /// The number of days.
     pub days: u32,
 }
 
 impl DateDuration {
-    /// So many years; fewer than none go back in time.
+    /// Creates a duration of years. A negative number leads back in time.
+    ///
+    /// # Examples
     ///
     /// ```
     /// assert!(rt; DateDuration::for_years(-2).is_negative);
@@ -51,7 +53,9 @@ impl DateDuration {
         }
     }
 
-    /// So many months; fewer than none go back in time.
+    /// Creates a duration of months. A negative number leads back in time.
+    ///
+    /// # Examples
     ///
     /// ```
     /// assert!(rt; DateDuration::for_months(18).months == 18);
@@ -66,7 +70,9 @@ impl DateDuration {
         }
     }
 
-    /// So many weeks of seven days; fewer than none go back in time.
+    /// Creates a duration of weeks of seven days. A negative number leads back in time.
+    ///
+    /// # Examples
     ///
     /// ```
     /// assert!(rt; DateDuration::for_weeks(2).weeks == 2);
@@ -81,7 +87,9 @@ impl DateDuration {
         }
     }
 
-    /// So many days; fewer than none go back in time.
+    /// Creates a duration of days. A negative number leads back in time.
+    ///
+    /// # Examples
     ///
     /// ```
     /// assert!(rt; DateDuration::for_days(-7).days == 7);
@@ -96,7 +104,13 @@ impl DateDuration {
         }
     }
 
-    /// The duration that a text names, as [`DateDuration::try_from_utf8`].
+    /// Reads a duration from a text, as [`DateDuration::try_from_utf8`].
+    ///
+    /// # Errors
+    ///
+    /// - The errors of [`DateDuration::try_from_utf8`], in the same order.
+    ///
+    /// # Examples
     ///
     /// ```
     /// assert!(rt; DateDuration::try_from_str("P1Y2M")?.months == 2);
@@ -107,21 +121,24 @@ impl DateDuration {
         DateDuration::try_from_utf8(s.as_bytes())
     }
 
-    /// The duration that a text names: an optional `-`, `P`, and one part or more. A part is a number and the letter
-    /// `Y`, `M`, `W` or `D` of its unit; each unit may come once, in any order. `-P0D` is a negative zero.
+    /// Reads a duration from a text: an optional `-`, `P`, and one part or more. A part is a number and the letter `Y`,
+    /// `M`, `W` or `D` of its unit. Each unit may come once, in any order. `-P0D` is a negative zero. (ISO 8601-2,
+    /// durations of dates)
     ///
-    /// The first thing that is wrong, from left to right, is answered:
+    /// # Errors
     ///
-    /// - [`DateDurationParseError::PlusNotAllowed`]: the text begins with `+`.
-    /// - [`DateDurationParseError::InvalidStructure`]: `P` and something behind it don't follow, or a number is
+    /// The first thing that is wrong, from left to right:
+    ///
+    /// - [`DateDurationParseError::PlusNotAllowed`] if the text begins with `+`.
+    /// - [`DateDurationParseError::InvalidStructure`] if `P` and something behind it don't follow, or a number is
     ///   followed by no unit's letter.
-    /// - [`DateDurationParseError::TimeNotSupported`]: a `T` stands where a part begins.
-    /// - [`DateDurationParseError::MissingValue`]: a part begins with no digit.
-    /// - [`DateDurationParseError::NumberOverflow`]: a number is above the greatest `u64`, which is seen before its
+    /// - [`DateDurationParseError::TimeNotSupported`] if a `T` stands where a part begins.
+    /// - [`DateDurationParseError::MissingValue`] if a part begins with no digit.
+    /// - [`DateDurationParseError::NumberOverflow`] if a number is above the greatest `u64`, which is seen before its
     ///   unit, or above the greatest `u32`, which is seen after it.
-    /// - [`DateDurationParseError::DuplicateUnit`]: a unit came before.
+    /// - [`DateDurationParseError::DuplicateUnit`] if a unit came before.
     ///
-    /// This is the date part of the durations of ISO 8601-2.
+    /// # Examples
     ///
     /// ```
     /// let back = DateDuration::try_from_utf8(b"-P3W")?;

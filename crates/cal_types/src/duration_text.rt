@@ -1,4 +1,4 @@
-//! Durations as texts: an optional minus, `P`, and numbers that are each followed by their unit's letter.
+//! Reads durations from texts: an optional minus, `P`, and numbers, each followed by the letter of its unit.
 
 ghost use Rattle.std.specs.Prelude.{◌≡◌, ◌<◌, ◌∷◌, length, true, not, Some, None, IfSome, nat_lt, if◌then◌else◌};
 ghost use Rattle.std.specs.Char.{is_ascii_digit};
@@ -10,7 +10,7 @@ use crate::duration::{DateDuration, DateDurationUnit};
 use cal_errors::DateDurationParseError;
 use std::str;
 
-/// The number of each unit that was read.
+/// The number read for each unit.
 #[derive(Clone, Copy, Default)]
 pub(crate) struct Amounts {
     years: Option<u32>,
@@ -23,7 +23,7 @@ impl Amounts {
     ghost use Rattle.std.specs.Prelude.{[]};
     ghost use Rattle.cal_types.specs.DurationText.{amount_fault, amount_put, digits_fault, unit_at};
 
-    /// The numbers of a text's parts, or what is wrong with the first part that is wrong.
+    /// Returns the numbers of the parts of a text, or the error of the first invalid part.
     fn read(text: &[u8]) -> Result<Amounts, DateDurationParseError>
         ensures { let parts = parts_of text.now in
             result ≡ unless_fault (first_fault [] parts) (amounts_of parts) }
@@ -38,7 +38,7 @@ impl Amounts {
         Ok(amounts)
     }
 
-    /// The numbers with those of one more part: its digits, and the byte that ends them unless the text does.
+    /// Adds a part: its digits, and the byte after them unless the text ends.
     fn with_part(self, digits: &[u8], end: Option<u8>) -> Result<Amounts, DateDurationParseError>
         requires { list_all is_ascii_digit digits.now ≡ true }
         ensures { result ≡ unless_fault (digits_fault self digits.now end)
@@ -53,7 +53,7 @@ impl Amounts {
         }
     }
 
-    /// The numbers with that of one more unit.
+    /// Adds the number of a unit.
     fn with_amount(
         self,
         number: u64,
@@ -73,7 +73,7 @@ impl Amounts {
         }
     }
 
-    /// The number of a unit.
+    /// Returns the number of a unit.
     fn amount(self, unit: DateDurationUnit) -> Option<u32>
         ensures { result ≡ amount unit self }
     {
@@ -85,7 +85,7 @@ impl Amounts {
         }
     }
 
-    /// The numbers with this one for a unit.
+    /// Sets the number of a unit.
     fn put(self, unit: DateDurationUnit, number: u32) -> Amounts
         ensures { result ≡ amount_put self number (Some unit) }
     {
@@ -110,7 +110,7 @@ impl Amounts {
         }
     }
 
-    /// The duration of so much of each unit, with a sign.
+    /// Returns the duration of these numbers, with a sign.
     fn duration(self, is_negative: bool) -> DateDuration
         ensures { result ≡ duration_with is_negative self }
     {
@@ -124,7 +124,7 @@ impl Amounts {
     }
 }
 
-/// The duration that a text names behind its sign.
+/// Reads a duration from a text after its sign.
 pub(crate) fn read(is_negative: bool, text: &[u8]) -> Result<DateDuration, DateDurationParseError>
     ensures { result ≡ read_behind_sign is_negative text.now }
 {
@@ -137,7 +137,7 @@ pub(crate) fn read(is_negative: bool, text: &[u8]) -> Result<DateDuration, DateD
     read_parts(is_negative, parts)
 }
 
-/// The duration that the parts of a text name.
+/// Reads a duration from the parts of a text.
 fn read_parts(is_negative: bool, text: &[u8]) -> Result<DateDuration, DateDurationParseError>
     ensures { result ≡ parts_read is_negative (parts_of text.now) }
 {
@@ -145,8 +145,8 @@ fn read_parts(is_negative: bool, text: &[u8]) -> Result<DateDuration, DateDurati
     Ok(amounts.duration(is_negative))
 }
 
-/// The first part of a text that isn't empty: its digits, the byte that ends them unless the text does, and what
-/// follows.
+/// Splits off the first part of a text that isn't empty: returns its digits, the byte after them unless the text ends,
+/// and the rest.
 fn first_part(text: &[u8]) -> (&[u8], Option<u8>, &[u8])
     requires { 0 < length text.now }
     ensures parts { parts_of text.now
@@ -160,7 +160,7 @@ fn first_part(text: &[u8]) -> (&[u8], Option<u8>, &[u8])
     }
 }
 
-/// What is wrong with a part that begins with no digit, by the byte that ends it.
+/// Returns the error of a part without digits, by the byte that ends it.
 fn missing_digits(end: Option<u8>) -> DateDurationParseError
     ensures { result ≡ digits_missed end }
 {
@@ -170,7 +170,7 @@ fn missing_digits(end: Option<u8>) -> DateDurationParseError
     }
 }
 
-/// Where the first byte stands that isn't a digit.
+/// Returns the index of the first byte that isn't a digit.
 fn first_end(text: &[u8]) -> Option<usize>
     ensures value { result ≡ position (λ byte. not (is_ascii_digit byte)) text.now }
     ensures within { IfSome result (λ i. i < length text.now) }
@@ -178,7 +178,7 @@ fn first_end(text: &[u8]) -> Option<usize>
     text.iter().position(|byte| !byte.is_ascii_digit())
 }
 
-/// The unit whose letter ends a part, if it is one.
+/// Returns the unit of the letter that ends a part.
 fn unit_at(end: Option<u8>) -> Option<DateDurationUnit>
     ensures { result ≡ unit_at end }
 {
@@ -191,7 +191,7 @@ fn unit_at(end: Option<u8>) -> Option<DateDurationUnit>
     }
 }
 
-/// The number that digits write, or None where it is above the greatest `u64`.
+/// Returns the number of digits, or None if it is above the greatest `u64`.
 fn number(digits: &[u8]) -> Option<u64>
     requires digits { list_all is_ascii_digit digits.now ≡ true }
     requires some { 0 < length digits.now }

@@ -1,4 +1,4 @@
-//! A bag of fields that may name a date, as the property bags of ECMAScript Temporal.
+//! A bag of fields for a date, like the property bags of ECMAScript Temporal.
 
 ghost use Rattle.std.specs.Prelude.{◌≡◌};
 ghost use Rattle.cal_types.specs.Bag.{bag_of, year_month_day};
@@ -6,27 +6,29 @@ ghost use Rattle.cal_types.specs.MonthParts.{month_parts};
 
 use crate::month::Month;
 
-/// Some of the fields of a date; a calendar decides whether they name one.
+/// Some fields of a date. A calendar decides whether they name a date.
 #[derive(Clone, Copy, Debug, PartialEq, Default)]
 pub struct DateFields<'a> {
-    /// The era's code, in bytes; it goes with `era_year`.
+    /// The era's code, in bytes. It needs `era_year`.
     pub era: Option<&'a [u8]>,
-    /// The year in the era; it goes with `era`.
+    /// The era year. It needs `era`.
     pub era_year: Option<i32>,
     /// The extended year, which numbers a calendar's years without eras.
     pub extended_year: Option<i32>,
-    /// The month by number; it excludes `month_code`.
+    /// The month by its number. It excludes `month_code`.
     pub month: Option<Month>,
-    /// The month by its code, such as `M05L`, in bytes; it excludes `month`.
+    /// The month by its code, such as `M05L`, in bytes. It excludes `month`.
     pub month_code: Option<&'a [u8]>,
-    /// The month by its place in the year, from 1.
+    /// The ordinal month: its number in the year, from 1.
     pub ordinal_month: Option<u8>,
     /// The day of the month, from 1.
     pub day: Option<u8>,
 }
 
 impl DateFields<'_> {
-    /// The plain form: an extended year, a month and a day, and nothing else.
+    /// Creates a bag with an extended year, a month and a day only.
+    ///
+    /// # Examples
     ///
     /// ```
     /// let fields = DateFields::from_year_month_day(2024, Month::new(2), 30);

@@ -1,10 +1,10 @@
-//! Years that lack a month or a day.
+//! How to handle years without a month or day.
 
-/// What becomes of a month or a day in a year that lacks it.
+/// How to handle a month or day that doesn't exist in a year.
 #[derive(Clone, Copy, Debug, PartialEq, Eq)]
 pub enum Leaping {
-    /// The year is passed over.
+    /// Skip the year.
     Exact,
-    /// The month's stand-in, or the month's last day, takes its place.
+    /// Use the month that stands in for it, or the month's last day.
     Constrain,
 }

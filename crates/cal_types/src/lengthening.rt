@@ -1,4 +1,4 @@
-//! Rows that lengthen a table.
+//! Comparison of the rows of two tables.
 
 ghost use Rattle.std.specs.Prelude.{◌≡◌, MatchOption, slice_get};
 ghost use Rattle.cal_types.specs.Lengthening.{BeginWith, IsFirstDifference, is_like, stands_in};
@@ -10,12 +10,13 @@ pub trait Row: Copy {
     /// Whether two rows are equal.
     ghost equal: { Self → Self → Bool };
 
-    /// Whether another row is equal to this one.
+    /// Returns `true` if another row is equal to this one.
     fn is_equal_row(self, other: Self) -> bool
         ensures { result ≡ equal self other };
 }
 
-/// The first of some rows, counted from 1, to which others have none equal in its place.
+/// Returns the number, from 1, of the first row in `old` that has no equal row in the same place of `rows`. Returns
+/// `None` exactly if `rows` begin with `old`.
 pub fn first_difference<Y: Row>(old: &[Y], rows: &[Y]) -> Option<usize>
     ensures { MatchOption result (BeginWith Y.equal old.now rows.now) (IsFirstDifference Y.equal old.now rows.now) }
 {
@@ -27,14 +28,14 @@ pub fn first_difference<Y: Row>(old: &[Y], rows: &[Y]) -> Option<usize>
     None
 }
 
-/// Whether rows have one equal to this in a place, counted from 0.
+/// Whether rows have an equal row at an index.
 fn has_row<Y: Row>(rows: &[Y], index: usize, row: Y) -> bool
     ensures { result ≡ stands_in Y.equal rows.now index row }
 {
     is_like(row_at(rows, index), row)
 }
 
-/// Whether a row is there and equal to another one.
+/// Whether a row exists and is equal to another.
 fn is_like<Y: Row>(there: Option<Y>, row: Y) -> bool
     ensures { result ≡ is_like Y.equal there row }
 {
@@ -44,7 +45,7 @@ fn is_like<Y: Row>(there: Option<Y>, row: Y) -> bool
     }
 }
 
-/// The row at an index, counted from 0.
+/// The row at an index.
 fn row_at<Y: Copy>(rows: &[Y], index: usize) -> Option<Y>
     ensures { result ≡ slice_get rows.now index }
 {

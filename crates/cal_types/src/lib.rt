@@ -1,8 +1,8 @@
-//! The plain types of the calendars: small texts, months, years, bags of fields, options and durations; and, over
-//! them, what a calendar is, what dates, fields and differences mean in any calendar, what the rows of a table of years
-//! are, and what two bags of fields ask for: definitions, in `specs/`, and the lemmas on them.
+//! The plain types of dates: months, years, bags of fields, options, durations, windows and small texts. Over them
+//! `specs/` defines what a calendar, a date, fields, sums, differences and rows of tables mean in any calendar.
 //!
-//! Names and shapes follow `icu_calendar`; month codes and options are those of ECMAScript Temporal.
+//! Names and shapes follow the Rust crate `icu_calendar`. Month codes and options are those of ECMAScript Temporal.
+//! Callers find all types in the crate `icu_calendar`.
 #![tactic(auto)]
 
 pub mod day;

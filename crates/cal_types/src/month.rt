@@ -1,4 +1,4 @@
-//! A month as its number and whether it is a leap month, as the month codes of ECMAScript Temporal have it.
+//! A month by its number and leap status, as month codes of ECMAScript Temporal have it.
 
 ghost use Rattle.std.specs.Prelude.{◌≡◌, ◌≤◌, min, Some, IfOk, ok_or};
 ghost use Rattle.cal_types.specs.Month.{plain_month, leap_month, code_numbered, code_text, month_numbered, month_read};
@@ -7,10 +7,10 @@ use crate::month_code::MonthCode;
 use crate::tiny::TinyAsciiStr;
 use cal_errors::MonthCodeParseError;
 
-/// A month of a calendar's year: its number, from 0 to 99, and whether it is a leap month.
+/// A month of a calendar: its number, from 0 to 99, and whether it is a leap month.
 ///
-/// The number isn't the place in the year: after a leap month the two differ. Months are ordered by
-/// number, and a plain month comes before the leap month of the same number.
+/// The number isn't the ordinal month: after a leap month the two differ. Months are ordered by number, and a plain
+/// month comes before the leap month with the same number.
 #[derive(Clone, Copy, Debug, PartialEq, Eq, Hash, PartialOrd)]
 pub struct Month {
     number: u8,
@@ -21,7 +21,9 @@ pub struct Month {
 impl Month {
     ghost use Rattle.cal_types.specs.MonthParts.{month_parts, parts_read};
 
-    /// The plain month of this number; a number above 99 is taken as 99.
+    /// Returns the plain month with a number. Numbers above 99 count as 99.
+    ///
+    /// # Examples
     ///
     /// ```
     /// assert!(rt; Month::new(3).number() == 3);
@@ -35,7 +37,9 @@ impl Month {
         }
     }
 
-    /// The leap month of this number; a number above 99 is taken as 99.
+    /// Returns the leap month with a number. Numbers above 99 count as 99.
+    ///
+    /// # Examples
     ///
     /// ```
     /// assert!(rt; Month::leap(5).is_leap());
@@ -49,7 +53,13 @@ impl Month {
         }
     }
 
-    /// The month that a month code names, as [`Month::try_from_utf8`].
+    /// Reads a month code, as [`Month::try_from_utf8`].
+    ///
+    /// # Errors
+    ///
+    /// - [`MonthCodeParseError::InvalidSyntax`] if the text is no month code.
+    ///
+    /// # Examples
     ///
     /// ```
     /// assert!(rt; Month::try_from_str("M05L")? == Month::leap(5));
@@ -61,10 +71,13 @@ impl Month {
         Month::try_from_utf8(s.as_bytes())
     }
 
-    /// The month that a month code names: `M`, two digits, and `L` for a leap month.
-    /// [`MonthCodeParseError::InvalidSyntax`] comes for every other text.
+    /// Reads a month code: `M`, two digits, and `L` for a leap month. (ECMAScript Temporal, `ParseMonthCode`)
     ///
-    /// This is ECMAScript Temporal's `ParseMonthCode`.
+    /// # Errors
+    ///
+    /// - [`MonthCodeParseError::InvalidSyntax`] for any other text.
+    ///
+    /// # Examples
     ///
     /// ```
     /// assert!(rt; Month::try_from_utf8(b"M12")? == Month::new(12));
@@ -80,7 +93,7 @@ impl Month {
         }
     }
 
-    /// The month that two digits number; [`MonthCodeParseError::InvalidSyntax`] where one of them is none.
+    /// Reads the two digits of a month code.
     fn of_digits(tens: u8, units: u8, is_leap: bool) -> Result<Month, MonthCodeParseError>
         ensures value { parts_read result
             ≡ ok_or (month_numbered tens units is_leap) MonthCodeParseError.InvalidSyntax }
@@ -95,7 +108,9 @@ impl Month {
         })
     }
 
-    /// The month's number, from 0 to 99.
+    /// Returns the month's number, from 0 to 99.
+    ///
+    /// # Examples
     ///
     /// ```
     /// assert!(rt; Month::new(3).number() == 3);
@@ -107,7 +122,9 @@ impl Month {
         self.number
     }
 
-    /// Whether this is a leap month.
+    /// Returns `true` if this is a leap month.
+    ///
+    /// # Examples
     ///
     /// ```
     /// assert!(rt; Month::leap(5).is_leap());
@@ -118,7 +135,9 @@ impl Month {
         self.is_leap
     }
 
-    /// The month code: `M`, two digits, and `L` for a leap month, such as `M05L`.
+    /// Returns the month code: `M`, two digits, and `L` for a leap month, such as `M05L`.
+    ///
+    /// # Examples
     ///
     /// ```
     /// assert!(rt; Month::leap(5).code().0.as_str() == "M05L");
@@ -137,7 +156,7 @@ impl Month {
     }
 }
 
-/// The plain month of this number, as [`Month::new`].
+/// Returns the plain month with this number, as [`Month::new`].
 impl From<u8> for Month {
     ghost use Rattle.std.specs.Prelude.{◌≡◌};
     ghost use Rattle.cal_types.specs.Month.{plain_month};
@@ -150,7 +169,7 @@ impl From<u8> for Month {
     }
 }
 
-/// The number, or 99 where it is larger.
+/// The number, or 99 if it is larger.
 const fn at_most_99(number: u8) -> u8
     ensures { result ≡ min number 99 }
 {

@@ -1,4 +1,4 @@
-//! Month codes, the texts by which ECMAScript Temporal names months.
+//! Month codes, by which ECMAScript Temporal names months.
 
 ghost use Rattle.std.specs.Prelude.{◌≡◌, option_map};
 ghost use Rattle.cal_types.specs.Month.{month_read, normal_code};
@@ -7,15 +7,17 @@ use crate::month::Month;
 use crate::tiny::TinyAsciiStr;
 use std::fmt;
 
-/// A month's code: `M`, two digits, and `L` for a leap month, such as `M05L`.
+/// A month code: `M`, two digits, and `L` for a leap month, such as `M05L`.
 ///
-/// Any text of at most four bytes may stand here; [`MonthCode::parsed`] tells whether it is a month code.
+/// It may hold any text of at most four bytes. [`MonthCode::parsed`] returns `None` if the text is no month code.
 #[derive(Clone, Copy, Debug, PartialEq, Eq, Hash, PartialOrd, Ord)]
 pub struct MonthCode(pub TinyAsciiStr<4>);
 
 impl MonthCode {
-    /// The code's first three bytes where the fourth is `L`, so the code of the plain month of a leap
-    /// month's number. None for every other text.
+    /// Returns the code of the plain month with a leap month's number: the first three bytes, if the fourth is `L`.
+    /// Returns `None` for any other text.
+    ///
+    /// # Examples
     ///
     /// ```
     /// assert!(rt; Month::leap(5).code().get_normal_if_leap() == Some(Month::new(5).code()));
@@ -29,7 +31,9 @@ impl MonthCode {
         }
     }
 
-    /// The month's number and whether it is a leap month. None exactly where the text is no month code.
+    /// Returns the month's number and whether it is a leap month, or `None` exactly if the text is no month code.
+    ///
+    /// # Examples
     ///
     /// ```
     /// assert!(rt; Month::leap(5).code().parsed() == Some((5, true)));

@@ -1,4 +1,4 @@
-//! What a date says of its month.
+//! The month of a date.
 
 ghost use Rattle.std.specs.Prelude.{◌≡◌};
 ghost use Rattle.cal_types.specs.MonthInfo.{month_info};
@@ -6,26 +6,25 @@ ghost use Rattle.cal_types.specs.MonthInfo.{month_info};
 use crate::month::Month;
 use crate::month_code::MonthCode;
 
-/// How a month of a year stands to leap months.
+/// The leap status of a month in its year.
 #[derive(Clone, Copy, Debug, PartialEq, Eq, Hash)]
 pub enum LeapStatus {
     /// A plain month without a leap month beside it.
     Normal,
     /// A leap month.
     Leap,
-    /// A plain month with a leap month beside it that year.
+    /// A plain month with a leap month beside it in that year.
     Base,
 }
 
-/// The month of a date: its place in the year, its codes, and how it stands to leap months.
+/// The month of a date: its ordinal number, its codes and its leap status.
 #[derive(Clone, Copy, Debug, PartialEq)]
 pub struct MonthInfo {
-    /// The month's place in its year, from 1.
+    /// The ordinal month: its number in the year, from 1.
     pub ordinal: u8,
-    /// The month's code, by which it is the same in each year.
+    /// The month code, by which it is the same month in every year.
     pub standard_code: MonthCode,
-    /// The code by which the month's name is looked up: `M06L` for the Adar of a Hebrew leap year, and
-    /// otherwise the standard code.
+    /// The code to look up the month's name with: `M06L` for Adar in a Hebrew leap year, otherwise the standard code.
     pub formatting_code: MonthCode,
     month: Month,
     leap_status: LeapStatus,
@@ -35,7 +34,9 @@ impl MonthInfo {
     ghost use Rattle.cal_types.specs.MonthParts.{month_parts};
     ghost use Rattle.cal_types.specs.MonthInfoParts.{month_info_parts};
 
-    /// The month at this place of a year, which is shown by the code of `formatting_month`.
+    /// Creates the month at an ordinal number of a year, which is formatted by the code of `formatting_month`.
+    ///
+    /// # Examples
     ///
     /// ```
     /// let adar = MonthInfo::new(7, Month::new(6), LeapStatus::Base, Month::leap(6));
@@ -60,7 +61,9 @@ impl MonthInfo {
         }
     }
 
-    /// The month's number, which its code has; after a leap month it isn't the place.
+    /// Returns the month's number, as in its code. After a leap month it differs from the ordinal month.
+    ///
+    /// # Examples
     ///
     /// ```
     /// let month = Date::from_rata_die(RataDie::new(738946), Hebrew).month();
@@ -72,7 +75,9 @@ impl MonthInfo {
         self.month.number()
     }
 
-    /// How the month stands to leap months.
+    /// Returns the leap status of the month.
+    ///
+    /// # Examples
     ///
     /// ```
     /// let month = Date::from_rata_die(RataDie::new(738946), Hebrew).month();
@@ -84,7 +89,9 @@ impl MonthInfo {
         self.leap_status
     }
 
-    /// The month as a constructor of dates takes it.
+    /// Returns the month as constructors of dates take it.
+    ///
+    /// # Examples
     ///
     /// ```
     /// let month = Date::from_rata_die(RataDie::new(738946), Hebrew).month();
@@ -96,7 +103,9 @@ impl MonthInfo {
         self.month
     }
 
-    /// Whether this is a leap month.
+    /// Returns `true` if this is a leap month.
+    ///
+    /// # Examples
     ///
     /// ```
     /// let month = Date::from_rata_die(RataDie::new(738946), Hebrew).month();

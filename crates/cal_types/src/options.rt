@@ -1,15 +1,13 @@
-//! How dates are read from fields, added to and compared, by the options of ECMAScript Temporal.
+//! The options of ECMAScript Temporal for fields, sums and differences of dates.
 
 use crate::duration::DateDurationUnit;
 
-/// What becomes of a month or a day that the year or the month doesn't have.
-///
-/// This is Temporal's option `overflow`.
+/// How to handle a month or day that doesn't exist. (ECMAScript Temporal, `overflow`)
 #[derive(Clone, Copy, Debug, PartialEq)]
 pub enum Overflow {
-    /// It becomes the nearest that there is.
+    /// Use the nearest one that exists.
     Constrain,
-    /// It is an error.
+    /// Fail.
     Reject,
 }
 
@@ -25,13 +23,13 @@ impl Default for Overflow {
     }
 }
 
-/// What becomes of fields that name no whole date.
+/// How to handle missing fields.
 #[derive(Clone, Copy, Debug, PartialEq)]
 pub enum MissingFieldsStrategy {
-    /// They are an error.
+    /// Fail.
     Reject,
-    /// A missing year becomes a reference year, or a missing day the first of the month, as Temporal's
-    /// `PlainMonthDay` and `PlainYearMonth` have it.
+    /// Supply a reference year for a missing year, or day 1 for a missing day, as Temporal's `PlainMonthDay` and
+    /// `PlainYearMonth` do.
     Ecma,
 }
 
@@ -47,16 +45,16 @@ impl Default for MissingFieldsStrategy {
     }
 }
 
-/// How a date is built from a bag of fields. `None` stands for the option's default.
+/// Options for creating a date from fields. `None` stands for the default.
 #[derive(Clone, Copy, Debug, PartialEq)]
 pub struct DateFromFieldsOptions {
-    /// A month or a day that isn't there; the default is [`Overflow::Reject`].
+    /// How to handle a month or day that doesn't exist. The default is [`Overflow::Reject`].
     pub overflow: Option<Overflow>,
-    /// A missing year or day; the default is [`MissingFieldsStrategy::Reject`].
+    /// How to handle a missing year or day. The default is [`MissingFieldsStrategy::Reject`].
     pub missing_fields_strategy: Option<MissingFieldsStrategy>,
 }
 
-/// Both are left out.
+/// Leaves both options unset.
 impl Default for DateFromFieldsOptions {
     ghost use Rattle.std.specs.Prelude.{◌≡◌, None};
 
@@ -70,15 +68,15 @@ impl Default for DateFromFieldsOptions {
     }
 }
 
-/// How a duration is added to a date. `None` stands for the option's default.
+/// Options for adding a duration. `None` stands for the default.
 #[derive(Clone, Copy, Debug, PartialEq)]
 pub struct DateAddOptions {
-    /// A month or a day that isn't there once years and months are added; the default is
+    /// How to handle a month or day that doesn't exist after years and months are added. The default is
     /// [`Overflow::Constrain`].
     pub overflow: Option<Overflow>,
 }
 
-/// It is left out.
+/// Leaves the option unset.
 impl Default for DateAddOptions {
     ghost use Rattle.std.specs.Prelude.{◌≡◌, None};
 
@@ -89,14 +87,14 @@ impl Default for DateAddOptions {
     }
 }
 
-/// How the difference of two dates is counted. `None` stands for the option's default.
+/// Options for a difference. `None` stands for the default.
 #[derive(Clone, Copy, Debug, PartialEq)]
 pub struct DateDifferenceOptions {
-    /// The largest unit that the duration uses; the default is [`DateDurationUnit::Days`].
+    /// The largest unit of the duration. The default is [`DateDurationUnit::Days`].
     pub largest_unit: Option<DateDurationUnit>,
 }
 
-/// It is left out.
+/// Leaves the option unset.
 impl Default for DateDifferenceOptions {
     ghost use Rattle.std.specs.Prelude.{◌≡◌, None};
 

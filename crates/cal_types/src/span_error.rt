@@ -1,21 +1,21 @@
-//! Why two bags of fields have no difference.
+//! The error of a difference of two bags of fields.
 
 use cal_errors::DateFromFieldsError;
 
-/// Which of two bags of fields.
+/// One of two bags of fields.
 #[derive(Clone, Copy, Debug, PartialEq, Eq)]
 pub enum BagSide {
-    /// The first.
+    /// The first bag.
     From,
-    /// The second.
+    /// The second bag.
     To,
 }
 
-/// The first bag that names no date, and why.
+/// The first of two bags that names no date, and the reason.
 #[derive(Clone, Copy, Debug, PartialEq)]
 pub struct SpanError {
-    /// Which bag. The second comes only where the first names a date.
+    /// The bag. It is the second one only if the first names a date.
     pub side: BagSide,
-    /// The first fault of that bag.
+    /// The first error of that bag.
     pub cause: DateFromFieldsError,
 }

@@ -1,4 +1,4 @@
-//! Small ASCII texts that are held in place: the codes of months and eras.
+//! Small ASCII texts stored in place: the codes of months and eras.
 
 ghost use Rattle.std.specs.Prelude.{◌≡◌, ◌<◌, ◌≤◌, ◌↔◌, length, IsOk, IfOk, IsErrOf, nat_eq, refl, Some};
 ghost use Rattle.std.specs.Ordering.{nat_cmp};
@@ -17,7 +17,8 @@ use std::str;
 
 /// A text of at most `N` ASCII bytes, each from 1 to 127.
 ///
-/// Equality, order and hash are those of the text as a `str`. This is `tinystr`'s type of the same name.
+/// Equality, order and hash are those of the text as a `str`. It stands for the type with this name in the crate
+/// `tinystr`.
 #[derive(Clone, Copy, Debug)]
 pub struct TinyAsciiStr<const N: usize> {
     bytes: [u8; N],
@@ -43,8 +44,16 @@ impl<const N: usize> Model for TinyAsciiStr<N> {
 }
 
 impl<const N: usize> TinyAsciiStr<N> {
-    /// The text with these bytes: [`TinyStrError::TooLong`] where there are more than `N`, and otherwise
-    /// [`TinyStrError::NonAscii`] where one is 0 or above 127.
+    /// Creates a text from bytes.
+    ///
+    /// # Errors
+    ///
+    /// The first of these that applies:
+    ///
+    /// - [`TinyStrError::TooLong`] if there are more than `N` bytes.
+    /// - [`TinyStrError::NonAscii`] if a byte is 0 or above 127.
+    ///
+    /// # Examples
     ///
     /// ```
     /// let era = TinyAsciiStr::<16>::try_from_utf8(b"reiwa")?;
@@ -64,7 +73,9 @@ impl<const N: usize> TinyAsciiStr<N> {
         Ok(TinyAsciiStr::of_text(bytes))
     }
 
-    /// The text with these bytes, which are known to fit and to be ASCII.
+    /// Creates a text from bytes that are known to fit and to be ASCII.
+    ///
+    /// # Examples
     ///
     /// ```
     /// let eras = JapaneseEras::with_last_era(start, TinyAsciiStr::of_text(b"later"), 7)?;
@@ -80,7 +91,9 @@ impl<const N: usize> TinyAsciiStr<N> {
         TinyAsciiStr { bytes, len: n }
     }
 
-    /// The text.
+    /// Returns the text as a `str`.
+    ///
+    /// # Examples
     ///
     /// ```
     /// let era = TinyAsciiStr::<16>::try_from_utf8(b"reiwa")?;
@@ -94,7 +107,9 @@ impl<const N: usize> TinyAsciiStr<N> {
         unsafe { str::from_utf8_unchecked(&self.bytes[..self.len]) }
     }
 
-    /// The text's bytes.
+    /// Returns the bytes of the text.
+    ///
+    /// # Examples
     ///
     /// ```
     /// let era = TinyAsciiStr::<16>::try_from_utf8(b"reiwa")?;
@@ -108,7 +123,9 @@ impl<const N: usize> TinyAsciiStr<N> {
         &self.bytes[..self.len]
     }
 
-    /// The text's bytes, filled with 0 to `N`.
+    /// Returns the bytes of the text, filled up with 0 to `N`.
+    ///
+    /// # Examples
     ///
     /// ```
     /// let era = TinyAsciiStr::<16>::try_from_utf8(b"reiwa")?;
@@ -120,7 +137,9 @@ impl<const N: usize> TinyAsciiStr<N> {
         &self.bytes
     }
 
-    /// The count of the text's bytes, at most `N`.
+    /// Returns the number of bytes, at most `N`.
+    ///
+    /// # Examples
     ///
     /// ```
     /// let era = TinyAsciiStr::<16>::try_from_utf8(b"reiwa")?;
@@ -133,7 +152,9 @@ impl<const N: usize> TinyAsciiStr<N> {
         self.len
     }
 
-    /// The same text with room for `M` bytes, which it must not exceed.
+    /// Returns the same text with room for `M` bytes, which it must not exceed.
+    ///
+    /// # Examples
     ///
     /// ```
     /// let era = TinyAsciiStr::<16>::try_from_utf8(b"reiwa")?;

@@ -1,4 +1,4 @@
-//! Which day a week begins with, and which days are its weekend, as CLDR's week data (UTS 35) say it of a region.
+//! The first day of the week and the weekend, as in CLDR's week data of a region (UTS 35).
 
 ghost use Rattle.std.specs.Prelude.{◌≡◌};
 ghost use Rattle.std.specs.Iterator.{YieldsFirst, item_count};
@@ -7,17 +7,19 @@ ghost use Rattle.cal_types.specs.WeekdaySet.{days_of_week, weekdays_left};
 use crate::weekday::Weekday;
 use crate::weekday_set::WeekdaySet;
 
-/// The first day of a week, and the days of the weekend.
+/// The first day of the week, and the weekend.
 #[derive(Clone, Copy, Debug)]
 pub struct WeekInformation {
-    /// The day that a week begins with.
+    /// The first day of the week.
     pub first_weekday: Weekday,
     /// The days of the weekend.
     pub weekend: WeekdaySet,
 }
 
 impl WeekInformation {
-    /// Weeks that begin with this day and have this weekend.
+    /// Creates a `WeekInformation` from the first day of the week and the weekend.
+    ///
+    /// # Examples
     ///
     /// ```
     /// let weekend = WeekdaySet::new(&[Weekday::Saturday, Weekday::Sunday]);
@@ -33,7 +35,9 @@ impl WeekInformation {
         }
     }
 
-    /// The days of the weekend, each once, from the first day of the week on.
+    /// Returns the days of the weekend, each once, in the order of the week.
+    ///
+    /// # Examples
     ///
     /// ```
     /// let weekend = WeekdaySet::new(&[Weekday::Saturday, Weekday::Sunday]);
@@ -51,13 +55,13 @@ impl WeekInformation {
     }
 }
 
-/// Days of a set, each once, in the order of a week.
+/// An iterator over the days of a set, each once, in the order of a week.
 #[derive(Clone, Copy, Debug, PartialEq)]
 pub struct WeekdaySetIterator {
     set: WeekdaySet,
-    /// The day that is looked at next.
+    /// The day to look at next.
     next: Weekday,
-    /// How many days are still to be looked at.
+    /// The number of days still to look at.
     left: u8,
 }
 

@@ -6,7 +6,7 @@ ghost use Rattle.cal_types.specs.Weekday.{days_since_sunday, next_weekday, weekd
 
 use cal_days::RataDie;
 
-/// A day of the week, by its number in ISO 8601: Monday is 1, Sunday is 7.
+/// A day of the week, numbered as in ISO 8601: Monday is 1, Sunday is 7.
 #[derive(Clone, Copy, Debug, PartialEq, Eq)]
 pub enum Weekday {
     /// The first day of an ISO week.
@@ -26,7 +26,9 @@ pub enum Weekday {
 }
 
 impl Weekday {
-    /// The weekday of a day that lies so many days after a Sunday, or before it where the number is negative.
+    /// Returns the weekday of the day a number of days after a Sunday, or before it if the number is negative.
+    ///
+    /// # Examples
     ///
     /// ```
     /// assert!(rt; Weekday::from_days_since_sunday(-1) == Weekday::Saturday);
@@ -45,7 +47,9 @@ impl Weekday {
         }
     }
 
-    /// The weekday's number in ISO 8601, from 1 for Monday to 7 for Sunday.
+    /// Returns the number in ISO 8601, from 1 for Monday to 7 for Sunday.
+    ///
+    /// # Examples
     ///
     /// ```
     /// assert!(rt; Weekday::Sunday.number() == 7);
@@ -57,7 +61,7 @@ impl Weekday {
         self as u8
     }
 
-    /// How many days the weekday lies after Sunday, from 0 to 6.
+    /// The number of days after Sunday, from 0 to 6.
     pub(crate) const fn days_since_sunday(self) -> usize
         ensures value { result ≡ days_since_sunday self }
         ensures bound { result < 7 }
@@ -89,7 +93,7 @@ impl Weekday {
     }
 }
 
-/// The weekday of a day number, where day 0 is a Sunday (Reingold and Dershowitz, Calendrical Calculations).
+/// The weekday of a day number. Day 0 is a Sunday. (Reingold and Dershowitz, Calendrical Calculations)
 impl From<RataDie> for Weekday {
     ghost from_gives = { λ rd day. pos (days_since_sunday day) ≡ int_rem_euclid rd (pos 7) };
 

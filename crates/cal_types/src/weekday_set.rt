@@ -9,12 +9,14 @@ use crate::weekday::Weekday;
 /// A set of days of the week.
 #[derive(Clone, Copy, Debug, PartialEq)]
 pub struct WeekdaySet {
-    /// Whether the day is in the set, from Sunday on.
+    /// Whether each day is in the set, from Sunday on.
     held: [bool; 7],
 }
 
 impl WeekdaySet {
-    /// The set of these days.
+    /// Creates the set of some days.
+    ///
+    /// # Examples
     ///
     /// ```
     /// let weekend = WeekdaySet::new(&[Weekday::Saturday, Weekday::Sunday]);
@@ -32,7 +34,9 @@ impl WeekdaySet {
         WeekdaySet { held }
     }
 
-    /// Whether the set has the day.
+    /// Returns `true` if the set contains the day.
+    ///
+    /// # Examples
     ///
     /// ```
     /// let weekend = WeekdaySet::new(&[Weekday::Saturday, Weekday::Sunday]);

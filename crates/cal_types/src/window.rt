@@ -1,4 +1,4 @@
-//! Days in a row.
+//! Windows: days in a row.
 
 ghost use Rattle.std.specs.Prelude.{◌≡◌};
 ghost use Rattle.cal_types.specs.Windows.{IsWindow};
@@ -6,7 +6,7 @@ ghost use Rattle.cal_types.specs.Windows.{IsWindow};
 use cal_days::RataDie;
 use cal_days::ranges::is_valid_day;
 
-/// The days from a first one to a last one, both of them counted and valid: from -365242499 to 365242134.
+/// The days from a first to a last one, both included and valid: from -365242499 to 365242134.
 #[derive(Clone, Copy, Debug, PartialEq, Eq)]
 pub struct Window {
     first: i64,
@@ -19,8 +19,10 @@ impl Window {
     ghost use Rattle.cal_days.specs.Day.{IsBetween};
     ghost use Rattle.cal_types.specs.WindowDays.{IsAfter};
 
-    /// The days from the first to the last. `None` exactly where one of the two isn't valid, that is from -365242499
-    /// to 365242134, or the first comes after the last.
+    /// Creates a window. Returns `None` exactly if one of the two days isn't from -365242499 to 365242134, or if the
+    /// first comes after the last.
+    ///
+    /// # Examples
     ///
     /// ```
     /// let year = Window::try_new(RataDie::new(738886), RataDie::new(739251))?;
@@ -38,7 +40,9 @@ impl Window {
         Some(Window { first, last })
     }
 
-    /// The first day.
+    /// Returns the first day.
+    ///
+    /// # Examples
     ///
     /// ```
     /// let year = Window::try_new(RataDie::new(738886), RataDie::new(739251))?;
@@ -50,7 +54,9 @@ impl Window {
         RataDie::new(self.first)
     }
 
-    /// The last day.
+    /// Returns the last day.
+    ///
+    /// # Examples
     ///
     /// ```
     /// let year = Window::try_new(RataDie::new(738886), RataDie::new(739251))?;
@@ -62,7 +68,9 @@ impl Window {
         RataDie::new(self.last)
     }
 
-    /// The first and the last day.
+    /// Returns the first and the last day.
+    ///
+    /// # Examples
     ///
     /// ```
     /// let year = Window::try_new(RataDie::new(738886), RataDie::new(739251))?;
@@ -75,7 +83,9 @@ impl Window {
         (RataDie::new(self.first), RataDie::new(self.last))
     }
 
-    /// Whether a day is one of the window's.
+    /// Returns `true` if the window contains a day.
+    ///
+    /// # Examples
     ///
     /// ```
     /// let year = Window::try_new(RataDie::new(738886), RataDie::new(739251))?;
@@ -88,7 +98,9 @@ impl Window {
         self.first <= day && day <= self.last
     }
 
-    /// The days after one of the window's days. `None` where that one is the last.
+    /// Returns the days after one of the window's days, or `None` if that day is the last.
+    ///
+    /// # Examples
     ///
     /// ```
     /// let year = Window::try_new(RataDie::new(738886), RataDie::new(739251))?;

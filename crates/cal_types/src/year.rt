@@ -1,4 +1,4 @@
-//! Years: as a caller gives them, and as a date shows them.
+//! Years, as callers pass them and as dates return them.
 
 ghost use Rattle.std.specs.Prelude.{◌≡◌};
 ghost use Rattle.cal_types.specs.Year.{era_year_or_related_iso_of, extended_year_of, era_of, cyclic_of};
@@ -6,12 +6,12 @@ ghost use Rattle.cal_types.specs.declared.year.YearInfo.{YearInfo};
 
 use crate::tiny::TinyAsciiStr;
 
-/// A year as a constructor of dates takes it.
+/// A year as constructors of dates take it.
 #[derive(Clone, Copy, Debug, PartialEq)]
 pub enum YearInput<'a> {
     /// The extended year, which numbers a calendar's years without eras.
     Extended(i32),
-    /// An era's code and the year in that era.
+    /// An era's code and an era year.
     EraYear(&'a str, i32),
 }
 
@@ -26,7 +26,7 @@ impl<'a> From<i32> for YearInput<'a> {
     }
 }
 
-/// How much of a year and its era a reader needs to know which year is meant.
+/// How much of a year and its era a reader needs in order to know the year.
 #[derive(Clone, Copy, Debug, PartialEq)]
 pub enum YearAmbiguity {
     /// The last two digits are enough.
@@ -42,15 +42,15 @@ pub enum YearAmbiguity {
 /// A year in an era.
 #[derive(Clone, Copy, Debug, PartialEq)]
 pub struct EraYear {
-    /// The year in the era.
+    /// The era year.
     pub year: i32,
     /// The extended year, which numbers the calendar's years without eras.
     pub extended_year: i32,
-    /// The era's code, as CLDR (UTS 35) has it where it defines one.
+    /// The era's code: CLDR's (UTS 35), if CLDR defines one.
     pub era: TinyAsciiStr<16>,
-    /// The era's index among the calendar's eras, where it has one.
+    /// The era's index among the calendar's eras, if it has one.
     pub era_index: Option<u8>,
-    /// How much of year and era a reader needs.
+    /// How much of the year and era a reader needs.
     pub ambiguity: YearAmbiguity,
 }
 
@@ -63,7 +63,7 @@ pub struct CyclicYear {
     pub related_iso: i32,
 }
 
-/// A date's year: in an era, or in the cycle of sixty years.
+/// A date's year, in an era or in the cycle of sixty years.
 #[derive(Clone, Copy, Debug, PartialEq)]
 pub enum YearInfo {
     /// A year in an era.
@@ -73,7 +73,9 @@ pub enum YearInfo {
 }
 
 impl YearInfo {
-    /// The year in the era, or the ISO year in which a year of the cycle begins.
+    /// Returns the era year, or the ISO year in which a year of the cycle begins.
+    ///
+    /// # Examples
     ///
     /// ```
     /// let date = Date::from_rata_die(RataDie::new(738946), Buddhist);
@@ -88,7 +90,9 @@ impl YearInfo {
         }
     }
 
-    /// The extended year; for a year of the cycle that is the ISO year in which it begins.
+    /// Returns the extended year. For a year of the cycle it's the ISO year in which it begins.
+    ///
+    /// # Examples
     ///
     /// ```
     /// let date = Date::from_rata_die(RataDie::new(738946), Iso);
@@ -103,7 +107,9 @@ impl YearInfo {
         }
     }
 
-    /// The year in an era. None exactly for a year of the cycle.
+    /// Returns the year in an era, or `None` exactly for a year of the cycle.
+    ///
+    /// # Examples
     ///
     /// ```
     /// let year = Date::from_rata_die(RataDie::new(738946), Buddhist).year();
@@ -118,7 +124,9 @@ impl YearInfo {
         }
     }
 
-    /// The year in the cycle. None exactly for a year in an era.
+    /// Returns the year in the cycle, or `None` exactly for a year in an era.
+    ///
+    /// # Examples
     ///
     /// ```
     /// let year = Date::from_rata_die(RataDie::new(738946), published::chinese()).year();
@@ -156,11 +164,11 @@ impl From<CyclicYear> for YearInfo {
     }
 }
 
-/// What a date's year is shown by: [`YearInfo`], or one of its two kinds where a calendar has that alone.
+/// A type for the years of dates: [`YearInfo`], or one of its two kinds if a calendar has only that one.
 pub trait IntoYearInfo {
     ghost info: { Self → YearInfo };
 
-    /// The year of either kind.
+    /// Returns the year as a [`YearInfo`].
     fn into_year_info(self) -> YearInfo
         ensures { result ≡ info self };
 }

@@ -8,12 +8,13 @@ use Rattle.cal_types.specs.laws.RowLaws.{one_row, rows_before_next}
 use Rattle.cal_types.specs.Faults.{rank, MeetsAll, IsAccepted, IsFirstBroken, IsFirstFault}
 use Rattle.cal_errors.specs.declared.errors.TableFault.{TableFault}
 use Rattle.cal_errors.specs.declared.errors.TablePart.{TablePart}
-use Rattle.cal_errors.specs.declared.errors.TablePart.TheVariants.{Year, Join, End, Leap, Rule}
+use Rattle.cal_errors.specs.declared.errors.TablePart.TheVariants.{Range, Year, Join, End, Leap, Rule}
 
 differ : {P : Type 0} (b : Bool) → b ≡ true → b ≡ false → P
 differ b on off = let e : true ≡ false = sym on ∙ off in absurd cc
 
 part_by_rank : (p q : TablePart) → rank p ≡ rank q → p ≡ q
+part_by_rank Range Range e = refl
 part_by_rank Year Year e = refl
 part_by_rank Join Join e = refl
 part_by_rank End End e = refl
@@ -25,53 +26,67 @@ abbrev fault_of : ℕ → TablePart → TableFault
 fault_of row part = record { row = row; part = part }
 
 module _ (meets : TablePart → Bool) where
-  before_join : IsTrue (meets Year) → (e : TablePart) → rank e < 1 → IsTrue (meets e)
-  before_join a Year lt = a
-  before_join a Join lt = absurd (omega arith)
-  before_join a End lt = absurd (omega arith)
-  before_join a Leap lt = absurd (omega arith)
-  before_join a Rule lt = absurd (omega arith)
+  before_year : IsTrue (meets Range) → (e : TablePart) → rank e < 1 → IsTrue (meets e)
+  before_year g Range lt = g
+  before_year g Year lt = absurd (omega arith)
+  before_year g Join lt = absurd (omega arith)
+  before_year g End lt = absurd (omega arith)
+  before_year g Leap lt = absurd (omega arith)
+  before_year g Rule lt = absurd (omega arith)
 
-  before_end : IsTrue (meets Year) → IsTrue (meets Join) → (e : TablePart) → rank e < 2 → IsTrue (meets e)
-  before_end a b Year lt = a
-  before_end a b Join lt = b
-  before_end a b End lt = absurd (omega arith)
-  before_end a b Leap lt = absurd (omega arith)
-  before_end a b Rule lt = absurd (omega arith)
+  before_join : IsTrue (meets Range) → IsTrue (meets Year) → (e : TablePart) → rank e < 2 → IsTrue (meets e)
+  before_join g a Range lt = g
+  before_join g a Year lt = a
+  before_join g a Join lt = absurd (omega arith)
+  before_join g a End lt = absurd (omega arith)
+  before_join g a Leap lt = absurd (omega arith)
+  before_join g a Rule lt = absurd (omega arith)
 
-  before_leap : IsTrue (meets Year) → IsTrue (meets Join) → IsTrue (meets End) → (e : TablePart) → rank e < 3 → IsTrue (meets e)
-  before_leap a b c Year lt = a
-  before_leap a b c Join lt = b
-  before_leap a b c End lt = c
-  before_leap a b c Leap lt = absurd (omega arith)
-  before_leap a b c Rule lt = absurd (omega arith)
+  before_end : IsTrue (meets Range) → IsTrue (meets Year) → IsTrue (meets Join) → (e : TablePart) → rank e < 3 → IsTrue (meets e)
+  before_end g a b Range lt = g
+  before_end g a b Year lt = a
+  before_end g a b Join lt = b
+  before_end g a b End lt = absurd (omega arith)
+  before_end g a b Leap lt = absurd (omega arith)
+  before_end g a b Rule lt = absurd (omega arith)
 
-  before_rule : IsTrue (meets Year) → IsTrue (meets Join) → IsTrue (meets End) → IsTrue (meets Leap) → (e : TablePart) → rank e < 4 → IsTrue (meets e)
-  before_rule a b c d Year lt = a
-  before_rule a b c d Join lt = b
-  before_rule a b c d End lt = c
-  before_rule a b c d Leap lt = d
-  before_rule a b c d Rule lt = absurd (omega arith)
+  before_leap : IsTrue (meets Range) → IsTrue (meets Year) → IsTrue (meets Join) → IsTrue (meets End) → (e : TablePart) → rank e < 4 → IsTrue (meets e)
+  before_leap g a b c Range lt = g
+  before_leap g a b c Year lt = a
+  before_leap g a b c Join lt = b
+  before_leap g a b c End lt = c
+  before_leap g a b c Leap lt = absurd (omega arith)
+  before_leap g a b c Rule lt = absurd (omega arith)
 
-  all_met : IsTrue (meets Year) → IsTrue (meets Join) → IsTrue (meets End) → IsTrue (meets Leap) → IsTrue (meets Rule) → (e : TablePart) → IsTrue (meets e)
-  all_met a b c d r Year = a
-  all_met a b c d r Join = b
-  all_met a b c d r End = c
-  all_met a b c d r Leap = d
-  all_met a b c d r Rule = r
+  before_rule : IsTrue (meets Range) → IsTrue (meets Year) → IsTrue (meets Join) → IsTrue (meets End) → IsTrue (meets Leap) → (e : TablePart) → rank e < 5 → IsTrue (meets e)
+  before_rule g a b c d Range lt = g
+  before_rule g a b c d Year lt = a
+  before_rule g a b c d Join lt = b
+  before_rule g a b c d End lt = c
+  before_rule g a b c d Leap lt = d
+  before_rule g a b c d Rule lt = absurd (omega arith)
+
+  all_met : IsTrue (meets Range) → IsTrue (meets Year) → IsTrue (meets Join) → IsTrue (meets End) → IsTrue (meets Leap) → IsTrue (meets Rule) → (e : TablePart) → IsTrue (meets e)
+  all_met g a b c d r Range = g
+  all_met g a b c d r Year = a
+  all_met g a b c d r Join = b
+  all_met g a b c d r End = c
+  all_met g a b c d r Leap = d
+  all_met g a b c d r Rule = r
 
   -- all parts are met, or there is a first one that isn't
   parts_decided : MeetsAll meets ⊎ ((part : TablePart) × IsFirstBroken meets part)
-  parts_decided = by (meets Year) (meets Join) (meets End) (meets Leap) (meets Rule) refl refl refl refl refl
+  parts_decided = by (meets Range) (meets Year) (meets Join) (meets End) (meets Leap) (meets Rule) refl refl refl refl refl refl
     where
-      by : (a b c d r : Bool) → meets Year ≡ a → meets Join ≡ b → meets End ≡ c → meets Leap ≡ d → meets Rule ≡ r
+      by : (g a b c d r : Bool) → meets Range ≡ g → meets Year ≡ a → meets Join ≡ b → meets End ≡ c → meets Leap ≡ d → meets Rule ≡ r
           → MeetsAll meets ⊎ ((part : TablePart) × IsFirstBroken meets part)
-      by false b c d r p q s t u = inr (Year, (p, λ e lt. absurd (omega (arith, lt))))
-      by true false c d r p q s t u = inr (Join, (q, before_join p))
-      by true true false d r p q s t u = inr (End, (s, before_end p q))
-      by true true true false r p q s t u = inr (Leap, (t, before_leap p q s))
-      by true true true true false p q s t u = inr (Rule, (u, before_rule p q s t))
-      by true true true true true p q s t u = inl (all_met p q s t u)
+      by false a b c d r o p q s t u = inr (Range, (o, λ e lt. absurd (omega (arith, lt))))
+      by true false b c d r o p q s t u = inr (Year, (p, before_year o))
+      by true true false c d r o p q s t u = inr (Join, (q, before_join o p))
+      by true true true false d r o p q s t u = inr (End, (s, before_end o p q))
+      by true true true true false r o p q s t u = inr (Leap, (t, before_leap o p q s))
+      by true true true true true false o p q s t u = inr (Rule, (u, before_rule o p q s t))
+      by true true true true true true o p q s t u = inl (all_met o p q s t u)
 
 module _ {Y : Type 0} (meets : ℕ → Y → TablePart → Bool) (rows : List Y) where
   abbrev MeetBefore : ℕ → Type 0

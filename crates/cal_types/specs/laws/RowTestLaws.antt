@@ -4,7 +4,7 @@ use Rattle.cal_types.specs.Rows.{IsRow}
 use Rattle.cal_types.specs.Faults.{MeetsAll, IsAccepted}
 use Rattle.cal_types.specs.RowTests.{meets_every, all_from}
 use Rattle.cal_errors.specs.declared.errors.TablePart.{TablePart}
-use Rattle.cal_errors.specs.declared.errors.TablePart.TheVariants.{Year, Join, End, Leap, Rule}
+use Rattle.cal_errors.specs.declared.errors.TablePart.TheVariants.{Range, Year, Join, End, Leap, Rule}
 
 pub left : (a b : Bool) → (a && b) ≡ true → a ≡ true
 left true b e = refl
@@ -15,11 +15,12 @@ right true b e = e
 right false b e = absurd cc
 
 every-meets : (meets : TablePart → Bool) → meets_every meets ≡ true → MeetsAll meets
-every-meets meets e Year = left (meets Year) _ e
-every-meets meets e Join = left (meets Join) _ (right (meets Year) _ e)
-every-meets meets e End = left (meets End) _ (right (meets Join) _ (right (meets Year) _ e))
-every-meets meets e Leap = left (meets Leap) _ (right (meets End) _ (right (meets Join) _ (right (meets Year) _ e)))
-every-meets meets e Rule = right (meets Leap) _ (right (meets End) _ (right (meets Join) _ (right (meets Year) _ e)))
+every-meets meets e Range = left (meets Range) _ e
+every-meets meets e Year = left (meets Year) _ (right (meets Range) _ e)
+every-meets meets e Join = left (meets Join) _ (right (meets Year) _ (right (meets Range) _ e))
+every-meets meets e End = left (meets End) _ (right (meets Join) _ (right (meets Year) _ (right (meets Range) _ e)))
+every-meets meets e Leap = left (meets Leap) _ (right (meets End) _ (right (meets Join) _ (right (meets Year) _ (right (meets Range) _ e))))
+every-meets meets e Rule = right (meets Leap) _ (right (meets End) _ (right (meets Join) _ (right (meets Year) _ (right (meets Range) _ e))))
 
 all-meet : {Y : Type 0} (meets : ℕ → Y → TablePart → Bool) (i : ℕ) (rows : List Y) → all_from meets i rows ≡ true → (j : ℕ) (row : Y) → IsRow rows j row → MeetsAll (meets (i + j) row)
 unfolding all_from
