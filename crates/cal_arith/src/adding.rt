@@ -20,7 +20,7 @@ use cal_days::ranges::{
 };
 use cal_types::{DateAddError, DateDuration, Overflow};
 
-/// Whether a duration is small enough to be added.
+/// Returns whether a duration is small enough to be added.
 fn can_be_added(duration: DateDuration) -> bool
     ensures { result ≡ is_addable duration }
 {
@@ -30,7 +30,8 @@ fn can_be_added(duration: DateDuration) -> bool
         && are_addable_days(days)
 }
 
-/// The date of a day number, where it is valid.
+/// Returns the date of a day number if it is valid. Out of line, so that sums within a month don't clear its locals.
+#[inline(never)]
 fn valid_date<C: Years>(day: RataDie, cal: &C) -> Result<Ymd<C::YearInfo>, DateAddError>
     ensures on { let y = C.years cal.now in IsValidOn y.list day (answer_of y result) }
     ensures belongs { IfOk result (λ d. Belongs (C.years cal.now) d) }
@@ -41,7 +42,7 @@ fn valid_date<C: Years>(day: RataDie, cal: &C) -> Result<Ymd<C::YearInfo>, DateA
     Ok(from_rata_die(day, cal))
 }
 
-/// The day so many days later, or earlier.
+/// Returns the day so many days later, or earlier.
 fn days_away(day: RataDie, days: u32, direction: Direction) -> RataDie
     requires { IsBetween (neg_ℤ (pos 36028000000000000)) (pos 36028000000000000) day }
     ensures { result ≡ day +ℤ toward (is_backward direction) days }
@@ -53,7 +54,8 @@ fn days_away(day: RataDie, days: u32, direction: Direction) -> RataDie
     }
 }
 
-/// The date itself, where its day number is valid.
+/// Returns the date itself if its day number is valid.
+#[inline(always)]
 fn date_in_range<C: YearShapes>(
     date: Ymd<C::YearInfo>,
     cal: &C,
@@ -70,7 +72,7 @@ fn date_in_range<C: YearShapes>(
     }
 }
 
-/// The day of a month so many days later, or earlier, where the month has it.
+/// Returns the day of a month so many days later, or earlier, if the month has it.
 fn day_in_month(day: u8, last: u8, days: u32, direction: Direction) -> Option<u8>
     requires { (1 ≤ day) × (day ≤ last) }
     ensures { IfSome result
@@ -87,7 +89,8 @@ fn day_in_month(day: u8, last: u8, days: u32, direction: Direction) -> Option<u8
     }
 }
 
-/// The date so many days later, or earlier, where its day number is valid. The length of the date's month is given.
+/// Returns the date `days` days later or earlier if its day number is valid. `last` is the length of the date's month.
+#[inline(always)]
 fn date_days_away<C: Years>(
     date: Ymd<C::YearInfo>,
     last: u8,
@@ -102,6 +105,9 @@ fn date_days_away<C: Years>(
         (answer_of y result) }
     ensures belongs { IfOk result (λ d. Belongs (C.years cal.now) d) }
 {
+    if days == 0 {
+        return date_in_range(date, cal);
+    }
     match day_in_month(date.day, last, days, direction) {
         Some(day) => {
             let there = Ymd {
@@ -115,7 +121,7 @@ fn date_days_away<C: Years>(
     }
 }
 
-/// The year so many years later, or earlier.
+/// Returns the year so many years later, or earlier.
 fn moved_year(year: i32, years: u32, direction: Direction) -> i32
     requires year { IsFieldYear year }
     requires years { years ≤ 2080000 }
@@ -127,14 +133,14 @@ fn moved_year(year: i32, years: u32, direction: Direction) -> i32
     }
 }
 
-/// Whether fields may name a year: whether it lies from -1040000 to 1040000.
+/// Returns whether fields may name a year: whether it lies from -1040000 to 1040000.
 pub fn can_be_named(year: i32) -> bool
     ensures { result ≡ is_field_year year }
 {
     is_field_year(year)
 }
 
-/// The year so many years later, or earlier, where with the shift it is one that fields may name.
+/// Returns the year so many years later, or earlier, if with the shift it is one that fields may name.
 fn field_year(year: i32, years: u32, direction: Direction, shift: i32) -> Option<i32>
     requires year { IsFieldYear year }
     requires years { years ≤ 2080000 }
@@ -151,7 +157,8 @@ fn field_year(year: i32, years: u32, direction: Direction, shift: i32) -> Option
     }
 }
 
-/// The year of an extended year. A given year that has this number isn't looked up again.
+/// Returns the year of an extended year. If it is the number of `given`, that year isn't looked up again.
+#[inline(always)]
 fn looked_up<C: Years>(given: C::YearInfo, extended_year: i32, cal: &C) -> C::YearInfo
     requires given { IsGiven (C.years cal.now) given }
     requires range { IsRuleYear extended_year }
@@ -164,8 +171,9 @@ fn looked_up<C: Years>(given: C::YearInfo, extended_year: i32, cal: &C) -> C::Ye
     }
 }
 
-/// The date with a duration added, or the first fault. The limit on years is tested on the year with the
+/// Returns the date with a duration added, or the first error. The limit on years is tested on the year with the
 /// shift added.
+#[inline(always)]
 pub(crate) fn added<C: Years>(
     from: Ymd<C::YearInfo>,
     duration: DateDuration,
@@ -198,7 +206,8 @@ pub(crate) fn added<C: Years>(
     }
 }
 
-/// The sum, counted from the month that years and months lead to.
+/// Returns the sum, counted from the month that years and months lead to.
+#[inline(always)]
 fn sum_from_month<C: Years>(
     reached: YearMonth<C::YearInfo>,
     day: u8,

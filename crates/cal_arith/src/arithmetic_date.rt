@@ -1,4 +1,4 @@
-//! Dates of any calendar, as they are kept.
+//! Dates of any calendar, as they are kept. Start at [`ArithmeticDate`].
 
 ghost use Rattle.std.specs.Prelude.{◌≡◌, ⊤, pos, ◌+◌, ◌≤◌, ◌<◌, ◌-ℤ◌, ◌++◌, ◌==◌, unsigned_abs, Ok, IfOk};
 ghost use Rattle.std.proofs.Common.{rules};
@@ -32,8 +32,8 @@ use std::sync::ledger::{Blank, Ledger};
 
 /// A date of a calendar as it is kept: a year, the place of a month in it, and a day of that month.
 ///
-/// It belongs to a calendar where its year is one that the calendar gave, the calendar has the date, and its
-/// day number is in the valid range. Dates are equal and ordered by year, month's place and day.
+/// It belongs to a calendar if the calendar gave its year, the calendar has the date, and its day number is in the
+/// valid range. Dates are equal and ordered by year, month's place and day.
 pub struct ArithmeticDate<C, Y = <C as YearShapes>::YearInfo> {
     pub(crate) parts: Ymd<Y>,
     pub(crate) of: PhantomData<C>,
@@ -56,28 +56,28 @@ impl<C, Y: Copy> Clone for ArithmeticDate<C, Y> {
 }
 
 impl<C, Y: Copy> ArithmeticDate<C, Y> {
-    /// The year.
+    /// Returns the year.
     pub fn year(self) -> Y
         ensures { result ≡ self.parts.year }
     {
         self.parts.year
     }
 
-    /// The place of the month in its year, from 1.
+    /// Returns the place of the month in its year, from 1.
     pub fn month(self) -> u8
         ensures { result ≡ self.parts.month }
     {
         self.parts.month
     }
 
-    /// The day of the month, from 1.
+    /// Returns the day of the month, from 1.
     pub fn day(self) -> u8
         ensures { result ≡ self.parts.day }
     {
         self.parts.day
     }
 
-    /// The same parts as a date of another calendar that has the same years.
+    /// Returns the same parts as a date of another calendar that has the same years.
     pub fn cast<D>(self) -> ArithmeticDate<D, Y>
         ensures { result.parts ≡ self.parts }
     {
@@ -87,7 +87,7 @@ impl<C, Y: Copy> ArithmeticDate<C, Y> {
         }
     }
 
-    /// The date of these parts.
+    /// Returns the date of these parts.
     pub(crate) fn of_parts(date: Ymd<Y>) -> ArithmeticDate<C, Y>
         ensures { result.parts ≡ date }
     {
@@ -99,7 +99,7 @@ impl<C, Y: Copy> ArithmeticDate<C, Y> {
 }
 
 impl<C: Years> ArithmeticDate<C> {
-    /// The date of a valid day.
+    /// Returns the date of a valid day.
     pub fn from_rata_die(rd: RataDie, cal: &C) -> Self
         requires { IsValidDay rd }
         ensures on { let y = C.years cal.now in IsOn y.list rd (date_of y result.parts) }
@@ -108,14 +108,20 @@ impl<C: Years> ArithmeticDate<C> {
         ArithmeticDate::of_parts(from_rata_die(rd, cal))
     }
 
-    /// The date with a duration added, as ECMAScript Temporal's NonISODateAdd; the default of the option
-    /// `overflow` is [`Overflow::Constrain`].
+    /// Returns the date with a duration added (ECMAScript Temporal, `NonISODateAdd`).
     ///
-    /// [`DateAddError::Overflow`] comes for more than 2080000 years, 27040000 months (13 in each of so many
-    /// years), or 838240000 days (31 in each of so many months) with the weeks', where the years lead past the
-    /// years from -1040000 to 1040000, and where the sum is no valid day. [`DateAddError::MonthNotInYear`]
-    /// comes where the year that the years lead to lacks the month, and [`DateAddError::InvalidDay`] where the
-    /// month that the months lead to lacks the day, under [`Overflow::Reject`].
+    /// The default of the option `overflow` is [`Overflow::Constrain`].
+    ///
+    /// # Errors
+    ///
+    /// Fails with the first of these:
+    /// - [`DateAddError::Overflow`] if the duration has more than 2080000 years, 27040000 months, or 838240000 days
+    ///   with seven for a week, or if the years lead past the years from -1040000 to 1040000;
+    /// - [`DateAddError::MonthNotInYear`] if the year that the years lead to lacks the month and, under
+    ///   [`Overflow::Constrain`], no month stands in for it;
+    /// - [`DateAddError::InvalidDay`] if the month that the months lead to lacks the day, under [`Overflow::Reject`];
+    /// - [`DateAddError::Overflow`] if the sum isn't a valid day.
+    #[inline(always)]
     pub fn added(
         &self,
         duration: DateDuration,
@@ -131,9 +137,15 @@ impl<C: Years> ArithmeticDate<C> {
         self.added_shifted(duration, cal, options, 0)
     }
 
-    /// The date with a duration added, as [`ArithmeticDate::added`], where the limit on years is tested on
-    /// the year with `shift` added, from -1040000 to 1040000. A calendar that hands its dates down to another
-    /// one gives what leads from its own years to the other's.
+    /// Returns the date with a duration added, with the limit on years tested on the year plus `shift`.
+    ///
+    /// `shift`: -1040000 to 1040000. A calendar that hands its dates down to another one passes what leads from its own
+    /// years to the other's.
+    ///
+    /// # Errors
+    ///
+    /// Fails as [`ArithmeticDate::added`].
+    #[inline(always)]
     pub fn added_shifted(
         &self,
         duration: DateDuration,
@@ -157,7 +169,7 @@ impl<C: Years> ArithmeticDate<C> {
 }
 
 impl<C: YearShapes> ArithmeticDate<C> {
-    /// The day number of a date that belongs to the calendar.
+    /// Returns the day number of a date that belongs to the calendar.
     pub fn to_rata_die(self, cal: &C) -> RataDie
         requires { Belongs (C.years cal.now) self.parts }
         ensures { let y = C.years cal.now in result ≡ day_number y.list (date_of y self.parts) }
@@ -165,9 +177,9 @@ impl<C: YearShapes> ArithmeticDate<C> {
         to_rata_die(self.parts, cal)
     }
 
-    /// The difference to another date, as ECMAScript Temporal's NonISODateUntil: years, then months, then
+    /// Returns the difference to another date, as ECMAScript Temporal's NonISODateUntil: years, then months, then
     /// weeks and days, each as many as do not surpass the other date. The default of the option
-    /// `largest_unit` is days. Added to this date under [`Overflow::Constrain`], it gives the other date.
+    /// `largest_unit` is days. Added to this date under [`Overflow::Constrain`], the result is the other date.
     pub fn until(&self, other: &Self, cal: &C, options: DateDifferenceOptions) -> DateDuration
         requires from { Belongs (C.years cal.now) self.now.parts }
         requires to { Belongs (C.years cal.now) other.now.parts }
@@ -178,8 +190,8 @@ impl<C: YearShapes> ArithmeticDate<C> {
         ArithmeticDate::<C>::until_with_blank::<Brand>(self, other, cal, options, Blank::new(1))
     }
 
-    /// The duration of [`ArithmeticDate::until`]. It adds at most 8 ticks to the counter that is handed in; where
-    /// months are the largest unit, at most 8 and one more for each year between the dates.
+    /// Returns the duration of [`ArithmeticDate::until`]. It adds at most 8 ticks to the counter that is handed in;
+    /// if months are the largest unit, at most 8 and one more for each year between the dates.
     pub fn until_counted<L: Ledger>(
         &self,
         other: &Self,
@@ -201,7 +213,7 @@ impl<C: YearShapes> ArithmeticDate<C> {
         difference(from, to, largest_unit(options), cal, steps)
     }
 
-    /// The difference by a counter that nobody reads.
+    /// Returns the difference by a counter that nobody reads.
     fn until_with_blank<L: Ledger>(
         &self,
         other: &Self,
@@ -223,7 +235,7 @@ impl<C: YearShapes> ArithmeticDate<C> {
     }
 }
 
-/// Which overflow the options of adding ask for.
+/// Returns which overflow the options of adding ask for.
 fn add_overflow(options: DateAddOptions) -> Overflow
     ensures { result ≡ add_overflow_of options.overflow }
 {

@@ -16,14 +16,14 @@ use crate::years::{DateFieldsResolver, YearShapes, Years};
 use cal_days::ranges::MAX_CONSTRUCTOR_YEAR;
 use cal_types::{DateNewError, Month, MonthError, Overflow, UnknownEraError, YearInput};
 
-/// Whether constructors take a year.
+/// Returns whether constructors take a year.
 pub(crate) fn is_small_year(year: i32) -> bool
     ensures { result ≡ is_constructor_year year }
 {
     -MAX_CONSTRUCTOR_YEAR <= year && year <= MAX_CONSTRUCTOR_YEAR
 }
 
-/// The extended year of an era and a year in it, from -9999 to 9999.
+/// Returns the extended year of an era and a year in it, from -9999 to 9999.
 pub(crate) fn year_in_era<C: DateFieldsResolver>(
     era: &str,
     year: i32,
@@ -39,7 +39,7 @@ pub(crate) fn year_in_era<C: DateFieldsResolver>(
     }
 }
 
-/// The same, with the fault of a date that is made of a year, a month and a day.
+/// Returns the year of an era, with the error of a date that is made of a year, a month and a day.
 fn year_of_era<C: DateFieldsResolver>(era: &str, year: i32, cal: &C) -> Result<i32, DateNewError>
     requires { IsConstructorYear year }
     ensures year { result ≡ ok_or ((C.names cal.now).reads era.now year) InvalidEra }
@@ -51,7 +51,7 @@ fn year_of_era<C: DateFieldsResolver>(era: &str, year: i32, cal: &C) -> Result<i
     }
 }
 
-/// The extended year of a year that constructors take, in its era or without one.
+/// Returns the extended year of a year that constructors take, in its era or without one.
 fn extended_year_of<C: DateFieldsResolver>(
     year: YearInput<'_>,
     cal: &C,
@@ -67,7 +67,7 @@ fn extended_year_of<C: DateFieldsResolver>(
     }
 }
 
-/// The date of a year, a month and a day, or the first fault.
+/// Returns the date of a year, a month and a day, or the first error.
 #[tactic(auto, unfolding(cal_types::specs::Constructing::made_date))]
 pub(crate) fn date_of_input<C: DateFieldsResolver>(
     year: YearInput<'_>,
@@ -86,13 +86,16 @@ pub(crate) fn date_of_input<C: DateFieldsResolver>(
 }
 
 impl<C: DateFieldsResolver> ArithmeticDate<C> {
-    /// The date of a year, a month and a day, as `Date::try_new` of icu_calendar: none of them is changed.
+    /// Creates a date from a year, a month and a day. Values out of range are rejected, never adjusted.
     ///
-    /// In this order: [`DateNewError::InvalidYear`] comes for a year that isn't from -9999 to 9999, in its era
-    /// or without one; [`DateNewError::InvalidEra`] for an era that isn't one of the calendar's;
-    /// [`DateNewError::MonthNotInCalendar`] for a month that no year has, and
-    /// [`DateNewError::MonthNotInYear`] where this year lacks it; and [`DateNewError::InvalidDay`] for a day
-    /// that isn't from 1 to the month's length.
+    /// # Errors
+    ///
+    /// Fails with the first of these:
+    /// - [`DateNewError::InvalidYear`] if the year, in its era or without one, isn't from -9999 to 9999;
+    /// - [`DateNewError::InvalidEra`] if the era isn't one of the calendar's;
+    /// - [`DateNewError::MonthNotInCalendar`] if no year has the month;
+    /// - [`DateNewError::MonthNotInYear`] if this year lacks it;
+    /// - [`DateNewError::InvalidDay`] if the day isn't from 1 to the month's length.
     pub fn from_input_year_month_code_day(
         year: YearInput<'_>,
         month: Month,
@@ -111,7 +114,7 @@ impl<C: DateFieldsResolver> ArithmeticDate<C> {
     }
 }
 
-/// The date of a month and a day of a given year, or the first fault.
+/// Returns the date of a month and a day of a given year, or the first error.
 fn made_in_year<C: YearShapes>(
     year: C::YearInfo,
     month: Month,
@@ -131,7 +134,7 @@ fn made_in_year<C: YearShapes>(
     }
 }
 
-/// The date of a day of a month in its place, or the fault.
+/// Returns the date of a day of a month in its place, or the error.
 fn made_in_month<C: YearShapes>(
     year: C::YearInfo,
     month: u8,

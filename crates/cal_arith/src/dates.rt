@@ -20,7 +20,7 @@ pub struct Ymd<Y> {
     pub day: u8,
 }
 
-/// The day number of a date.
+/// Returns the day number of a date.
 pub(crate) fn to_rata_die<C: YearShapes>(date: Ymd<C::YearInfo>, cal: &C) -> RataDie
     requires { IsGivenDate (C.years cal.now) date }
     ensures { let y = C.years cal.now in result ≡ day_number y.list (date_of y date) }
@@ -28,7 +28,7 @@ pub(crate) fn to_rata_die<C: YearShapes>(date: Ymd<C::YearInfo>, cal: &C) -> Rat
     cal.to_rata_die_inner(date.year, date.month, date.day)
 }
 
-/// How many days the month in a place of a given year has.
+/// Returns how many days the month in a place of a given year has.
 fn length_of_month<C: YearShapes>(year: C::YearInfo, month: u8, cal: &C) -> u16
     requires year { IsGiven (C.years cal.now) year }
     requires place { let y = C.years cal.now in HasPlace y.list (y.extended year) month }
@@ -37,7 +37,7 @@ fn length_of_month<C: YearShapes>(year: C::YearInfo, month: u8, cal: &C) -> u16
     u16::from(cal.days_in_provided_month(year, month))
 }
 
-/// The place of the month and the day of the month of a day of a given year, which is counted from 0; each
+/// Returns the place of the month and the day of the month of a day of a given year, which is counted from 0; each
 /// month before it is asked for its length.
 pub(crate) fn month_by_month<C: YearShapes>(
     year: C::YearInfo,
@@ -60,7 +60,7 @@ pub(crate) fn month_by_month<C: YearShapes>(
     (month, rest as u8 + 1)
 }
 
-/// The date of a day number.
+/// Returns the date of a day number.
 pub(crate) fn from_rata_die<C: Years>(rd: RataDie, cal: &C) -> Ymd<C::YearInfo>
     requires { IsValidDay rd }
     ensures on { let y = C.years cal.now in IsOn y.list rd (date_of y result) }

@@ -18,14 +18,14 @@ use cal_days::RataDie;
 use cal_types::{DateDifferenceOptions, DateDuration, DateDurationUnit, Overflow};
 use std::sync::ledger::Ledger;
 
-/// The direction in which the second day lies from the first: backward where it lies before it.
+/// Returns the direction in which the second day lies from the first: backward if it lies before it.
 fn direction_between(first: RataDie, second: RataDie) -> Direction
     ensures { IsTrue (is_backward result) ↔ (second <ℤ first) }
 {
     Direction::from_sign(second < first)
 }
 
-/// How many days lie between two days.
+/// Returns how many days lie between two days.
 fn days_apart(first: RataDie, second: RataDie) -> u32
     requires { unsigned_abs (second -ℤ first) < 4294967296 }
     ensures { result ≡ unsigned_abs (second -ℤ first) }
@@ -33,7 +33,7 @@ fn days_apart(first: RataDie, second: RataDie) -> u32
     second.since(first).unsigned_abs() as u32
 }
 
-/// The whole weeks of a number of days, where weeks are admitted.
+/// Returns the whole weeks of a number of days, if weeks are admitted.
 fn admitted_weeks(days: u32, unit: DateDurationUnit) -> u32
     ensures weeks { IsTrue (admits_weeks unit) → (7 * result ≤ days) × (days < 7 * result + 7) }
     ensures none { admits_weeks unit ≡ false → result ≡ 0 }
@@ -44,7 +44,7 @@ fn admitted_weeks(days: u32, unit: DateDurationUnit) -> u32
     }
 }
 
-/// The difference from one date to another: years, then months, then weeks and days, each as many as do not
+/// Returns the difference from one date to another: years, then months, then weeks and days, each as many as do not
 /// surpass the second date.
 pub(crate) fn difference<C: YearShapes, L: Ledger>(
     from: Ymd<C::YearInfo>,
@@ -78,8 +78,8 @@ pub(crate) fn difference<C: YearShapes, L: Ledger>(
     }
 }
 
-/// The duration of [`crate::ArithmeticDate::until`] between two dates, each a year, the place of a month and a
-/// day. It looks up at most 8 years; where months are the largest unit, at most 8 and one more for each year
+/// Returns the duration of [`crate::ArithmeticDate::until`] between two dates, each a year, the place of a month and a
+/// day. It looks up at most 8 years; if months are the largest unit, at most 8 and one more for each year
 /// between the dates. Each look-up is a tick: [`YearShapes`] offers no other.
 pub fn difference_counted<C: YearShapes, L: Ledger>(
     from: (C::YearInfo, u8, u8),
@@ -110,7 +110,7 @@ pub fn difference_counted<C: YearShapes, L: Ledger>(
     difference(first, second, largest_unit(options), calendar, steps)
 }
 
-/// Which largest unit the options of a difference ask for.
+/// Returns which largest unit the options of a difference ask for.
 pub(crate) fn largest_unit(options: DateDifferenceOptions) -> DateDurationUnit
     ensures { result ≡ largest_unit_of options.largest_unit }
 {

@@ -24,7 +24,7 @@ impl Direction {
         }
     }
 
-    /// Whether a duration that counts in this direction is negative.
+    /// Returns whether a duration that counts in this direction is negative.
     pub(crate) fn is_backward(self) -> bool
         ensures { result ≡ is_backward self }
     {

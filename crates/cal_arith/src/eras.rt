@@ -7,8 +7,11 @@ ghost use Rattle.cal_arith.specs.FieldNames.{era_read};
 
 use cal_types::UnknownEraError;
 
-/// The extended year of a year in a calendar's only era, in which years are numbered as the extended years.
-/// [`UnknownEraError`] comes for every code but the era's.
+/// Returns the extended year of a year in a calendar's only era, in which years are numbered as the extended years.
+///
+/// # Errors
+///
+/// - [`UnknownEraError`] if the code isn't the era's.
 pub fn year_in_only_era(code: &[u8], era: &[u8], year: i32) -> Result<i32, UnknownEraError>
     ensures { result ≡ era_read (only_era_reads code.now era.now year) }
 {
@@ -19,8 +22,12 @@ pub fn year_in_only_era(code: &[u8], era: &[u8], year: i32) -> Result<i32, Unkno
     }
 }
 
-/// The extended year of a year, from -1040000 to 1040000, in the Common Era (`ce` or `ad`) or before it (`bce`
-/// or `bc`, which counts back: 1 BCE is year 0). [`UnknownEraError`] comes for every other code.
+/// Returns the extended year of a year, from -1040000 to 1040000, in the Common Era (`ce` or `ad`) or before it (`bce`
+/// or `bc`, which counts back: 1 BCE is year 0).
+///
+/// # Errors
+///
+/// - [`UnknownEraError`] if the code is another one.
 pub fn year_in_common_era(era: &[u8], year: i32) -> Result<i32, UnknownEraError>
     requires { IsFieldYear year }
     ensures { result ≡ era_read (common_era_reads era.now year) }

@@ -15,15 +15,15 @@ use crate::adding::can_be_named;
 use crate::arithmetic_date::ArithmeticDate;
 use crate::dates::Ymd;
 use crate::getters::{has_valid_day, is_up_to};
+use crate::given_years::given_year;
 use crate::month_names::{MonthOfYear, NamedMonth, named_month};
 use crate::years::{DateFieldsResolver, YearShapes, Years};
-use crate::years_by_number::year_with_number;
 use cal_types::{
     DateFields, DateFromFieldsError, DateFromFieldsOptions, EcmaReferenceYearError,
     MissingFieldsStrategy, Month, Overflow,
 };
 
-/// What the options ask for where a month or a day isn't there.
+/// Returns how the options handle a month or a day that doesn't exist.
 fn fields_overflow(options: DateFromFieldsOptions) -> Overflow
     ensures { result ≡ overflow_of options.overflow }
 {
@@ -33,7 +33,7 @@ fn fields_overflow(options: DateFromFieldsOptions) -> Overflow
     }
 }
 
-/// What the options ask for where fields are missing.
+/// Returns how the options handle missing fields.
 fn missing_fields(options: DateFromFieldsOptions) -> MissingFieldsStrategy
     ensures { result ≡ missing_fields_of options.missing_fields_strategy }
 {
@@ -43,7 +43,7 @@ fn missing_fields(options: DateFromFieldsOptions) -> MissingFieldsStrategy
     }
 }
 
-/// Whether missing fields are supplied.
+/// Returns whether missing fields are supplied.
 fn is_supplied(strategy: MissingFieldsStrategy) -> bool
     ensures { result ≡ is_ecma strategy }
 {
@@ -53,7 +53,7 @@ fn is_supplied(strategy: MissingFieldsStrategy) -> bool
     }
 }
 
-/// The day that is asked for: the given one, or the first where a missing one is supplied.
+/// Returns the day that is asked for: the given one, or 1 if a missing one is supplied.
 fn day_or_first(day: Option<u8>, supplied: bool) -> Result<u8, DateFromFieldsError>
     ensures { result ≡ day_or_first day supplied }
 {
@@ -64,7 +64,7 @@ fn day_or_first(day: Option<u8>, supplied: bool) -> Result<u8, DateFromFieldsErr
     }
 }
 
-/// An extended year beside an era's year has to be the same.
+/// Returns the year of an era, if an extended year beside it is the same.
 fn same_year(given: Option<i32>, year: i32) -> Result<i32, DateFromFieldsError>
     ensures { result ≡ same_year given year }
 {
@@ -74,7 +74,7 @@ fn same_year(given: Option<i32>, year: i32) -> Result<i32, DateFromFieldsError>
     }
 }
 
-/// The extended year of an era and a year in it.
+/// Returns the extended year of an era and a year in it.
 fn year_of_era<C: DateFieldsResolver>(
     era: &[u8],
     era_year: i32,
@@ -93,7 +93,7 @@ fn year_of_era<C: DateFieldsResolver>(
     }
 }
 
-/// The year that a bag names, if it names one.
+/// Returns the year that a bag names, if it names one.
 fn named_year<C: DateFieldsResolver>(
     era: Option<&[u8]>,
     era_year: Option<i32>,
@@ -121,7 +121,7 @@ fn named_year<C: DateFieldsResolver>(
     }
 }
 
-/// The month that a name says, where it isn't an ordinal month.
+/// Returns the month that a name says, unless it is an ordinal month.
 fn month_said(name: NamedMonth<'_>) -> Result<Month, DateFromFieldsError>
     ensures { seen month_parts result ≡ month_said (month_name name.entry) }
 {
@@ -135,7 +135,7 @@ fn month_said(name: NamedMonth<'_>) -> Result<Month, DateFromFieldsError>
     }
 }
 
-/// A month in its reference year.
+/// Returns a month in its reference year.
 fn month_in_reference_year<'a, C: DateFieldsResolver>(
     month: Month,
     day: u8,
@@ -154,8 +154,8 @@ fn month_in_reference_year<'a, C: DateFieldsResolver>(
     }
 }
 
-/// A month in its reference year. Under [`Overflow::Constrain`] the plain month of its number takes the place of
-/// a leap month that has none.
+/// Returns a month in its reference year. Under [`Overflow::Constrain`] the plain month of its number takes the place
+/// of a leap month that has none.
 fn month_or_plain_month<'a, C: DateFieldsResolver>(
     month: Month,
     day: u8,
@@ -179,7 +179,7 @@ fn month_or_plain_month<'a, C: DateFieldsResolver>(
     }
 }
 
-/// The reference year of a month and a day, where fields are supplied and no ordinal month is given.
+/// Returns the reference year of a month and a day, if fields are supplied and no ordinal month is given.
 fn without_year<'a, C: DateFieldsResolver>(
     month: NamedMonth<'a>,
     ordinal_month: Option<u8>,
@@ -201,7 +201,7 @@ fn without_year<'a, C: DateFieldsResolver>(
     }
 }
 
-/// The year that a bag names, or a reference year.
+/// Returns the year that a bag names, or a reference year.
 fn month_of_year<'a, C: DateFieldsResolver>(
     year: Option<i32>,
     month: NamedMonth<'a>,
@@ -218,14 +218,14 @@ fn month_of_year<'a, C: DateFieldsResolver>(
 {
     match year {
         Some(year) => Ok(MonthOfYear {
-            year: year_with_number(year, cal),
+            year: given_year(year, cal),
             month,
         }),
         None => without_year(month, ordinal_month, day, overflow, strategy, cal),
     }
 }
 
-/// An ordinal month beside a month has to be its place.
+/// Returns the place of a month, if an ordinal month beside it is the same.
 fn same_place(given: Option<u8>, place: u8) -> Result<u8, DateFromFieldsError>
     ensures { result ≡ same_place given place }
 {
@@ -235,7 +235,7 @@ fn same_place(given: Option<u8>, place: u8) -> Result<u8, DateFromFieldsError>
     }
 }
 
-/// A number from 1 to a last one; another is a fault, or under [`Overflow::Constrain`] the nearest one is taken.
+/// Returns a number from 1 to a last one. Under [`Overflow::Constrain`] the nearest one takes the place of another.
 fn number_within(
     number: u8,
     last: u8,
@@ -257,7 +257,7 @@ fn number_within(
     }
 }
 
-/// The place of a month in a given year.
+/// Returns the place of a month in a given year.
 fn place_of_month<C: YearShapes>(
     year: C::YearInfo,
     month: Month,
@@ -277,7 +277,7 @@ fn place_of_month<C: YearShapes>(
     }
 }
 
-/// The place in its year of the month that a bag names.
+/// Returns the place in its year of the month that a bag names.
 fn place_in_year<C: YearShapes>(
     year: C::YearInfo,
     month: NamedMonth<'_>,
@@ -302,7 +302,7 @@ fn place_in_year<C: YearShapes>(
     }
 }
 
-/// The date of a day of a month in its place, or the first fault.
+/// Returns the date of a day of a month in its place, or the first error.
 fn date_in_month<C: Years>(
     year: C::YearInfo,
     month: u8,
@@ -324,7 +324,7 @@ fn date_in_month<C: Years>(
     }
 }
 
-/// The date, where its day number is in the valid range.
+/// Returns the date if its day number is in the valid range.
 fn date_in_range<C: YearShapes>(
     date: Ymd<C::YearInfo>,
     cal: &C,
@@ -340,7 +340,7 @@ fn date_in_range<C: YearShapes>(
     }
 }
 
-/// The date of the month that is named in a given year, and of a day.
+/// Returns the date of the month that is named in a given year, and of a day.
 fn date_in_year<C: Years>(
     year: C::YearInfo,
     month: NamedMonth<'_>,
@@ -361,7 +361,7 @@ fn date_in_year<C: Years>(
     }
 }
 
-/// The date of a bag, or the first fault.
+/// Returns the date of a bag, or the first error.
 #[tactic(auto, unfolding(cal_types::specs::Resolving::resolve))]
 fn date_of_fields<C: DateFieldsResolver>(
     fields: DateFields<'_>,
@@ -399,9 +399,16 @@ fn date_of_fields<C: DateFieldsResolver>(
 }
 
 impl<C: DateFieldsResolver> ArithmeticDate<C> {
-    /// The date that a bag of fields names, or the first fault. The steps are those of ECMAScript Temporal's
-    /// CalendarResolveFields; the default of the option `overflow` is [`Overflow::Reject`], and that of
-    /// `missing_fields_strategy` [`MissingFieldsStrategy::Reject`].
+    /// Creates a date from a bag of fields (ECMAScript Temporal, `CalendarResolveFields`).
+    ///
+    /// The default of the option `overflow` is [`Overflow::Reject`], and that of `missing_fields_strategy` is
+    /// [`MissingFieldsStrategy::Reject`].
+    ///
+    /// # Errors
+    ///
+    /// Fails with the first invalid field, in the order of [`DateFromFieldsError`]'s steps: the day and the month are
+    /// given, the year, the month, the ordinal month, the day, and the day number. `Calendar::from_fields` of cal_base
+    /// lists the variants.
     pub fn from_fields(
         fields: DateFields<'_>,
         options: DateFromFieldsOptions,

@@ -15,7 +15,7 @@ use cal_days::ranges::{is_covered_year, is_valid_day};
 use cal_types::Month;
 
 impl<C: YearShapes> ArithmeticDate<C> {
-    /// The extended year, which numbers the calendar's years without eras.
+    /// Returns the extended year, which numbers the calendar's years without eras.
     pub fn extended_year(self, cal: &C) -> i32
         requires { Belongs (C.years cal.now) self.parts }
         ensures { result ≡ (C.years cal.now).extended self.parts.year }
@@ -23,7 +23,7 @@ impl<C: YearShapes> ArithmeticDate<C> {
         cal.extended_from_year_info(self.parts.year)
     }
 
-    /// How many months the date's year has, 12 or 13.
+    /// Returns how many months the date's year has, 12 or 13.
     pub fn months_in_year(self, cal: &C) -> u8
         requires { Belongs (C.years cal.now) self.parts }
         ensures { let y = C.years cal.now in
@@ -32,7 +32,7 @@ impl<C: YearShapes> ArithmeticDate<C> {
         cal.months_in_provided_year(self.parts.year)
     }
 
-    /// How many days the date's year has, at most 403.
+    /// Returns how many days the date's year has, at most 403.
     pub fn days_in_year(self, cal: &C) -> u16
         requires { Belongs (C.years cal.now) self.parts }
         ensures { let y = C.years cal.now in
@@ -41,7 +41,7 @@ impl<C: YearShapes> ArithmeticDate<C> {
         days_of_year(self.parts.year, cal)
     }
 
-    /// How many days the date's month has, from 1 to 31.
+    /// Returns how many days the date's month has, from 1 to 31.
     pub fn days_in_month(self, cal: &C) -> u8
         requires { Belongs (C.years cal.now) self.parts }
         ensures { let y = C.years cal.now in
@@ -51,7 +51,7 @@ impl<C: YearShapes> ArithmeticDate<C> {
         cal.days_in_provided_month(date.year, date.month)
     }
 
-    /// The day's number in its year, from 1.
+    /// Returns the day's number in its year, from 1.
     pub fn day_of_year(self, cal: &C) -> u16
         requires { Belongs (C.years cal.now) self.parts }
         ensures { let y = C.years cal.now in start_of_year y.list (y.extended self.parts.year) +ℤ pos result
@@ -60,7 +60,7 @@ impl<C: YearShapes> ArithmeticDate<C> {
         day_in_year(self.parts, cal)
     }
 
-    /// The month by its number, which is a leap month or not; its place in the year may be another number.
+    /// Returns the month by its number, which is a leap month or not; its place in the year may be another number.
     pub fn month_in_calendar(self, cal: &C) -> Month
         requires { Belongs (C.years cal.now) self.parts }
         ensures { let y = C.years cal.now in
@@ -70,7 +70,7 @@ impl<C: YearShapes> ArithmeticDate<C> {
         cal.month_from_ordinal(date.year, date.month)
     }
 
-    /// Whether the calendar has this date and its day number is in the valid range. The year is one that the
+    /// Returns whether the calendar has this date and its day number is in the valid range. The year is one that the
     /// calendar gave; the month's place and the day may be any numbers.
     pub fn is_date_of(self, cal: &C) -> bool
         requires { IsGiven (C.years cal.now) self.parts.year }
@@ -82,7 +82,7 @@ impl<C: YearShapes> ArithmeticDate<C> {
     }
 }
 
-/// How many days a given year has: from its first day to its last.
+/// Returns how many days a given year has: from its first day to its last.
 fn days_of_year<C: YearShapes>(year: C::YearInfo, cal: &C) -> u16
     requires { IsGiven (C.years cal.now) year }
     ensures { let y = C.years cal.now in result ≡ year_length y.list (y.extended year) }
@@ -92,7 +92,7 @@ fn days_of_year<C: YearShapes>(year: C::YearInfo, cal: &C) -> u16
     day_in_year(Ymd { year, month, day }, cal)
 }
 
-/// The number of a date's day in its year, from 1.
+/// Returns the number of a date's day in its year, from 1.
 fn day_in_year<C: YearShapes>(date: Ymd<C::YearInfo>, cal: &C) -> u16
     requires { IsGivenDate (C.years cal.now) date }
     ensures { let y = C.years cal.now in
@@ -103,14 +103,14 @@ fn day_in_year<C: YearShapes>(date: Ymd<C::YearInfo>, cal: &C) -> u16
     before + 1
 }
 
-/// Whether a number lies from 1 to a last one.
+/// Returns whether a number lies from 1 to a last one.
 pub(crate) fn is_up_to(number: u8, last: u8) -> bool
     ensures { result ≡ (nat_le 1 number && nat_le number last) }
 {
     1 <= number && number <= last
 }
 
-/// Whether a given year has the month and the day.
+/// Returns whether a given year has the month and the day.
 fn is_listed<C: YearShapes>(date: Ymd<C::YearInfo>, cal: &C) -> bool
     requires { IsGiven (C.years cal.now) date.year }
     ensures { let y = C.years cal.now in result ≡ is_date y.list (date_of y date) }
@@ -119,8 +119,8 @@ fn is_listed<C: YearShapes>(date: Ymd<C::YearInfo>, cal: &C) -> bool
         && is_up_to(date.day, cal.days_in_provided_month(date.year, date.month))
 }
 
-/// Whether a date of the calendar has a valid day. Each date of the years from -980000 to 980000 has one, so that its
-/// day number isn't computed.
+/// Returns whether a date of the calendar has a valid day. Each date of the years from -980000 to 980000 has one, so
+/// that its day number isn't computed.
 pub(crate) fn has_valid_day<C: YearShapes>(date: Ymd<C::YearInfo>, cal: &C) -> bool
     requires { IsGivenDate (C.years cal.now) date }
     ensures { let y = C.years cal.now in result ≡ is_valid_day (day_number y.list (date_of y date)) }
@@ -131,14 +131,14 @@ pub(crate) fn has_valid_day<C: YearShapes>(date: Ymd<C::YearInfo>, cal: &C) -> b
     is_in_range(to_rata_die(date, cal))
 }
 
-/// Whether a year lies from -980000 to 980000.
+/// Returns whether a year lies from -980000 to 980000.
 fn is_covered(year: i32) -> bool
     ensures { result ≡ is_covered_year year }
 {
     is_covered_year(year)
 }
 
-/// Whether a day number is in the valid range.
+/// Returns whether a day number is in the valid range.
 pub(crate) fn is_in_range(rd: RataDie) -> bool
     ensures { result ≡ is_valid_day rd }
 {

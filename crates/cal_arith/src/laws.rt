@@ -28,7 +28,7 @@ pub fn difference_added_back<C: YearShapes>(cal: &C, duration: DateDuration, uni
         → IsSum y.list y.offset t duration Overflow.Constrain (Ok u) }
 {}
 
-/// Whether two dates of a calendar are the same: just where their day numbers are.
+/// Returns whether two dates of a calendar are the same: exactly if their day numbers are.
 pub fn are_same_day<C: YearShapes>(
     first: &ArithmeticDate<C>,
     second: &ArithmeticDate<C>,
@@ -42,7 +42,7 @@ pub fn are_same_day<C: YearShapes>(
     first == second
 }
 
-/// The order of two dates of a calendar: that of their day numbers.
+/// Returns the order of two dates of a calendar: that of their day numbers.
 pub fn order_of_days<C: YearShapes>(
     first: &ArithmeticDate<C>,
     second: &ArithmeticDate<C>,
@@ -56,14 +56,19 @@ pub fn order_of_days<C: YearShapes>(
     first.cmp(second)
 }
 
-/// A sum has one answer, whatever is added to the year where its limit is tested.
+/// A sum has one result, whatever is added to the year when its limit is tested.
 pub fn sum_has_one_answer<C: YearShapes>(cal: &C, duration: DateDuration, overflow: Overflow)
     ensures { let y = C.years cal.now in
         (shift : ℤ) (t : Date) (r s : Result Date DateAddError)
         → IsSum y.list shift t duration overflow r → IsSum y.list shift t duration overflow s → r ≡ s }
 {}
 
-/// The difference of two dates in any unit, added to the first under [`Overflow::Constrain`]: always the second.
+/// Returns the first date with the difference of two dates, in any unit, added under [`Overflow::Constrain`]: always
+/// the second date.
+///
+/// # Errors
+///
+/// - None: the result is always `Ok`.
 pub fn added_back<C: Years>(
     first: &ArithmeticDate<C>,
     second: &ArithmeticDate<C>,

@@ -13,6 +13,7 @@ mod direction;
 pub mod eras;
 mod fields;
 mod getters;
+mod given_years;
 pub mod laws;
 mod month_names;
 mod months;
@@ -22,7 +23,6 @@ mod placing;
 pub mod steps;
 pub mod years;
 mod years_between;
-mod years_by_number;
 
 pub use adding::can_be_named;
 pub use arithmetic_date::ArithmeticDate;

@@ -27,7 +27,7 @@ pub struct MonthOfYear<'a, Y> {
     pub month: NamedMonth<'a>,
 }
 
-/// The month that a bag names. A month and a month code exclude each other, and one of the three has to be
+/// Returns the month that a bag names. A month and a month code exclude each other, and one of the three has to be
 /// there.
 pub(crate) fn named_month<'a>(
     month: Option<Month>,

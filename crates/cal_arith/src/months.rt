@@ -8,9 +8,9 @@ ghost use Rattle.cal_arith.specs.Given.{IsGiven};
 ghost use Rattle.cal_arith.specs.Directions.{is_backward};
 
 use crate::direction::Direction;
+use crate::given_years::{given_year, given_year_counted};
 use crate::steps::Steps;
 use crate::years::{YearShapes, Years};
-use crate::years_by_number::{year_by_number, year_with_number};
 use std::marker::Brand;
 use std::sync::ledger::{Blank, Ledger};
 
@@ -23,7 +23,7 @@ pub struct YearMonth<Y> {
     pub month: u8,
 }
 
-/// How many months lie between the first day of a year and that of another which isn't before it.
+/// Returns how many months lie between the first day of a year and that of another which isn't before it.
 ///
 /// Years whose months the calendar doesn't count by their numbers are looked up, at the cost of one tick each.
 pub(crate) fn months_between_counted<C: YearShapes, L: Ledger>(
@@ -48,7 +48,7 @@ pub(crate) fn months_between_counted<C: YearShapes, L: Ledger>(
         count += months;
         number = next;
         if number < end {
-            let year = year_by_number(number, cal, steps);
+            let year = given_year_counted(number, cal, steps);
             count += u32::from(cal.months_in_provided_year(year));
             number += 1;
         }
@@ -56,7 +56,7 @@ pub(crate) fn months_between_counted<C: YearShapes, L: Ledger>(
     count
 }
 
-/// How many months lie between the first days of two years, by a counter that nobody reads.
+/// Returns how many months lie between the first days of two years, by a counter that nobody reads.
 fn months_between_with_blank<C: YearShapes, L: Ledger>(
     first: C::YearInfo,
     last: C::YearInfo,
@@ -76,7 +76,7 @@ fn months_between_with_blank<C: YearShapes, L: Ledger>(
     months_between_counted(first, last, cal, &mut steps)
 }
 
-/// How many months lie between the first days of two years.
+/// Returns how many months lie between the first days of two years.
 fn months_between_years<C: YearShapes>(first: C::YearInfo, last: C::YearInfo, cal: &C) -> u32
     requires first { IsGiven (C.years cal.now) first }
     requires last { IsGiven (C.years cal.now) last }
@@ -94,8 +94,8 @@ struct MonthsFrom<Y> {
     months: u32,
 }
 
-/// The year so many years ahead, and the months from its first one to the month that some lead to from a year's first
-/// one. None where it begins past that month.
+/// Returns the year so many years ahead, and the months from its first one to the month that some lead to from a year's
+/// first one. `None` if it begins past that month.
 fn years_ahead<C: Years>(
     year: C::YearInfo,
     months: u32,
@@ -110,7 +110,7 @@ fn years_ahead<C: Years>(
     ensures there { 13 * ahead ≤ months → IsSome result }
 {
     let number = cal.extended_from_year_info(year);
-    let there = year_with_number(number + ahead as i32, cal);
+    let there = given_year(number + ahead as i32, cal);
     let between = months_between_years(year, there, cal);
     if between > months {
         return None;
@@ -121,7 +121,8 @@ fn years_ahead<C: Years>(
     })
 }
 
-/// A later year from whose first month fewer months lead to the month that at least 26 lead to from a year's first one.
+/// Returns a later year from whose first month fewer months lead to the month that at least 26 lead to from a year's
+/// first one.
 ///
 /// It is the year that the calendar estimates, or the one a thirteenth of the months ahead where the estimate is nearer
 /// or begins past the month: no year has more than 13.
@@ -142,8 +143,8 @@ fn estimated<C: Years>(year: C::YearInfo, months: u32, cal: &C) -> MonthsFrom<C:
     }
 }
 
-/// A later year from whose first month fewer months lead to the month that some lead to from a year's first one. The
-/// months of that year are given, and do not lead past it.
+/// Returns a later year from whose first month fewer months lead to the month that some lead to from a year's first
+/// one. The months of that year are given, and do not lead past it.
 fn jumped<C: Years>(year: C::YearInfo, months: u32, count: u32, cal: &C) -> MonthsFrom<C::YearInfo>
     requires year { IsGiven (C.years cal.now) year }
     requires range { (pos 12 *ℤ (C.years cal.now).extended year +ℤ pos months) ≤ℤ pos 95000000 }
@@ -156,13 +157,13 @@ fn jumped<C: Years>(year: C::YearInfo, months: u32, count: u32, cal: &C) -> Mont
     }
     let number = cal.extended_from_year_info(year);
     MonthsFrom {
-        year: year_with_number(number + 1, cal),
+        year: given_year(number + 1, cal),
         months: months - count,
     }
 }
 
-/// The month so many months after the first one of a year. Where the calendar estimates well, one or two years are looked
-/// up; each jump leaves a thirteenth of the months at most.
+/// Returns the month so many months after the first one of a year. Where the calendar estimates well, one or two years
+/// are looked up; each jump leaves a thirteenth of the months at most.
 fn month_after_first<C: Years>(year: C::YearInfo, months: u32, cal: &C) -> YearMonth<C::YearInfo>
     requires year { IsGiven (C.years cal.now) year }
     requires range { (pos 12 *ℤ (C.years cal.now).extended year +ℤ pos months) ≤ℤ pos 95000000 }
@@ -185,7 +186,7 @@ fn month_after_first<C: Years>(year: C::YearInfo, months: u32, cal: &C) -> YearM
     }
 }
 
-/// The month so many months later.
+/// Returns the month so many months later.
 fn months_later<C: Years>(
     year: C::YearInfo,
     month: u8,
@@ -201,7 +202,7 @@ fn months_later<C: Years>(
     month_after_first(year, u32::from(month) - 1 + months, cal)
 }
 
-/// The month so many months earlier, counted forward from a year that begins before it.
+/// Returns the month so many months earlier, counted forward from a year that begins before it.
 fn month_from_before<C: Years>(
     year: C::YearInfo,
     month: u8,
@@ -215,12 +216,12 @@ fn month_from_before<C: Years>(
         IsMonthsAfter y.list (y.extended year) month (neg_ℤ (pos months)) (y.extended result.year) result.month }
 {
     let number = cal.extended_from_year_info(year) - (months / 12) as i32 - 1;
-    let start = year_with_number(number, cal);
+    let start = given_year(number, cal);
     let between = months_between_years(start, year, cal);
     month_after_first(start, between + (u32::from(month) - 1) - months, cal)
 }
 
-/// The month so many months earlier.
+/// Returns the month so many months earlier.
 fn months_earlier<C: Years>(
     year: C::YearInfo,
     month: u8,
@@ -239,7 +240,7 @@ fn months_earlier<C: Years>(
             month: month - months as u8,
         };
     }
-    let before = year_with_number(cal.extended_from_year_info(year) - 1, cal);
+    let before = given_year(cal.extended_from_year_info(year) - 1, cal);
     let count = u32::from(cal.months_in_provided_year(before));
     let back = months - u32::from(month);
     if back < count {
@@ -251,7 +252,8 @@ fn months_earlier<C: Years>(
     month_from_before(year, month, months, cal)
 }
 
-/// The month so many months later, or earlier.
+/// Returns the month `months` months later or earlier.
+#[inline(always)]
 pub(crate) fn months_away<C: Years>(
     year: C::YearInfo,
     month: u8,
@@ -266,6 +268,9 @@ pub(crate) fn months_away<C: Years>(
         IsMonthsAfter y.list (y.extended year) month (toward (is_backward direction) months)
         (y.extended result.year) result.month }
 {
+    if months == 0 {
+        return YearMonth { year, month };
+    }
     match direction {
         Direction::Forward => months_later(year, month, months, cal),
         Direction::Backward => months_earlier(year, month, months, cal),

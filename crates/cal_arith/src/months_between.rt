@@ -12,11 +12,11 @@ ghost use Rattle.cal_arith.specs.Directions.{is_backward};
 
 use crate::dates::Ymd;
 use crate::direction::Direction;
+use crate::given_years::given_year_counted;
 use crate::months::{YearMonth, months_between_counted};
 use crate::past::is_past_day;
 use crate::steps::Steps;
 use crate::years::YearShapes;
-use crate::years_by_number::year_by_number;
 use cal_types::DateDurationUnit;
 use std::sync::ledger::Ledger;
 
@@ -31,7 +31,7 @@ pub struct MonthsReached<Y> {
     pub month: u8,
 }
 
-/// How many months the second month comes after the first.
+/// Returns how many months the second month comes after the first.
 fn months_apart<C: YearShapes, L: Ledger>(
     first: YearMonth<C::YearInfo>,
     last: YearMonth<C::YearInfo>,
@@ -55,7 +55,7 @@ fn months_apart<C: YearShapes, L: Ledger>(
     between + u32::from(last.month) - u32::from(first.month)
 }
 
-/// How many months lie between a month and one that is not before it in the direction of counting.
+/// Returns how many months lie between a month and one that is not before it in the direction of counting.
 fn months_toward<C: YearShapes, L: Ledger>(
     start: YearMonth<C::YearInfo>,
     end: YearMonth<C::YearInfo>,
@@ -82,7 +82,7 @@ fn months_toward<C: YearShapes, L: Ledger>(
     }
 }
 
-/// The month after a month.
+/// Returns the month after a month.
 fn next_month<C: YearShapes, L: Ledger>(
     here: YearMonth<C::YearInfo>,
     cal: &C,
@@ -103,12 +103,12 @@ fn next_month<C: YearShapes, L: Ledger>(
         };
     }
     YearMonth {
-        year: year_by_number(cal.extended_from_year_info(here.year) + 1, cal, steps),
+        year: given_year_counted(cal.extended_from_year_info(here.year) + 1, cal, steps),
         month: 1,
     }
 }
 
-/// The month before a month.
+/// Returns the month before a month.
 fn previous_month<C: YearShapes, L: Ledger>(
     here: YearMonth<C::YearInfo>,
     cal: &C,
@@ -128,14 +128,14 @@ fn previous_month<C: YearShapes, L: Ledger>(
             month: here.month - 1,
         };
     }
-    let year = year_by_number(cal.extended_from_year_info(here.year) - 1, cal, steps);
+    let year = given_year_counted(cal.extended_from_year_info(here.year) - 1, cal, steps);
     YearMonth {
         year,
         month: cal.months_in_provided_year(year),
     }
 }
 
-/// The month from which one more month in the direction of counting leads here.
+/// Returns the month from which one more month in the direction of counting leads here.
 fn month_short_of<C: YearShapes, L: Ledger>(
     here: YearMonth<C::YearInfo>,
     direction: Direction,
@@ -156,7 +156,7 @@ fn month_short_of<C: YearShapes, L: Ledger>(
     }
 }
 
-/// The greatest number of months, after the years, that does not surpass the second date.
+/// Returns the greatest number of months, after the years, that does not surpass the second date.
 fn months_between<C: YearShapes, L: Ledger>(
     from: Ymd<C::YearInfo>,
     to: Ymd<C::YearInfo>,
@@ -201,7 +201,7 @@ fn months_between<C: YearShapes, L: Ledger>(
     }
 }
 
-/// The number of months of a difference, by its largest unit, and the month that it leads to.
+/// Returns the number of months of a difference, by its largest unit, and the month that it leads to.
 pub(crate) fn admitted_months<C: YearShapes, L: Ledger>(
     from: Ymd<C::YearInfo>,
     to: Ymd<C::YearInfo>,

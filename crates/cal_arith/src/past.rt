@@ -20,7 +20,7 @@ fn rank(month: Month) -> u16
     2 * u16::from(month.number()) + if month.is_leap() { 1 } else { 0 }
 }
 
-/// Whether a month and day come after others of the same year, or before them where counting goes backward.
+/// Returns whether a month and day come after others of the same year, or before them if counting goes backward.
 fn is_past(direction: Direction, month: u16, day: u8, other_month: u16, other_day: u8) -> bool
     ensures { IsTrue result ↔ IsPast (is_backward direction) month day other_month other_day }
 {
@@ -30,7 +30,7 @@ fn is_past(direction: Direction, month: u16, day: u8, other_month: u16, other_da
     }
 }
 
-/// Whether a day comes after another of the same month, or before it where counting goes backward.
+/// Returns whether a day comes after another of the same month, or before it if counting goes backward.
 pub(crate) fn is_past_day(direction: Direction, day: u8, other: u8) -> bool
     ensures { IsTrue result ↔ IsPastDay (is_backward direction) day other }
 {
@@ -40,7 +40,7 @@ pub(crate) fn is_past_day(direction: Direction, day: u8, other: u8) -> bool
     }
 }
 
-/// Whether as many years as lie between the years of two dates lead past the second, by the order of months
+/// Returns whether as many years as lie between the years of two dates lead past the second, by the order of months
 /// or by the place of the first date's month in the second's year.
 pub(crate) fn surpasses_in_year<C: YearShapes>(
     from: Ymd<C::YearInfo>,

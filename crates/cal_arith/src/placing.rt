@@ -20,7 +20,7 @@ use crate::years::{DateFieldsResolver, YearShapes};
 use cal_days::ranges::MAX_CONSTRUCTOR_YEAR;
 use cal_types::{DateError, DateNewError, LunisolarDateError, Month, RangeError, YearInput};
 
-/// A number isn't from 1 to the greatest that is allowed.
+/// Returns a number isn't from 1 to the greatest that is allowed.
 fn not_up_to(field: &'static str, value: u8, max: u8) -> RangeError
     ensures { range_parts result ≡ out_of_range field.now (pos value) (pos 1) (pos max) }
 {
@@ -32,7 +32,7 @@ fn not_up_to(field: &'static str, value: u8, max: u8) -> RangeError
     }
 }
 
-/// A year isn't from -9999 to 9999.
+/// Returns a year isn't from -9999 to 9999.
 fn not_small(year: i32) -> RangeError
     ensures { range_parts result ≡ year_out_of_range year }
 {
@@ -44,7 +44,7 @@ fn not_small(year: i32) -> RangeError
     }
 }
 
-/// A year, where constructors take it.
+/// Returns a year if constructors take it.
 fn small_year(year: i32) -> Option<i32>
     ensures year { result ≡ (if is_constructor_year year then Some year else None) }
     ensures small { IfSome result (λ y. IsConstructorYear y) }
@@ -57,7 +57,7 @@ fn small_year(year: i32) -> Option<i32>
     }
 }
 
-/// The date of a day of a month in its place, or that the month doesn't have the day.
+/// Returns the date of a day of a month in its place, or that the month doesn't have the day.
 fn placed_day<C: YearShapes>(
     year: C::YearInfo,
     month: u8,
@@ -78,7 +78,7 @@ fn placed_day<C: YearShapes>(
     }
 }
 
-/// The date of an ordinal month and a day of a given year, or the first of the two that is out of its range.
+/// Returns the date of an ordinal month and a day of a given year, or the first of the two that is out of its range.
 fn placed_in_year<C: YearShapes>(
     year: C::YearInfo,
     month: u8,
@@ -99,8 +99,8 @@ fn placed_in_year<C: YearShapes>(
     }
 }
 
-/// The date of an ordinal month and a day of an extended year whose days are valid, or the first of the two that is out
-/// of its range.
+/// Returns the date of an ordinal month and a day of an extended year whose days are valid, or the first of the two
+/// that is out of its range.
 fn placed_in_extended_year<C: DateFieldsResolver>(
     year: i32,
     month: u8,
@@ -115,7 +115,7 @@ fn placed_in_extended_year<C: DateFieldsResolver>(
     placed_in_year(cal.year_info_from_extended(year), month, day, cal)
 }
 
-/// The date of a year, an ordinal month and a day, or the first of them that is out of its range.
+/// Returns the date of a year, an ordinal month and a day, or the first of them that is out of its range.
 #[tactic(auto, unfolding(cal_types::specs::Placing::placed_date))]
 fn placed<C: DateFieldsResolver>(
     year: i32,
@@ -133,7 +133,7 @@ fn placed<C: DateFieldsResolver>(
     }
 }
 
-/// The date of an ordinal month and a day of a year in an era, which constructors take; or the first fault.
+/// Returns the date of an ordinal month and a day of a year in an era, which constructors take; or the first error.
 fn placed_in_era<C: DateFieldsResolver>(
     era: &str,
     year: i32,
@@ -155,7 +155,7 @@ fn placed_in_era<C: DateFieldsResolver>(
     }
 }
 
-/// The date of an era, a year in it, an ordinal month and a day, or the first fault.
+/// Returns the date of an era, a year in it, an ordinal month and a day, or the first error.
 #[tactic(auto, unfolding(cal_types::specs::Placing::placed_of_era))]
 fn placed_of_era<C: DateFieldsResolver>(
     era: &str,
@@ -175,7 +175,7 @@ fn placed_of_era<C: DateFieldsResolver>(
     }
 }
 
-/// The fault of a lunisolar date, which names no era.
+/// Returns the error of a lunisolar date, which names no era.
 fn lunisolar_cause(cause: DateNewError) -> LunisolarDateError
     ensures { result ≡ lunisolar_fault cause }
 {
@@ -188,13 +188,15 @@ fn lunisolar_cause(cause: DateNewError) -> LunisolarDateError
 }
 
 impl<C: DateFieldsResolver> ArithmeticDate<C> {
-    /// The date of an extended year, a month and a day, as the constructors of lunisolar calendars in icu_calendar
-    /// make it: none of them is changed.
+    /// Creates a date from an extended year, a month and a day. Values out of range are rejected, never adjusted.
     ///
-    /// In this order: [`LunisolarDateError::InvalidYear`] comes for a year that isn't from -9999 to 9999;
-    /// [`LunisolarDateError::MonthNotInCalendar`] for a month that no year has, and
-    /// [`LunisolarDateError::MonthNotInYear`] where this year lacks it; and [`LunisolarDateError::InvalidDay`] for a
-    /// day that isn't from 1 to the month's length.
+    /// # Errors
+    ///
+    /// Fails with the first of these:
+    /// - [`LunisolarDateError::InvalidYear`] if the year isn't from -9999 to 9999;
+    /// - [`LunisolarDateError::MonthNotInCalendar`] if no year has the month;
+    /// - [`LunisolarDateError::MonthNotInYear`] if this year lacks it;
+    /// - [`LunisolarDateError::InvalidDay`] if the day isn't from 1 to the month's length.
     pub fn try_from_ymd_lunisolar(
         year: i32,
         month: Month,
@@ -212,11 +214,13 @@ impl<C: DateFieldsResolver> ArithmeticDate<C> {
         }
     }
 
-    /// The date of an extended year, the place of a month in it and a day, as the constructors of one calendar in
-    /// icu_calendar make it: none of them is changed.
+    /// Creates a date from an extended year, an ordinal month and a day. Values out of range are rejected, never
+    /// adjusted.
     ///
-    /// The [`RangeError`] names the first that is out of its range: `year` from -9999 to 9999, `month` from 1 to the
-    /// year's count of months, or `day` from 1 to the month's length.
+    /// # Errors
+    ///
+    /// - [`RangeError`] names the first value out of its range: `year` from -9999 to 9999, `month` from 1 to the
+    ///   year's count of months, or `day` from 1 to the month's length.
     pub fn from_year_month_day(year: i32, month: u8, day: u8, cal: &C) -> Result<Self, RangeError>
         ensures placed { let y = C.years cal.now in
             result_map_both (λ a. date_of y a.parts) range_parts result
@@ -229,13 +233,16 @@ impl<C: DateFieldsResolver> ArithmeticDate<C> {
         }
     }
 
-    /// The date of an era's code, a year in the era, the place of a month and a day, as the constructor of the Japanese
-    /// calendar in icu_calendar makes it: none of them is changed.
+    /// Creates a date from an era's code, an era year, an ordinal month and a day. Values out of range are rejected,
+    /// never adjusted.
     ///
-    /// In this order: [`DateError::Range`] comes for a year in the era, `year`, that isn't from -9999 to 9999;
-    /// [`DateError::UnknownEra`] for a code that isn't one of the calendar's; and [`DateError::Range`] for a place,
-    /// `month`, that isn't from 1 to the year's count of months, and for a `day` that isn't from 1 to the month's
-    /// length.
+    /// # Errors
+    ///
+    /// Fails with the first of these:
+    /// - [`DateError::Range`] if the era year, `year`, isn't from -9999 to 9999;
+    /// - [`DateError::UnknownEra`] if the code isn't one of the calendar's;
+    /// - [`DateError::Range`] if `month` isn't from 1 to the year's count of months, or `day` isn't from 1 to the
+    ///   month's length.
     pub fn from_era_year_month_day(
         era: &str,
         year: i32,

@@ -30,7 +30,7 @@ use std::sync::ledger::Ledger;
 ///
 /// A packed form has to keep all that the year knows, since the year that is unpacked is the one that was packed: a
 /// Julian year is its number alone, but a year of a table also knows the lengths of its months and its first day.
-/// Unpacking has no condition: any packed value gives some year.
+/// Unpacking has no condition: any packed value unpacks to some year.
 ///
 /// Dates keep the year itself, which is faster to read than a packed form. What stores many dates packs them.
 ///
@@ -69,22 +69,22 @@ pub trait PackWithMD: Copy {
     /// The year, the place of the month and the day that are packed.
     ghost unpacked: { Self.Packed → Ymd Self };
 
-    /// Packs a year with a month's place from 1 to 13 and a day from 1 to 31; unpacking gives them back.
+    /// Packs a year with a month's place from 1 to 13 and a day from 1 to 31; unpacking returns them.
     fn pack(self, month: u8, day: u8) -> Self::Packed
         requires storable { IsFieldYear (stored self) }
         requires month { (1 ≤ month) × (month ≤ 13) }
         requires day { (1 ≤ day) × (day ≤ 31) }
         ensures parts { unpacked result ≡ ymd self month day };
 
-    /// The year of a packed date.
+    /// Returns the year of a packed date.
     fn unpack_year(packed: Self::Packed) -> Self
         ensures { result ≡ (unpacked packed).year };
 
-    /// The place in its year of a packed date's month.
+    /// Returns the place in its year of a packed date's month.
     fn unpack_month(packed: Self::Packed) -> u8
         ensures { result ≡ (unpacked packed).month };
 
-    /// The day of the month of a packed date.
+    /// Returns the day of the month of a packed date.
     fn unpack_day(packed: Self::Packed) -> u8
         ensures { result ≡ (unpacked packed).day };
 }
@@ -101,33 +101,33 @@ pub trait YearShapes {
     /// added to an extended year to give the stored one.
     ghost years: { Self → CalendarYears Self.YearInfo };
 
-    /// The year of an extended year, at the cost of one tick.
+    /// Returns the year of an extended year, at the cost of one tick.
     fn year_counted<L: Ledger>(&self, extended_year: i32, steps: &mut Steps<L>) -> Self::YearInfo
         requires { IsRuleYear extended_year }
         ensures year { result ≡ (years self.now).year_of extended_year }
         ensures tick { steps.new ≡ steps.old + 1 };
 
-    /// The extended year of a given year.
+    /// Returns the extended year of a given year.
     fn extended_from_year_info(&self, year: Self::YearInfo) -> i32
         requires { IsGiven (years self.now) year }
         ensures { result ≡ (years self.now).extended year };
 
-    /// How many months a given year has.
+    /// Returns how many months a given year has.
     fn months_in_provided_year(&self, year: Self::YearInfo) -> u8
         requires { IsGiven (years self.now) year }
         ensures { let y = years self.now in result ≡ month_count y.list (y.extended year) };
 
-    /// How many days the month in this place of a given year has.
+    /// Returns how many days the month in this place of a given year has.
     fn days_in_provided_month(&self, year: Self::YearInfo, month: u8) -> u8
         requires { HasMonth (years self.now) year month }
         ensures { let y = years self.now in result ≡ month_length y.list (y.extended year) month };
 
-    /// The day number of a date of a given year.
+    /// Returns the day number of a date of a given year.
     fn to_rata_die_inner(&self, year: Self::YearInfo, month: u8, day: u8) -> RataDie
         requires { IsGivenDate (years self.now) (ymd year month day) }
         ensures { let y = years self.now in result ≡ day_number y.list (date (y.extended year) month day) };
 
-    /// A number of months that `count` years from -8000000 to 8000000 have at least. It has the sign of
+    /// Returns a number of months that `count` years from -8000000 to 8000000 have at least. It has the sign of
     /// `count`.
     fn min_months_from(&self, start: Self::YearInfo, count: i32) -> i32
         requires year { IsGiven (years self.now) start }
@@ -137,8 +137,9 @@ pub trait YearShapes {
         ensures least { (y : ℤ) → IsRuleYear y → IsRuleYear (y +ℤ pos (unsigned_abs count) -ℤ pos 1)
             → unsigned_abs result ≤ total (month_count (years self.now).list) y (unsigned_abs count) };
 
-    /// A year from one number up to another, and how many months lie between the first days of the first year and of
-    /// that one, as far as the calendar counts them by the numbers alone: where it can't, it is the first year itself.
+    /// Returns a year from one number up to another, and how many months lie between the first days of the first year
+    /// and of that one, as far as the calendar counts them by the numbers alone: where it can't, it is the first year
+    /// itself.
     fn months_by_number(&self, first: i32, last: i32) -> (i32, u32)
         requires first { IsRuleYear first }
         requires last { IsRuleYear last }
@@ -151,9 +152,13 @@ pub trait YearShapes {
         (first, 0)
     }
 
-    /// The place of a month in a given year. [`MonthError::NotInCalendar`] comes for a month that no year
-    /// of the calendar has, and [`MonthError::NotInYear`] where this year lacks it and, under
-    /// [`Overflow::Constrain`], none stands in for it.
+    /// Returns the place of a month in a given year, or of the month that stands in for it under
+    /// [`Overflow::Constrain`].
+    ///
+    /// # Errors
+    ///
+    /// - [`MonthError::NotInCalendar`] if no year of the calendar has the month;
+    /// - [`MonthError::NotInYear`] if this year lacks it and, under [`Overflow::Constrain`], no month stands in for it.
     fn ordinal_from_month(
         &self,
         year: Self::YearInfo,
@@ -164,12 +169,12 @@ pub trait YearShapes {
         ensures { let y = years self.now in
             result ≡ ordinal_month y.list (y.extended year) (month_parts month) overflow };
 
-    /// The month in this place of a given year.
+    /// Returns the month in this place of a given year.
     fn month_from_ordinal(&self, year: Self::YearInfo, ordinal_month: u8) -> Month
         requires { HasMonth (years self.now) year ordinal_month }
         ensures { let y = years self.now in month_parts result ≡ month_at y.list (y.extended year) ordinal_month };
 
-    /// The place in another given year of the month in a place of a given year. None where that year lacks the
+    /// Returns the place in another given year of the month in a place of a given year, or `None` if that year lacks the
     /// month and, under [`Overflow::Constrain`], none stands in for it.
     fn ordinal_in_other_year(
         &self,
@@ -224,13 +229,13 @@ pub trait YearShapes {
 
 /// A calendar's years, which are looked up by extended year and by day.
 pub trait Years: YearShapes {
-    /// The year of an extended year.
+    /// Returns the year of an extended year.
     fn year_info_from_extended(&self, extended_year: i32) -> Self::YearInfo
         requires { IsRuleYear extended_year }
         ensures { result ≡ (Self.years self.now).year_of extended_year };
 
-    /// About how many years so many months take from a given year's first one on. A sum tests what it answers, so that
-    /// none is wrong by it: the closer it is from below, the fewer years are looked up.
+    /// Estimates how many years some months take, counted from the first month of a given year. Sums check the
+    /// estimate, so it can't make one wrong: the closer it is from below, the fewer years are looked up.
     fn estimated_years(&self, from: Self::YearInfo, months: u32) -> u32
         requires from { IsGiven (Self.years self.now) from }
         requires months { months ≤ 200000000 }
@@ -239,7 +244,7 @@ pub trait Years: YearShapes {
         months / 12
     }
 
-    /// The year that contains a valid day.
+    /// Returns the year that contains a valid day.
     fn year_containing_rd(&self, rd: RataDie) -> Self::YearInfo
         requires { IsValidDay rd }
         ensures year { IsGiven (Self.years self.now) result }
@@ -249,7 +254,7 @@ pub trait Years: YearShapes {
         ensures last { let y = Self.years self.now in let number = y.extended result in
             rd <ℤ (start_of_year y.list number +ℤ pos (year_length y.list number)) };
 
-    /// The date of a valid day: its year, the place of its month, and its day of the month.
+    /// Returns the date of a valid day: its year, the place of its month, and its day of the month.
     fn year_month_day(&self, rd: RataDie) -> (Self::YearInfo, u8, u8)
         requires { IsValidDay rd }
         ensures year { IsGiven (Self.years self.now) result.0 }
@@ -262,7 +267,7 @@ pub trait Years: YearShapes {
         (year, month, day)
     }
 
-    /// The place of the month and the day of the month of a day of a given year, which is counted from 0.
+    /// Returns the place of the month and the day of the month of a day of a given year, which is counted from 0.
     fn month_and_day(&self, year: Self::YearInfo, day_of_year: u16) -> (u8, u8)
         requires year { IsGiven (Self.years self.now) year }
         requires within { let y = Self.years self.now in day_of_year < year_length y.list (y.extended year) }
@@ -278,9 +283,13 @@ pub trait DateFieldsResolver: Years {
     /// What eras read as, and the reference years.
     ghost names: { Self → YearNames };
 
-    /// The extended year that an era's code and a year in that era, from -1040000 to 1040000, read as.
-    /// [`UnknownEraError`] comes for a code that isn't one of the calendar's (CLDR, UTS 35). For a year from
-    /// -9999 to 9999 the days of the extended year are valid: it lies from -980000 to 980000.
+    /// Returns the extended year of an era year, from -1040000 to 1040000, in the era of a code (CLDR, UTS 35).
+    ///
+    /// For an era year from -9999 to 9999 the days of the extended year are valid: it lies from -980000 to 980000.
+    ///
+    /// # Errors
+    ///
+    /// - [`UnknownEraError`] if the code isn't one of the calendar's eras.
     fn extended_year_from_era_year_unchecked(
         &self,
         era: &[u8],
@@ -289,12 +298,14 @@ pub trait DateFieldsResolver: Years {
         requires { IsFieldYear era_year }
         ensures { result ≡ era_read ((names self.now).reads era.now era_year) };
 
-    /// The reference year of a month and a day, in which a date without a year stands (ECMAScript Temporal's
-    /// NonISOMonthDayToISOReferenceDate). The day may be above the month's length.
+    /// Returns the reference year of a month and a day, which a date without a year takes (ECMAScript Temporal,
+    /// `NonISOMonthDayToISOReferenceDate`). The day may be above the month's length.
     ///
-    /// [`EcmaReferenceYearError::MonthNotInCalendar`] comes exactly for a month that no year of the calendar
-    /// has, [`EcmaReferenceYearError::UseRegularIfConstrain`] only for a leap month, and
-    /// [`EcmaReferenceYearError::Unimplemented`] where the calendar has no reference years.
+    /// # Errors
+    ///
+    /// - [`EcmaReferenceYearError::MonthNotInCalendar`] exactly if no year of the calendar has the month;
+    /// - [`EcmaReferenceYearError::UseRegularIfConstrain`] for leap months only;
+    /// - [`EcmaReferenceYearError::Unimplemented`] if the calendar has no reference years.
     fn reference_year_from_month_day(
         &self,
         month: Month,

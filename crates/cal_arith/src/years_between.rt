@@ -12,15 +12,15 @@ ghost use Rattle.cal_arith.specs.Directions.{is_backward};
 
 use crate::dates::Ymd;
 use crate::direction::Direction;
+use crate::given_years::given_year_counted;
 use crate::months::YearMonth;
 use crate::past::surpasses_in_year;
 use crate::steps::Steps;
 use crate::years::YearShapes;
-use crate::years_by_number::year_by_number;
 use cal_types::{DateDurationUnit, Overflow};
 use std::sync::ledger::Ledger;
 
-/// The place of a date's month in another year, where the stand-in is taken for a month that it lacks.
+/// Returns the place of a date's month in another year, where the stand-in is taken for a month that it lacks.
 fn stand_in_place<C: YearShapes>(from: Ymd<C::YearInfo>, reached: C::YearInfo, cal: &C) -> u8
     requires from { HasMonth (C.years cal.now) from.year from.month }
     requires reached { IsGiven (C.years cal.now) reached }
@@ -34,7 +34,7 @@ fn stand_in_place<C: YearShapes>(from: Ymd<C::YearInfo>, reached: C::YearInfo, c
     }
 }
 
-/// The greatest number of years that does not surpass the second date.
+/// Returns the greatest number of years that does not surpass the second date.
 fn years_between<C: YearShapes>(
     from: Ymd<C::YearInfo>,
     to: Ymd<C::YearInfo>,
@@ -59,7 +59,7 @@ fn years_between<C: YearShapes>(
     }
 }
 
-/// The number of years of a difference, by its largest unit.
+/// Returns the number of years of a difference, by its largest unit.
 pub(crate) fn admitted_years<C: YearShapes>(
     from: Ymd<C::YearInfo>,
     to: Ymd<C::YearInfo>,
@@ -83,7 +83,7 @@ pub(crate) fn admitted_years<C: YearShapes>(
     }
 }
 
-/// The month that years lead to which do not surpass the second date.
+/// Returns the month that years lead to which do not surpass the second date.
 pub(crate) fn month_after_years<C: YearShapes, L: Ledger>(
     from: Ymd<C::YearInfo>,
     to: Ymd<C::YearInfo>,
@@ -101,14 +101,14 @@ pub(crate) fn month_after_years<C: YearShapes, L: Ledger>(
     ensures ticks { steps.new ≡ steps.old + 1 }
 {
     let year = cal.extended_from_year_info(from.year);
-    let reached = year_by_number(toward_year(year, years, direction), cal, steps);
+    let reached = given_year_counted(toward_year(year, years, direction), cal, steps);
     YearMonth {
         year: reached,
         month: stand_in_place(from, reached, cal),
     }
 }
 
-/// The year so many years later, or earlier.
+/// Returns the year so many years later, or earlier.
 fn toward_year(year: i32, years: u32, direction: Direction) -> i32
     requires year { IsFieldYear year }
     requires result { IsFieldYear (year +ℤ toward (is_backward direction) years) }

@@ -7,3 +7,4 @@ pub mod MarchMonths
 pub mod PlainPlaceLaws
 pub mod NumberedYears
 pub mod Compatibility
+pub mod EraYearLaws

@@ -18,7 +18,7 @@ use std::sync::ledger::Ledger;
 
 /// The calendar of the years of `C`.
 ///
-/// A calendar hands its calls down to it, and gives its own algorithm, name and error of compatibility: here
+/// A calendar hands its calls down to it, and has its own algorithm, name and error of compatibility: here
 /// they are None, `Arithmetic` and [`Incompatible`].
 #[derive(Clone, Copy, Debug)]
 pub struct Arithmetic<C>(pub C);
@@ -27,7 +27,7 @@ pub struct Arithmetic<C>(pub C);
 #[derive(Clone, Copy, Debug, PartialEq, Eq)]
 pub struct Incompatible;
 
-/// A date, which is one of the calendar's own.
+/// Returns a date, which is one of the calendar's own.
 fn own_date<C: NamedYears>(date: &ArithmeticDate<C>, cal: &C) -> ArithmeticDate<C>
     requires { IsTrue (is_own_date (C.years cal.now) (C.has_year cal.now) date.now.parts) }
     ensures same { result ≡ date.now }
@@ -37,7 +37,7 @@ fn own_date<C: NamedYears>(date: &ArithmeticDate<C>, cal: &C) -> ArithmeticDate<
     copy_of(date)
 }
 
-/// A copy.
+/// Returns a copy.
 fn copy_of<T: Copy>(value: &T) -> T
     ensures { result ≡ value.now }
 {
@@ -147,6 +147,7 @@ impl<C: NamedYears> Calendar for Arithmetic<C> {
         DayOfYear(own_date(date, &self.0).day_of_year(&self.0))
     }
 
+    #[inline(always)]
     fn add(
         &self,
         date: &ArithmeticDate<C>,

@@ -32,7 +32,7 @@ use std::sync::ledger::Ledger;
 
 /// A calendar: its years, its months and its eras, over dates that it keeps in a form of its own.
 ///
-/// An inner date belongs to a calendar where it is one of the calendar's dates and its day number is in the
+/// An inner date belongs to a calendar if it is one of the calendar's dates and its day number is in the
 /// valid range, -365242499 to 365242134. Every inner date in an answer belongs.
 pub trait Calendar: UnstableSealed + Drop {
     /// A date as the calendar keeps it.
@@ -59,23 +59,26 @@ pub trait Calendar: UnstableSealed + Drop {
     /// Whether a date has the fields of an ISO date but for its year.
     ghost is_cheap: { Self → Bool };
 
-    /// The calendar's algorithm, where CLDR names one.
+    /// The calendar's algorithm, if CLDR names one.
     ghost algorithm: { Self → Option CalendarAlgorithm };
 
     /// The calendar's name in English.
     ghost name: { Self → List ℕ };
 
-    /// Whether an inner date is one of this calendar's.
+    /// Returns whether an inner date is one of this calendar's.
     fn owns(&self, date: &Self::DateInner) -> bool
         ensures { result ≡ belongs self.now date.now };
 
-    /// The date of a year from -9999 to 9999, a month and a day.
+    /// Creates a date from a year, a month and a day. Values out of range are rejected, never adjusted.
     ///
-    /// In this order: [`DateNewError::InvalidYear`] where the given year isn't in this range,
-    /// [`DateNewError::InvalidEra`] where it is given in an era that isn't one of the calendar's,
-    /// [`DateNewError::MonthNotInCalendar`] where no year of the calendar has the month,
-    /// [`DateNewError::MonthNotInYear`] where this one lacks it, and [`DateNewError::InvalidDay`] where the day
-    /// is 0 or above the month's length.
+    /// # Errors
+    ///
+    /// Fails with the first of these:
+    /// - [`DateNewError::InvalidYear`] if the year, in its era or without one, isn't from -9999 to 9999;
+    /// - [`DateNewError::InvalidEra`] if the era isn't one of the calendar's;
+    /// - [`DateNewError::MonthNotInCalendar`] if no year of the calendar has the month;
+    /// - [`DateNewError::MonthNotInYear`] if this year lacks it;
+    /// - [`DateNewError::InvalidDay`] if the day is 0 or above the month's length.
     fn new_date(
         &self,
         year: YearInput<'_>,
@@ -86,12 +89,14 @@ pub trait Calendar: UnstableSealed + Drop {
             answer_by (date_of self.now) result ≡ made_date s.list s.year_names year.entry (month_parts month) day }
         ensures belongs { IfOk result (λ d. IsTrue (belongs self.now d)) };
 
-    /// The date that the fields name, or the first fault, in the order of ECMAScript Temporal's
-    /// CalendarResolveFields. The default of the option `overflow` is
-    /// [`Overflow::Reject`](cal_types::Overflow::Reject), and that of `missing_fields_strategy`
-    /// [`MissingFieldsStrategy::Reject`](cal_types::MissingFieldsStrategy::Reject).
+    /// Creates a date from fields (ECMAScript Temporal, `CalendarResolveFields`).
     ///
-    /// In this order:
+    /// The default of the option `overflow` is [`Overflow::Reject`](cal_types::Overflow::Reject), and that of
+    /// `missing_fields_strategy` is [`MissingFieldsStrategy::Reject`](cal_types::MissingFieldsStrategy::Reject).
+    ///
+    /// # Errors
+    ///
+    /// Fails with the first of these:
     /// - [`DateFromFieldsError::NotEnoughFields`]: no day, unless it is supplied (the strategy `Ecma`, with an
     ///   extended year or an era year: then it is 1); then no month, month code and ordinal month.
     /// - [`DateFromFieldsError::TooManyFields`]: both a month and a month code.
@@ -121,12 +126,12 @@ pub trait Calendar: UnstableSealed + Drop {
             ≡ resolve_fields (system self.now) (bag_of fields.entry) options }
         ensures belongs { IfOk result (λ d. IsTrue (belongs self.now d)) };
 
-    /// Whether a date and the ISO date of its day differ in no more than the year's number, so that
+    /// Returns whether a date and the ISO date of its day differ in no more than the year's number, so that
     /// [`Calendar::from_iso`] and [`Calendar::to_iso`] need no day number.
     fn has_cheap_iso_conversion(&self) -> bool
         ensures { result ≡ is_cheap self.now };
 
-    /// The date of the same day number as an ISO date.
+    /// Returns the date of the same day number as an ISO date.
     fn from_iso(&self, iso: IsoDateInner) -> Self::DateInner
         requires { IsTrue (iso_belongs iso) }
         ensures on { let day = day_number iso_list (iso_date iso) in
@@ -136,7 +141,7 @@ pub trait Calendar: UnstableSealed + Drop {
         self.from_rata_die(Iso.to_rata_die(&iso))
     }
 
-    /// The ISO date of the same day number.
+    /// Returns the ISO date of the same day number.
     fn to_iso(&self, date: &Self::DateInner) -> IsoDateInner
         requires { IsTrue (belongs self.now date.now) }
         ensures on { let day = day_number (system self.now).list (date_of self.now date.now) in
@@ -146,47 +151,47 @@ pub trait Calendar: UnstableSealed + Drop {
         Iso.from_rata_die(self.to_rata_die(date))
     }
 
-    /// The date of a day number in the valid range.
+    /// Returns the date of a day number in the valid range.
     fn from_rata_die(&self, rd: RataDie) -> Self::DateInner
         requires { IsValidDay rd }
         ensures on { IsOn (system self.now).list rd (date_of self.now result) }
         ensures belongs { IsTrue (belongs self.now result) };
 
-    /// The day number of a date.
+    /// Returns the day number of a date.
     fn to_rata_die(&self, date: &Self::DateInner) -> RataDie
         requires { IsTrue (belongs self.now date.now) }
         ensures { result ≡ day_number (system self.now).list (date_of self.now date.now) };
 
-    /// How many months the date's year has.
+    /// Returns how many months the date's year has.
     fn months_in_year(&self, date: &Self::DateInner) -> u8
         requires { IsTrue (belongs self.now date.now) }
         ensures { let t = date_of self.now date.now in
             result ≡ month_count (system self.now).list t.year };
 
-    /// How many days the date's year has.
+    /// Returns how many days the date's year has.
     fn days_in_year(&self, date: &Self::DateInner) -> u16
         requires { IsTrue (belongs self.now date.now) }
         ensures { let t = date_of self.now date.now in
             result ≡ year_length (system self.now).list t.year };
 
-    /// How many days the date's month has.
+    /// Returns how many days the date's month has.
     fn days_in_month(&self, date: &Self::DateInner) -> u8
         requires { IsTrue (belongs self.now date.now) }
         ensures { let t = date_of self.now date.now in
             result ≡ month_length (system self.now).list t.year t.month };
 
-    /// Whether the date's year is a leap year.
+    /// Returns whether the date's year is a leap year.
     fn is_in_leap_year(&self, date: &Self::DateInner) -> bool
         requires { IsTrue (belongs self.now date.now) }
         ensures { let t = date_of self.now date.now in
             IsTrue result ↔ IsTrue ((system self.now).is_leap_year t.year) };
 
-    /// The year of a date, in its era or cycle.
+    /// Returns the year of a date, in its era or cycle.
     fn year_info(&self, date: &Self::DateInner) -> Self::Year
         requires { IsTrue (belongs self.now date.now) }
         ensures { Self.Year.info result ≡ (system self.now).year_info (date_of self.now date.now) };
 
-    /// The extended year of a date.
+    /// Returns the extended year of a date.
     fn extended_year(&self, date: &Self::DateInner) -> i32
         requires { IsTrue (belongs self.now date.now) }
         ensures { result ≡ (date_of self.now date.now).year }
@@ -194,31 +199,36 @@ pub trait Calendar: UnstableSealed + Drop {
         self.year_info(date).into_year_info().extended_year()
     }
 
-    /// The month of a date: its place in the year, and its month codes.
+    /// Returns the month of a date: its place in the year, and its month codes.
     fn month(&self, date: &Self::DateInner) -> MonthInfo
         requires { IsTrue (belongs self.now date.now) }
         ensures { month_info_parts result ≡ month_info_of (system self.now) (date_of self.now date.now) };
 
-    /// The day of the month, from 1.
+    /// Returns the day of the month, from 1.
     fn day_of_month(&self, date: &Self::DateInner) -> DayOfMonth
         requires { IsTrue (belongs self.now date.now) }
         ensures { result.0 ≡ (date_of self.now date.now).day };
 
-    /// The day of the year, from 1.
+    /// Returns the day of the year, from 1.
     fn day_of_year(&self, date: &Self::DateInner) -> DayOfYear
         requires { IsTrue (belongs self.now date.now) }
         ensures { let list = (system self.now).list in let t = date_of self.now date.now in
             start_of_year list t.year +ℤ pos result.0 ≡ day_number list t +ℤ pos 1 };
 
-    /// The date with a duration added (ECMAScript Temporal's NonISODateAdd). The default of the option
-    /// `overflow` is [`Overflow::Constrain`].
+    /// Returns the date with a duration added (ECMAScript Temporal, `NonISODateAdd`).
     ///
-    /// In this order: [`DateAddError::Overflow`] for more than 2080000 years, 27040000 months (13 in each of so
-    /// many years), or 838240000 days (31 in each of so many months) with the weeks', and where the years lead
-    /// past the years from -1040000 to 1040000, counted in ISO years in the Gregorian calendars;
-    /// [`DateAddError::MonthNotInYear`] where the year that they lead to lacks the month, and
-    /// [`DateAddError::InvalidDay`] where the month that the months lead to lacks the day, under
-    /// [`Overflow::Reject`]; [`DateAddError::Overflow`] where the sum's day number isn't in the valid range.
+    /// The default of the option `overflow` is [`Overflow::Constrain`].
+    ///
+    /// # Errors
+    ///
+    /// Fails with the first of these:
+    /// - [`DateAddError::Overflow`] if the duration has more than 2080000 years, 27040000 months, or 838240000 days
+    ///   with seven for a week, or if the years lead past the years from -1040000 to 1040000 (ISO years in the Gregorian
+    ///   calendars, Coptic years in the Ethiopian one);
+    /// - [`DateAddError::MonthNotInYear`] if the year that the years lead to lacks the month and, under
+    ///   [`Overflow::Constrain`], no month stands in for it;
+    /// - [`DateAddError::InvalidDay`] if the month that the months lead to lacks the day, under [`Overflow::Reject`];
+    /// - [`DateAddError::Overflow`] if the sum's day number isn't in the valid range.
     fn add(
         &self,
         date: &Self::DateInner,
@@ -231,7 +241,7 @@ pub trait Calendar: UnstableSealed + Drop {
             IsSum s.list s.year_shift t duration overflow (answer_by (date_of self.now) result) }
         ensures belongs { IfOk result (λ d. IsTrue (belongs self.now d)) };
 
-    /// The difference from the first date to the second: the greatest that does not surpass the second
+    /// Returns the difference from the first date to the second: the greatest that does not surpass the second
     /// (ECMAScript Temporal's NonISODateUntil). Added to the first date under [`Overflow::Constrain`], it gives
     /// the second.
     fn until(
@@ -245,8 +255,8 @@ pub trait Calendar: UnstableSealed + Drop {
         ensures { let s = system self.now in let t = date_of self.now date1.now in let u = date_of self.now date2.now in
             IsUntil s.list s.year_shift t u (largest_unit_of options.largest_unit) result };
 
-    /// The difference of [`Calendar::until`]. It adds at most 8 ticks to the counter; where months are the largest
-    /// unit, at most 8 and one more for each year between the dates.
+    /// Returns the difference of [`Calendar::until`]. It adds at most 8 ticks to the counter; if months are the
+    /// largest unit, at most 8 and one more for each year between the dates.
     fn until_counted<L: Ledger>(
         &self,
         date1: &Self::DateInner,
@@ -263,15 +273,19 @@ pub trait Calendar: UnstableSealed + Drop {
             let years = unsigned_abs (u.year -ℤ t.year) in
             steps.new ≤ steps.old + most_ticks (largest_unit_of options.largest_unit) years };
 
-    /// An error exactly where dates of the two calendars can't be compared.
+    /// Tests whether dates of the two calendars can be compared.
+    ///
+    /// # Errors
+    ///
+    /// - The calendar's `DateCompatibilityError`, exactly if they can't be compared.
     fn check_date_compatibility(&self, other: &Self) -> Result<(), Self::DateCompatibilityError>
         ensures { IsOk result ↔ IsTrue (compatible self.now other.now) };
 
-    /// The calendar's algorithm (CLDR, UTS 35). None where CLDR names none for it.
+    /// Returns the calendar's algorithm (CLDR, UTS 35). `None` if CLDR names none.
     fn calendar_algorithm(&self) -> Option<CalendarAlgorithm>
         ensures { result ≡ algorithm self.now };
 
-    /// The calendar's name in English, for messages to programmers.
+    /// Returns the calendar's name in English, for messages to programmers.
     fn debug_name(&self) -> &'static str
         ensures { result.now ≡ name self.now };
 
@@ -296,7 +310,7 @@ pub trait Calendar: UnstableSealed + Drop {
     /// The year that a date is printed in has its extended year.
     ghost named: { (s : Self) (t : Date) → extended_year_of ((system s).year_info t) ≡ t.year };
 
-    /// Dates of one calendar are equal where their day numbers are.
+    /// Dates of one calendar are equal exactly if their day numbers are.
     ghost equal_days: { (s : Self) (a b : Self.DateInner) → IsTrue (belongs s a) → IsTrue (belongs s b) →
         let day = day_number (system s).list in
         Self.DateInner.eq a b ≡ int_eq (day (date_of s a)) (day (date_of s b)) };
@@ -334,7 +348,7 @@ pub trait AsCalendar: Drop {
     /// The calendar.
     ghost cal_of: { Self → Self.Calendar };
 
-    /// The calendar.
+    /// Returns the calendar.
     fn as_calendar(&self) -> &Self::Calendar
         ensures { result.now ≡ cal_of self.now };
 }

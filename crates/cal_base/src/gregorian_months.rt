@@ -7,7 +7,7 @@ ghost use Rattle.std.specs.Prelude.{◌≡◌, ◌+◌, ◌-◌, ◌<◌, ◌≤
 ghost use Rattle.cal_days.specs.Day.{IsBetween, IsShiftedYear};
 ghost use Rattle.cal_base.specs.GregorianList.{gregorian_month_length, march_days_before, march_month, march_month_most};
 
-/// The days of a month, 1 to 12, in a leap year or a common one.
+/// Returns the days of a month, 1 to 12, in a leap year or a common one.
 pub fn days_in_month(leap: bool, month: u8) -> u8
     requires { (1 ≤ month) × (month ≤ 12) }
     ensures { result ≡ gregorian_month_length leap month }
@@ -19,7 +19,7 @@ pub fn days_in_month(leap: bool, month: u8) -> u8
     }
 }
 
-/// The year on whose March 1 a month's year begins, and the month as such years count it, 3 to 14.
+/// Returns the year on whose March 1 a month's year begins, and the month as such years count it, 3 to 14.
 pub fn in_march_year(year: i32, month: u8) -> (i32, u8)
     requires year { IsShiftedYear year }
     requires month { (1 ≤ month) × (month ≤ 12) }
@@ -35,7 +35,7 @@ pub fn in_march_year(year: i32, month: u8) -> (i32, u8)
     }
 }
 
-/// The days from March 1 to the first day of a month, 3 to 12, or of 13 and 14, which are January and February
+/// Returns the days from March 1 to the first day of a month, 3 to 12, or of 13 and 14, which are January and February
 /// of the next year.
 pub fn days_from_march(month: u8) -> u16
     requires { (3 ≤ month) × (month ≤ 14) }
@@ -45,7 +45,7 @@ pub fn days_from_march(month: u8) -> u16
     ((979 * u32::from(month) - 2919) / 32) as u16
 }
 
-/// The month, 3 to 14, and the day of the month, of a day that lies 0 to 365 days after March 1. Months 13 and
+/// Returns the month, 3 to 14, and the day of the month, of a day that lies 0 to 365 days after March 1. Months 13 and
 /// 14 are January and February of the next year, and February has 29 days here.
 pub fn month_and_day_from_march(day: u16) -> (u8, u8)
     requires { day < 366 }

@@ -24,7 +24,7 @@ use std::sync::ledger::Ledger;
 pub struct Iso;
 
 impl Iso {
-    /// The ISO calendar.
+    /// Returns the ISO calendar.
     ///
     /// ```
     /// let inner = Iso::new().from_rata_die(RataDie::new(738946));
@@ -47,7 +47,8 @@ pub struct IsoYears;
 impl GregorianYears for IsoYears {
     ghost use Rattle.std.specs.Prelude.{codes, pos, Some, None, refl};
     ghost use Rattle.cal_types.specs.Eras.{only_era_reads};
-    ghost use Rattle.cal_types.proofs.EraLemmas.{only_era_reads-in_range, only_era_reads-covered};
+    ghost use Rattle.cal_types.proofs.EraLemmas.{only_era_reads-in_range};
+    ghost use Rattle.cal_base.specs.laws.EraYearLaws.{only_era_reads-near};
     ghost use Rattle.cal_base.specs.IsoEra.{iso_era_year};
     ghost use Rattle.cal_base.specs.laws.OffsetListLaws.{true-offset};
 
@@ -91,7 +92,7 @@ impl GregorianYears for IsoYears {
 
     ghost era_in_range = { λ _ era n y. only_era_reads-in_range (codes "default") era n y };
 
-    ghost era_covered = { λ _ era n y. only_era_reads-covered (codes "default") era n y };
+    ghost era_near = { λ _ era n y. only_era_reads-near (codes "default") era n y };
 
     ghost named = { λ _ t. refl };
 }
@@ -203,6 +204,7 @@ impl Calendar for Iso {
         AbstractGregorian(IsoYears).day_of_year(&date.0)
     }
 
+    #[inline(always)]
     fn add(
         &self,
         date: &IsoDateInner,

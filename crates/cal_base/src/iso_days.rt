@@ -12,14 +12,14 @@ use crate::gregorian_months::{
 use crate::numbered_year::NumberedYear;
 use cal_days::{RataDie, gregorian};
 
-/// Whether an ISO year has 366 days.
+/// Returns whether an ISO year has 366 days.
 pub(crate) fn is_leap(year: NumberedYear) -> bool
     ensures { IsTrue result ↔ IsTrue (gregorian_leap year.number) }
 {
     gregorian::is_leap_year(year.number)
 }
 
-/// The days of a month, 1 to 12. Only February asks whether the year is a leap year.
+/// Returns the days of a month, 1 to 12. Only February asks whether the year is a leap year.
 pub(crate) fn days_in_iso_month(year: NumberedYear, month: u8) -> u8
     requires { (1 ≤ month) × (month ≤ 12) }
     ensures { result ≡ gregorian_month_length (gregorian_leap year.number) month }
@@ -27,7 +27,7 @@ pub(crate) fn days_in_iso_month(year: NumberedYear, month: u8) -> u8
     days_in_month(month == 2 && is_leap(year), month)
 }
 
-/// The day number of a date of an ISO year from -8009999 to 8009999.
+/// Returns the day number of a date of an ISO year from -8009999 to 8009999.
 pub(crate) fn iso_day_number(year: i32, month: u8, day: u8) -> i64
     requires year { IsShiftedYear year }
     requires date { IsDate gregorian_list (date year month day) }
@@ -39,7 +39,7 @@ pub(crate) fn iso_day_number(year: i32, month: u8, day: u8) -> i64
     gregorian::march_start(march_year).to_i64_date() + i64::from(before)
 }
 
-/// The date of a valid day: the ISO year, the ordinal month and the day of the month.
+/// Returns the date of a valid day: the ISO year, the ordinal month and the day of the month.
 pub(crate) fn iso_date(rd: RataDie) -> (i32, u8, u8)
     requires { IsValidDay rd }
     ensures on { IsOn gregorian_list rd (date result.0 result.1 result.2) }

@@ -47,22 +47,22 @@ pub trait NamedYears: DateFieldsResolver + Drop {
     /// Whether dates of two calendars can be compared. A type of calendars that are all alike keeps this.
     ghost compatible: { Self → Self → Bool } = { λ _ _. true };
 
-    /// Whether a year is one of the calendar's own. Any year may be asked for, also one of another calendar.
+    /// Returns whether a year is one of the calendar's own. Any year may be asked for, also one of another calendar.
     fn owns_year(&self, year: Self::YearInfo) -> bool
         ensures { result ≡ (has_year self.now year && is_field_year ((Self.years self.now).extended year)) };
 
-    /// Whether an own year is a leap year.
+    /// Returns whether an own year is a leap year.
     fn is_leap(&self, year: Self::YearInfo) -> bool
         requires { IsOwnYear (Self.years self.now) year }
         ensures { IsTrue result ↔ IsTrue (is_leap_year self.now ((Self.years self.now).extended year)) };
 
-    /// An own year in its era or cycle.
+    /// Returns an own year in its era or cycle.
     fn named_year(&self, year: Self::YearInfo) -> Self::Year
         requires { IsOwnYear (Self.years self.now) year }
         ensures { Self.Year.info result ≡ year_named self.now ((Self.years self.now).extended year) };
 
-    /// How a month of an own year stands to leap months, and the month by which it is formatted. The month is
-    /// given by its place in the year, and by itself.
+    /// Returns the leap status of a month of an own year, and the month by which it is formatted. The month is given
+    /// by its ordinal number and by itself.
     fn shown_month(
         &self,
         year: Self::YearInfo,
@@ -78,11 +78,11 @@ pub trait NamedYears: DateFieldsResolver + Drop {
         ensures month { let number = (Self.years self.now).extended year in
             month_parts result.1 ≡ formatted_month self.now number ordinal_month (month_parts month) };
 
-    /// What is added to an extended year to give the number that a year keeps.
+    /// Returns the number to add to an extended year to get the number that a year stores.
     fn year_offset(&self) -> i32
         ensures { result ≡ (Self.years self.now).offset };
 
-    /// Whether dates of two calendars can be compared.
+    /// Returns whether dates of two calendars can be compared.
     fn is_compatible(&self, other: &Self) -> bool
         ensures { result ≡ compatible self.now other.now };
 

@@ -17,7 +17,7 @@ pub struct NumberedYear {
 }
 
 impl NumberedYear {
-    /// Whether fields may name a year of this number: one from -1040000 to 1040000.
+    /// Returns whether fields may name a year of this number: one from -1040000 to 1040000.
     pub fn can_be_named(self) -> bool
         ensures { result ≡ is_field_year self.number }
     {

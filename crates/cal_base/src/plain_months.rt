@@ -7,16 +7,18 @@ ghost use Rattle.cal_base.specs.PlainPlaces.{plain_place};
 
 use cal_types::{Month, MonthError};
 
-/// Whether a month is one of the plain months 1 to `count`.
+/// Returns whether a month is one of the plain months 1 to `count`.
 pub fn is_plain(month: Month, count: u8) -> bool
     ensures { result ≡ is_plain_month count (month_parts month) }
 {
     !month.is_leap() && 1 <= month.number() && month.number() <= count
 }
 
-/// The place of a month in a year of the plain months 1 to `count`, which is the month's number.
+/// Returns the place of a month in a year of the plain months 1 to `count`, which is the month's number.
 ///
-/// [`MonthError::NotInCalendar`] comes for any other month, since no year has it.
+/// # Errors
+///
+/// - [`MonthError::NotInCalendar`] for any other month, which no year has.
 pub fn plain_ordinal(month: Month, count: u8) -> Result<u8, MonthError>
     ensures { result ≡ plain_place count (month_parts month) }
 {

@@ -5,8 +5,8 @@ ghost use Rattle.cal_days.specs.Day.{IsBetween};
 
 use cal_days::RataDie;
 
-/// The day number of a day of a month, counted from 1, by the first day of its year and the days of the year before the
-/// month. The first day lies within 4000000000 days of day 0, and at most 400 days lie before a month.
+/// Returns the day number of a day of a month, counted from 1, by the first day of its year and the days of the year
+/// before the month. The first day lies within 4000000000 days of day 0, and at most 400 days lie before a month.
 pub fn counted_day(first_day: i64, days_before: u16, day: u8) -> RataDie
     requires first { IsBetween (neg_ℤ (pos 4000000000)) (pos 4000000000) first_day }
     requires before { days_before ≤ 400 }

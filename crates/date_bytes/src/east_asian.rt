@@ -39,14 +39,14 @@ fn year_bits(long_months: u16, leap_month: u8, start: u8) -> u32
     u32::from(long_months) | (u32::from(leap_month) << 13) | (u32::from(start) << 17)
 }
 
-/// The bits that are kept of a year.
+/// Returns the bits that are kept of a year.
 fn unpack_bits(packed: [u8; 7]) -> u32
     ensures { result ≡ bits_in packed }
 {
     u32::from_le_bytes([packed[0], packed[1], packed[2], 0])
 }
 
-/// The places of a packed date's year that have 30 days.
+/// Returns the places of a packed date's year that have 30 days.
 pub fn unpack_long_months(packed: [u8; 7]) -> u16
     ensures value { result ≡ long_in packed }
     ensures places { result < bits_of_places (leap_in packed) }
@@ -59,7 +59,7 @@ pub fn unpack_long_months(packed: [u8; 7]) -> u16
     }
 }
 
-/// The leap place of a packed date's year, or 0.
+/// Returns the leap place of a packed date's year, or 0.
 pub fn unpack_leap_month(packed: [u8; 7]) -> u8
     ensures value { result ≡ leap_in packed }
     ensures place { IsLeapPlace result }
@@ -68,7 +68,7 @@ pub fn unpack_leap_month(packed: [u8; 7]) -> u8
     if place < 2 || place > 13 { 0 } else { place }
 }
 
-/// How many days after January 19 a packed date's year starts, up to 34.
+/// Returns how many days after January 19 a packed date's year starts, up to 34.
 pub fn unpack_start(packed: [u8; 7]) -> u8
     ensures value { result ≡ start_in packed }
     ensures small { result ≤ 34 }
@@ -76,7 +76,7 @@ pub fn unpack_start(packed: [u8; 7]) -> u8
     ((unpack_bits(packed) >> 17) & 63).min(34) as u8
 }
 
-/// The bytes of a packed date behind those that are kept of its year.
+/// Returns the bytes of a packed date behind those that are kept of its year.
 fn date_part(packed: [u8; 7]) -> [u8; 4]
     ensures { number_from 0 result ≡ number_from 3 packed }
 {
@@ -84,7 +84,7 @@ fn date_part(packed: [u8; 7]) -> [u8; 4]
     [a, b, c, d]
 }
 
-/// The year of a packed date.
+/// Returns the year of a packed date.
 pub fn unpack_year(packed: [u8; 7]) -> i32
     ensures value { result ≡ year_from 3 packed }
     ensures range { IsBetween (neg_ℤ (pos 4194304)) (pos 4194303) result }
@@ -92,14 +92,14 @@ pub fn unpack_year(packed: [u8; 7]) -> i32
     solar::unpack_year(date_part(packed))
 }
 
-/// The place of the month of a packed date.
+/// Returns the place of the month of a packed date.
 pub fn unpack_month(packed: [u8; 7]) -> u8
     ensures { result ≡ month_from 3 packed }
 {
     solar::unpack_month(date_part(packed))
 }
 
-/// The day of a packed date.
+/// Returns the day of a packed date.
 pub fn unpack_day(packed: [u8; 7]) -> u8
     ensures { result ≡ day_from 3 packed }
 {

@@ -23,7 +23,7 @@ pub fn pack(year: i32, length: u16, month: u8, day: u8) -> [u8; 5]
     [class_of_length(length), a, b, c, d]
 }
 
-/// The place of a year's length among the six lengths of years, from 0.
+/// Returns the place of a year's length among the six lengths of years, from 0.
 fn class_of_length(length: u16) -> u8
     requires { IsHebrewLength length }
     ensures { result ≡ class_of length }
@@ -35,7 +35,7 @@ fn class_of_length(length: u16) -> u8
     }
 }
 
-/// The length of the year of a packed date.
+/// Returns the length of the year of a packed date.
 pub fn unpack_length(packed: [u8; 5]) -> u16
     ensures value { result ≡ length_in packed }
     ensures known { IsHebrewLength result }
@@ -50,7 +50,7 @@ pub fn unpack_length(packed: [u8; 5]) -> u16
     }
 }
 
-/// The bytes of a packed date behind those that are kept of its year.
+/// Returns the bytes of a packed date behind those that are kept of its year.
 fn date_part(packed: [u8; 5]) -> [u8; 4]
     ensures { number_from 0 result ≡ number_from 1 packed }
 {
@@ -58,7 +58,7 @@ fn date_part(packed: [u8; 5]) -> [u8; 4]
     [a, b, c, d]
 }
 
-/// The year of a packed date.
+/// Returns the year of a packed date.
 pub fn unpack_year(packed: [u8; 5]) -> i32
     ensures value { result ≡ year_from 1 packed }
     ensures range { IsBetween (neg_ℤ (pos 4194304)) (pos 4194303) result }
@@ -66,14 +66,14 @@ pub fn unpack_year(packed: [u8; 5]) -> i32
     solar::unpack_year(date_part(packed))
 }
 
-/// The place of the month of a packed date.
+/// Returns the place of the month of a packed date.
 pub fn unpack_month(packed: [u8; 5]) -> u8
     ensures { result ≡ month_from 1 packed }
 {
     solar::unpack_month(date_part(packed))
 }
 
-/// The day of a packed date.
+/// Returns the day of a packed date.
 pub fn unpack_day(packed: [u8; 5]) -> u8
     ensures { result ≡ day_from 1 packed }
 {

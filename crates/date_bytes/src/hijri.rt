@@ -37,14 +37,14 @@ fn year_bits(long_months: u16, offset: i8) -> u16
     long_months | sign | (u16::from(offset.unsigned_abs()) << 13)
 }
 
-/// The bits that are kept of a year.
+/// Returns the bits that are kept of a year.
 fn unpack_bits(packed: [u8; 6]) -> u16
     ensures { result ≡ bits_in packed }
 {
     u16::from_le_bytes([packed[0], packed[1]])
 }
 
-/// The months of a packed date's year that have 30 days.
+/// Returns the months of a packed date's year that have 30 days.
 pub fn unpack_long_months(packed: [u8; 6]) -> u16
     ensures value { result ≡ long_in packed }
     ensures twelve { result < 4096 }
@@ -52,7 +52,7 @@ pub fn unpack_long_months(packed: [u8; 6]) -> u16
     unpack_bits(packed) & 0xFFF
 }
 
-/// How many days after its mean start a packed date's year starts, from -5 to 5.
+/// Returns how many days after its mean start a packed date's year starts, from -5 to 5.
 pub fn unpack_offset(packed: [u8; 6]) -> i8
     ensures value { result ≡ offset_in packed }
     ensures small { IsBetween (neg_ℤ (pos 5)) (pos 5) result }
@@ -62,7 +62,7 @@ pub fn unpack_offset(packed: [u8; 6]) -> i8
     if (bits >> 12) & 1 == 1 { -size } else { size }
 }
 
-/// The bytes of a packed date behind those that are kept of its year.
+/// Returns the bytes of a packed date behind those that are kept of its year.
 fn date_part(packed: [u8; 6]) -> [u8; 4]
     ensures { number_from 0 result ≡ number_from 2 packed }
 {
@@ -70,7 +70,7 @@ fn date_part(packed: [u8; 6]) -> [u8; 4]
     [a, b, c, d]
 }
 
-/// The year of a packed date.
+/// Returns the year of a packed date.
 pub fn unpack_year(packed: [u8; 6]) -> i32
     ensures value { result ≡ year_from 2 packed }
     ensures range { IsBetween (neg_ℤ (pos 4194304)) (pos 4194303) result }
@@ -78,14 +78,14 @@ pub fn unpack_year(packed: [u8; 6]) -> i32
     solar::unpack_year(date_part(packed))
 }
 
-/// The place of the month of a packed date.
+/// Returns the place of the month of a packed date.
 pub fn unpack_month(packed: [u8; 6]) -> u8
     ensures { result ≡ month_from 2 packed }
 {
     solar::unpack_month(date_part(packed))
 }
 
-/// The day of a packed date.
+/// Returns the day of a packed date.
 pub fn unpack_day(packed: [u8; 6]) -> u8
     ensures { result ≡ day_from 2 packed }
 {

@@ -18,7 +18,7 @@ pub fn pack(year: i32, month: u8, day: u8) -> [u8; 4]
     date_number(year, month, day).to_le_bytes()
 }
 
-/// The year, the place of the month and the day as one number.
+/// Returns the year, the place of the month and the day as one number.
 fn date_number(year: i32, month: u8, day: u8) -> i32
     requires year { IsFieldYear year }
     requires month { month ≤ 13 }
@@ -28,7 +28,7 @@ fn date_number(year: i32, month: u8, day: u8) -> i32
     512 * year + 32 * i32::from(month) + i32::from(day)
 }
 
-/// The year of a packed date: any that 23 bits hold.
+/// Returns the year of a packed date: any that 23 bits hold.
 pub fn unpack_year(packed: [u8; 4]) -> i32
     ensures value { result ≡ year_from 0 packed }
     ensures range { IsBetween (neg_ℤ (pos 4194304)) (pos 4194303) result }
@@ -36,14 +36,14 @@ pub fn unpack_year(packed: [u8; 4]) -> i32
     i32::from_le_bytes(packed) >> 9
 }
 
-/// The place of the month of a packed date.
+/// Returns the place of the month of a packed date.
 pub fn unpack_month(packed: [u8; 4]) -> u8
     ensures { result ≡ month_from 0 packed }
 {
     ((u32::from_le_bytes(packed) >> 5) & 15) as u8
 }
 
-/// The day of a packed date.
+/// Returns the day of a packed date.
 pub fn unpack_day(packed: [u8; 4]) -> u8
     ensures { result ≡ day_from 0 packed }
 {

@@ -24,4 +24,4 @@ returns-in-Some-clause-on g c =
     let list = (g.C.YearShapes.years c.args.cal.now).list in let years = g.C.YearShapes.years c.args.cal.now in
     let y = years.extended c.args.date.year in let month = c.args.date.month in
     let same : day_number list (date y month c.in-Some.day) ≡ day_number list (date y month c.args.date.day) +ℤ toward (is_backward c.args.direction) c.args.days = omega (arith, signed, c.in-Some.ensures, c.requires.date.date.day) in
-    subst (λ (n : ℤ). IsValidOn list n (answer_of years c.date_in_range.result)) same c.date_in_range.ensures.on
+    subst (λ (n : ℤ). IsValidOn list n (answer_of years c.date_in_range-in-Some.result)) same c.date_in_range-in-Some.ensures.on

@@ -8,8 +8,8 @@ use Rattle.cal_arith.proofs.fields.month_of_year.Goals as goal
 named : (o : Option ℤ) (y : ℤ) → o ≡ Some y → IfSome o (λ y. IsRuleYear y) → IsRuleYear (to_z w32 (of_z w32 y))
 named o y e h = let rule : IsRuleYear y = subst (λ o. IfSome o (λ y. IsRuleYear y)) e h in subst IsRuleYear (sym (word y y refl rule)) rule
 
-pub year_with_number-requires-clause-from : goal.year_with_number-requires-clause-from
-year_with_number-requires-clause-from g c = (named c.args.year c.in-Some.year c.in-Some.is c.requires).0
+pub given_year-requires-clause-from : goal.given_year-requires-clause-from
+given_year-requires-clause-from g c = (named c.args.year c.in-Some.year c.in-Some.is c.requires).0
 
-pub year_with_number-requires-clause-to : goal.year_with_number-requires-clause-to
-year_with_number-requires-clause-to g c = (named c.args.year c.in-Some.year c.in-Some.is c.requires).1
+pub given_year-requires-clause-to : goal.given_year-requires-clause-to
+given_year-requires-clause-to g c = (named c.args.year c.in-Some.year c.in-Some.is c.requires).1

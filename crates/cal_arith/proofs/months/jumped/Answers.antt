@@ -13,21 +13,21 @@ rule g c =
     let word = following_word c.extended_from_year_info-number.result _ c.extended_from_year_info-number.ensures c.requires.year.range in
     subst IsRuleYear (sym word) (following_rule _ c.args.months c.requires.year.range c.requires.range)
 
-pub year_with_number-requires-clause-from : goal.year_with_number-requires-clause-from
-year_with_number-requires-clause-from g c = (rule g (goal.at.year_with_number-requires-clause-from g c).After-extended_from_year_info-number).0
+pub given_year-requires-clause-from : goal.given_year-requires-clause-from
+given_year-requires-clause-from g c = (rule g (goal.at.given_year-requires-clause-from g c).After-extended_from_year_info-number).0
 
-pub year_with_number-requires-clause-to : goal.year_with_number-requires-clause-to
-year_with_number-requires-clause-to g c = (rule g (goal.at.year_with_number-requires-clause-to g c).After-extended_from_year_info-number).1
+pub given_year-requires-clause-to : goal.given_year-requires-clause-to
+given_year-requires-clause-to g c = (rule g (goal.at.given_year-requires-clause-to g c).After-extended_from_year_info-number).1
 
 pub returns : goal.returns
 returns g c =
     let years = g.C.YearShapes.years c.args.cal.now in let here = years.extended c.args.year in
     let count = sym c.requires.count in
     let least = subst (λ (n : ℕ). 12 ≤ n) count ((g.met.C.YearShapes.lawful c.args.cal.now).count here).0 in
-    let next = c.year_with_number.ensures.number ∙ following_word c.extended_from_year_info-number.result here c.extended_from_year_info-number.ensures c.requires.year.range in
+    let next = c.given_year.ensures.number ∙ following_word c.extended_from_year_info-number.result here c.extended_from_year_info-number.ensures c.requires.year.range in
     let joins = ap (λ (y : ℤ). month_number years.list y 1) next ∙ month_number-next years.list here ∙ ap (λ (n : ℕ). month_number years.list here 1 +ℤ pos n) count in
     record {
-      given = c.year_with_number.ensures.given;
+      given = c.given_year.ensures.given;
       moved = left_over _ _ c.args.count c.args.months joins c.requires.within;
       fewer = fewer_left 1 c.args.count c.args.months least (omega arith) c.requires.within;
       bound = bound_left _ here 1 c.args.count c.args.months next least c.requires.within;

@@ -74,20 +74,20 @@ years-smaller g c =
     let s = (goal.at.years-smaller g c).After-months_by_number-next in
     fewer (last g s) (to_z w32 c.years.number-bits) _ (omega (arith, signed, c.years-test.true, c.if-number-end.false)) (subst (λ (y : ℤ). y ≤ℤ last g s) (sym (kept g s)) (high g s))
 
-pub year_by_number-year-requires-clause-from : goal.year_by_number-year-requires-clause-from
-year_by_number-year-requires-clause-from g c =
-    let s = (goal.at.year_by_number-year-requires-clause-from g c).After-months_by_number-next in
+pub given_year_counted-year-requires-clause-from : goal.given_year_counted-year-requires-clause-from
+given_year_counted-year-requires-clause-from g c =
+    let s = (goal.at.given_year_counted-year-requires-clause-from g c).After-months_by_number-next in
     (subst IsRuleYear (sym (kept g s)) (rule g s)).0
 
-pub year_by_number-year-requires-clause-to : goal.year_by_number-year-requires-clause-to
-year_by_number-year-requires-clause-to g c =
-    let s = (goal.at.year_by_number-year-requires-clause-to g c).After-months_by_number-next in
+pub given_year_counted-year-requires-clause-to : goal.given_year_counted-year-requires-clause-to
+given_year_counted-year-requires-clause-to g c =
+    let s = (goal.at.given_year_counted-year-requires-clause-to g c).After-months_by_number-next in
     (subst IsRuleYear (sym (kept g s)) (rule g s)).1
 
 -- the months up to the year after it
 module _ (g : Over) (c : After-from-count g) (kept : to_z w32 (of_z w32 c.months_by_number-next.result.0) ≡ c.months_by_number-next.result.0) where
-  year : (g.C.YearShapes.years c.args.cal.now).extended c.year_by_number-year.result ≡ c.months_by_number-next.result.0
-  year = c.year_by_number-year.ensures.number ∙ kept
+  year : (g.C.YearShapes.years c.args.cal.now).extended c.given_year_counted-year.result ≡ c.months_by_number-next.result.0
+  year = c.given_year_counted-year.ensures.number ∙ kept
 
   counted_on : month_number (g.C.YearShapes.years c.args.cal.now).list (c.months_by_number-next.result.0 +ℤ pos 1) 1 ≡ month_number (g.C.YearShapes.years c.args.cal.now).list ((g.C.YearShapes.years c.args.cal.now).extended c.args.first) 1 +ℤ pos (c.years.count + c.months_by_number-next.result.1 + c.from-count.result)
   counted_on =
@@ -122,7 +122,7 @@ years-preserved-then-number-end g c =
       counted = ap (λ (y : ℤ). month_number (g.C.YearShapes.years c.args.cal.now).list y 1) one ∙ counted_on g at.After-from-count (kept g s);
       low = after-low (first g s) (next g s) _ one (low g s);
       high = after-high (next g s) _ (last g s) one (below g at.After-from-count (kept g s) (to_end g s));
-      ticks = ticked c.years.steps c.args.steps.now _ (first g s) (to_z w32 c.years.number-bits) (next g s) _ c.year_by_number-year.ensures.tick c.years.invariant.ticks c.months_by_number-next.ensures.within.0 one;
+      ticks = ticked c.years.steps c.args.steps.now _ (first g s) (to_z w32 c.years.number-bits) (next g s) _ c.given_year_counted-year.ensures.tick c.years.invariant.ticks c.months_by_number-next.ensures.within.0 one;
     }
 
 pub years-smaller-then-number-end : goal.years-smaller-then-number-end

@@ -23,17 +23,17 @@ returns-then-months-from-clause-moved g c =
 rule : (g : Over) (c : After-extended_from_year_info g) → IsRuleYear (to_z w32 (of_z w32 (to_z w32 (of_z w32 c.extended_from_year_info.result) -ℤ pos 1)))
 rule g c = subst IsRuleYear (sym (previous_word c.extended_from_year_info.result _ c.extended_from_year_info.ensures (near_rule _ c.requires.from.range))) (previous_rule _ c.requires.from.range)
 
-pub year_with_number-before-requires-clause-from : goal.year_with_number-before-requires-clause-from
-year_with_number-before-requires-clause-from g c = (rule g (goal.at.year_with_number-before-requires-clause-from g c).After-extended_from_year_info).0
+pub given_year-before-requires-clause-from : goal.given_year-before-requires-clause-from
+given_year-before-requires-clause-from g c = (rule g (goal.at.given_year-before-requires-clause-from g c).After-extended_from_year_info).0
 
-pub year_with_number-before-requires-clause-to : goal.year_with_number-before-requires-clause-to
-year_with_number-before-requires-clause-to g c = (rule g (goal.at.year_with_number-before-requires-clause-to g c).After-extended_from_year_info).1
+pub given_year-before-requires-clause-to : goal.given_year-before-requires-clause-to
+given_year-before-requires-clause-to g c = (rule g (goal.at.given_year-before-requires-clause-to g c).After-extended_from_year_info).1
 
 pub returns-then-back-count-clause-moved : goal.returns-then-back-count-clause-moved
 returns-then-back-count-clause-moved g c =
     let years = g.C.YearShapes.years c.args.cal.now in let here = years.extended c.args.year in
-    let there = years.extended c.year_with_number-before.result in
-    let year = c.year_with_number-before.ensures.number ∙ previous_word c.extended_from_year_info.result here c.extended_from_year_info.ensures (near_rule here c.requires.from.range) in
+    let there = years.extended c.given_year-before.result in
+    let year = c.given_year-before.ensures.number ∙ previous_word c.extended_from_year_info.result here c.extended_from_year_info.ensures (near_rule here c.requires.from.range) in
     let count : month_count years.list there ≡ c.from-count.result = omega arith in
     let first = ap (λ (y : ℤ). month_number years.list y 1) (joined there here 1 year) in
     let j = c.from-count.result - (c.args.months - c.from-2.result) in

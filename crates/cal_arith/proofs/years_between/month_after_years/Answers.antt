@@ -33,15 +33,15 @@ module _ (g : Over) (c : After-toward_year g) (s : After-extended_from_year_info
   handed : IsRuleYear (to_z w32 (of_z w32 c.toward_year.result))
   handed = subst IsRuleYear (sym asked) rule
 
-pub year_by_number-reached-requires-clause-from : goal.year_by_number-reached-requires-clause-from
-year_by_number-reached-requires-clause-from g c =
-    let at = goal.at.year_by_number-reached-requires-clause-from g c in let s = at.After-extended_from_year_info-year in
+pub given_year_counted-reached-requires-clause-from : goal.given_year_counted-reached-requires-clause-from
+given_year_counted-reached-requires-clause-from g c =
+    let at = goal.at.given_year_counted-reached-requires-clause-from g c in let s = at.After-extended_from_year_info-year in
     let sum = c.toward_year.ensures ∙ ap (λ (y : ℤ). y +ℤ toward (is_backward c.args.direction) c.args.years) (year_same g s) in
     (handed g at.After-toward_year s sum).0
 
-pub year_by_number-reached-requires-clause-to : goal.year_by_number-reached-requires-clause-to
-year_by_number-reached-requires-clause-to g c =
-    let at = goal.at.year_by_number-reached-requires-clause-to g c in let s = at.After-extended_from_year_info-year in
+pub given_year_counted-reached-requires-clause-to : goal.given_year_counted-reached-requires-clause-to
+given_year_counted-reached-requires-clause-to g c =
+    let at = goal.at.given_year_counted-reached-requires-clause-to g c in let s = at.After-extended_from_year_info-year in
     let sum = c.toward_year.ensures ∙ ap (λ (y : ℤ). y +ℤ toward (is_backward c.args.direction) c.args.years) (year_same g s) in
     (handed g at.After-toward_year s sum).1
 
@@ -49,5 +49,5 @@ pub returns-clause-month : goal.returns-clause-month
 returns-clause-month g c =
     let at = goal.at.returns-clause-month g c in let s = at.After-extended_from_year_info-year in
     let sum = c.toward_year.ensures ∙ ap (λ (y : ℤ). y +ℤ toward (is_backward c.args.direction) c.args.years) (year_same g s) in
-    let number = c.year_by_number-reached.ensures.number ∙ asked g at.After-toward_year s sum in
-    record { year = c.year_by_number-reached.ensures.given; number = number; range = subst IsFieldYear (sym number) (field g s); place = c.stand_in_place.ensures }
+    let number = c.given_year_counted-reached.ensures.number ∙ asked g at.After-toward_year s sum in
+    record { year = c.given_year_counted-reached.ensures.given; number = number; range = subst IsFieldYear (sym number) (field g s); place = c.stand_in_place.ensures }

@@ -1,4 +1,4 @@
-//! Years by their numbers.
+//! Looks up years by their numbers; each year is one that the calendar gave.
 
 ghost use Rattle.std.specs.Prelude.{◌≡◌, ◌+◌, ◌≤ℤ◌, pos, neg_ℤ};
 ghost use Rattle.cal_arith.specs.Given.{IsGiven};
@@ -7,8 +7,8 @@ use crate::steps::Steps;
 use crate::years::{YearShapes, Years};
 use std::sync::ledger::Ledger;
 
-/// The year of an extended year from -8000000 to 8000000, at the cost of one tick.
-pub(crate) fn year_by_number<C: YearShapes, L: Ledger>(
+/// Returns the year of an extended year from -8000000 to 8000000, at the cost of one tick.
+pub(crate) fn given_year_counted<C: YearShapes, L: Ledger>(
     extended_year: i32,
     cal: &C,
     steps: &mut Steps<L>,
@@ -22,8 +22,8 @@ pub(crate) fn year_by_number<C: YearShapes, L: Ledger>(
     cal.year_counted(extended_year, steps)
 }
 
-/// The year of an extended year from -8000000 to 8000000.
-pub(crate) fn year_with_number<C: Years>(extended_year: i32, cal: &C) -> C::YearInfo
+/// Returns the year of an extended year from -8000000 to 8000000.
+pub(crate) fn given_year<C: Years>(extended_year: i32, cal: &C) -> C::YearInfo
     requires from { neg_ℤ (pos 8000000) ≤ℤ extended_year }
     requires to { extended_year ≤ℤ pos 8000000 }
     ensures given { IsGiven (C.years cal.now) result }

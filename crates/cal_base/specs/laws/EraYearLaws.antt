@@ -1,0 +1,21 @@
+-- The ranges of what era years of at most four digits read as.
+use Rattle.std.proofs.Common.{◌≡◌, ℕ, ℤ, pos, ◌-ℤ◌, List, None, Some, arith}
+use Rattle.std.specs.Prelude.{◌||◌, codes}
+use Rattle.cal_days.specs.Day.{IsCoveredYear, IsConstructorYear}
+use Rattle.cal_days.proofs.Signed.{signed}
+use Rattle.cal_types.specs.YearNames.{is_code}
+use Rattle.cal_types.specs.Eras.{only_era_reads, common_era_reads}
+use Rattle.cal_types.proofs.YearNameLemmas.{year_in_era-some, no_era-some}
+use Rattle.cal_base.specs.OffsetList.{IsNearEra}
+
+-- their days are valid
+pub near_era-covered : (y : ℤ) → IsNearEra y → IsCoveredYear y
+near_era-covered y h = (omega (arith, signed, h), omega (arith, signed, h))
+
+pub only_era_reads-near : (code era : List ℕ) (n y : ℤ) → IsConstructorYear n → only_era_reads code era n ≡ Some y → IsNearEra y
+only_era_reads-near code era n y h e = year_in_era-some IsNearEra (is_code era code) n None (omega (arith, signed, h), omega (arith, signed, h)) (no_era-some IsNearEra) y e
+
+pub common_era_reads-near : (era : List ℕ) (n y : ℤ) → IsConstructorYear n → common_era_reads era n ≡ Some y → IsNearEra y
+common_era_reads-near era n y h e =
+    year_in_era-some IsNearEra _ n _ (omega (arith, signed, h), omega (arith, signed, h))
+    (year_in_era-some IsNearEra (is_code era (codes "bce") || is_code era (codes "bc")) (pos 1 -ℤ n) None (omega (arith, signed, h), omega (arith, signed, h)) (no_era-some IsNearEra)) y e
