@@ -1,4 +1,4 @@
-//! Any of the calendars, chosen at run time.
+//! A calendar chosen at run time, and its inner dates.
 
 ghost use Rattle.std.specs.Prelude.{◌≡◌, ◌<◌, IsTrue};
 ghost use Rattle.cal_types.specs.Difference.{largest_unit_of};
@@ -34,12 +34,12 @@ use std::cmp::Ordering;
 use std::marker::Brand;
 use std::sync::ledger::{Blank, Ledger};
 
-/// Any of the calendars.
+/// A calendar chosen at run time.
 ///
-/// A function that names the lifetime, as in `fn f<'t>(a: &Date<AnyCalendar<'t>>, b: &Date<AnyCalendar<'t>>)`, can't be
-/// proved today where it writes `a == b`, `a < b` or `*a`. Write `a.same_date(b)` and `a.date_cmp(b)`, which say the
-/// same as the operators, or call a function over any `A: AsCalendar`, which may compare. The calendar itself is
-/// copied, so a second date of the same day is `Date::from_rata_die(a.to_rata_die(), calendar)`.
+/// A function that names the lifetime, such as `fn f<'t>(a: &Date<AnyCalendar<'t>>, b: &Date<AnyCalendar<'t>>)`, can't be
+/// proved today if it writes `a == b`, `a < b` or `*a`. Write `a.same_date(b)` and `a.date_cmp(b)`, which mean the same
+/// as the operators. A function over any `A: AsCalendar` may compare. The calendar itself is `Copy`, so
+/// `Date::from_rata_die(a.to_rata_die(), calendar)` creates a second date of the same day.
 #[derive(Clone, Copy, Debug)]
 pub enum AnyCalendar<'t> {
     /// The Buddhist calendar.
@@ -56,9 +56,9 @@ pub enum AnyCalendar<'t> {
     Gregorian(Gregorian),
     /// The Hebrew calendar.
     Hebrew(Hebrew),
-    /// The Hijri calendar as it is simulated for Mecca.
+    /// The simulated Hijri calendar of Mecca.
     HijriSimulated(Hijri<AstronomicalSimulation<'t>>),
-    /// The Hijri calendar by the tabular rules.
+    /// The tabular Hijri calendar.
     HijriTabular(Hijri<TabularAlgorithm>),
     /// The Hijri calendar of Umm al-Qura.
     HijriUmmAlQura(Hijri<UmmAlQura<'t>>),
@@ -68,7 +68,7 @@ pub enum AnyCalendar<'t> {
     Iso(Iso),
     /// The Japanese calendar.
     Japanese(Japanese),
-    /// The Japanese calendar, by the name that CLDR once gave its older eras.
+    /// The Japanese calendar, by CLDR's former name for it with older eras.
     JapaneseExtended(Japanese),
     /// The Julian calendar.
     Julian(Julian),
@@ -80,8 +80,8 @@ pub enum AnyCalendar<'t> {
 
 /// An inner date of any of the calendars.
 ///
-/// Dates of one calendar are ordered by their days; dates of two calendars are neither equal nor ordered. The two
-/// styles of the Ethiopian calendar are one calendar here.
+/// Dates of one calendar are ordered by their days. Dates of different calendars are neither equal nor ordered. The two
+/// styles of the Ethiopian calendar count as one calendar here.
 #[derive(Clone, Copy, Debug)]
 pub enum AnyDateInner<'t> {
     /// A date of the Buddhist calendar.
@@ -98,9 +98,9 @@ pub enum AnyDateInner<'t> {
     Gregorian(GregorianDateInner),
     /// A date of the Hebrew calendar.
     Hebrew(HebrewDateInner),
-    /// A date of the Hijri calendar as it is simulated for Mecca.
+    /// A date of the simulated Hijri calendar of Mecca.
     HijriSimulated(HijriDateInner<AstronomicalSimulation<'t>>),
-    /// A date of the Hijri calendar by the tabular rules.
+    /// A date of the tabular Hijri calendar.
     HijriTabular(HijriDateInner<TabularAlgorithm>),
     /// A date of the Hijri calendar of Umm al-Qura.
     HijriUmmAlQura(HijriDateInner<UmmAlQura<'t>>),
@@ -120,8 +120,8 @@ pub enum AnyDateInner<'t> {
     Roc(RocDateInner),
 }
 
-/// The expression `$arm!(VARIANT, HELD, ..)` of the variant that a calendar or an inner date is of: beside the two
-/// enums, this is the list of the variants for all calls.
+/// Writes `$arm!(VARIANT, HELD, ..)` for the variant of a calendar or an inner date. Besides the two enums, this is the
+/// only list of the variants.
 macro_rules! match_variant {
     ($value:expr, $kind:ident, $held:ident, $arm:ident $arguments:tt) => {
         match $value {
@@ -146,7 +146,7 @@ macro_rules! match_variant {
     };
 }
 
-/// What the calendar that is held answers.
+/// Returns what the held calendar returns.
 macro_rules! with_calendar {
     ($any:expr, $calendar:ident => $answer:expr) => {
         match_variant!($any, AnyCalendar, $calendar, answer_arm($answer))
@@ -159,7 +159,7 @@ macro_rules! answer_arm {
     };
 }
 
-/// The inner date that the calendar that is held answers, in the same variant.
+/// Returns the inner date that the held calendar returns, in the same variant.
 macro_rules! date_with_calendar {
     ($any:expr, $calendar:ident => $answer:expr) => {
         match_variant!($any, AnyCalendar, $calendar, date_arm($answer))
@@ -172,7 +172,7 @@ macro_rules! date_arm {
     };
 }
 
-/// The inner date that the calendar that is held answers, in the same variant, or its refusal.
+/// Returns the inner date that the held calendar returns, in the same variant, or its error.
 macro_rules! date_or_refusal {
     ($any:expr, $calendar:ident => $answer:expr) => {
         match_variant!($any, AnyCalendar, $calendar, date_or_refusal_arm($answer))
@@ -188,7 +188,7 @@ macro_rules! date_or_refusal_arm {
     };
 }
 
-/// What the calendar that is held answers of an inner date of the same variant.
+/// Returns what the held calendar returns for an inner date of the same variant.
 macro_rules! with_date {
     ($any:expr, $date:ident, $calendar:ident => $answer:expr) => {
         match_variant!($any, AnyCalendar, $calendar, answer_of_date_arm($date, $answer))
@@ -204,7 +204,7 @@ macro_rules! answer_of_date_arm {
     }};
 }
 
-/// The inner date that the calendar that is held answers of an inner date, all in the same variant, or its refusal.
+/// Returns the inner date that the held calendar returns for an inner date, all in the same variant, or its error.
 macro_rules! date_with_date_or_refusal {
     ($any:expr, $date:ident, $calendar:ident => $answer:expr) => {
         match_variant!($any, AnyCalendar, $calendar, date_of_date_or_refusal_arm($date, $answer))
@@ -223,7 +223,7 @@ macro_rules! date_of_date_or_refusal_arm {
     }};
 }
 
-/// What the calendar that is held answers of two inner dates of the same variant.
+/// Returns what the held calendar returns for two inner dates of the same variant.
 macro_rules! with_two_dates {
     ($any:expr, $first:ident, $second:ident, $calendar:ident => $answer:expr) => {
         match_variant!($any, AnyCalendar, $calendar, answer_of_dates_arm($first, $second, $answer))
@@ -242,7 +242,7 @@ macro_rules! answer_of_dates_arm {
     }};
 }
 
-/// An answer where two values are of the same variant, and another one where they aren't.
+/// Returns one value if two values are of the same variant, and another value if they aren't.
 macro_rules! if_same_variant {
     (
         ($first:expr, $first_kind:ident($first_held:ident)),
@@ -268,7 +268,7 @@ macro_rules! same_arm {
     };
 }
 
-/// The name of the variant that a calendar is of, in parentheses behind that of the enum.
+/// Returns the name of the calendar's variant, in parentheses after the name of the enum.
 macro_rules! variant_name {
     ($any:expr) => {
         match_variant!($any, AnyCalendar, _held, name_arm())
@@ -305,7 +305,7 @@ impl<'t> PartialOrd for AnyDateInner<'t> {
     }
 }
 
-/// What a question is answered in the calendar that is held, of an inner date of the same variant.
+/// Answers a question about an inner date in the held calendar of the same variant.
 fn ask<'t, Q: DateQuestion>(
     question: &Q,
     calendar: &AnyCalendar<'t>,
@@ -317,7 +317,7 @@ fn ask<'t, Q: DateQuestion>(
     with_date!(calendar, date, held => question.ask(held, date))
 }
 
-/// The difference by a counter that nobody reads.
+/// Computes the difference with a counter that nobody reads.
 fn until_with_blank<'t, L: Ledger>(
     calendar: &AnyCalendar<'t>,
     date1: &AnyDateInner<'t>,

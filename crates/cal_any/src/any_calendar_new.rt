@@ -19,7 +19,7 @@ use cal_julian::{Indian, Julian};
 use cal_kinds::AnyCalendarKind;
 use cal_tables::Tables;
 
-/// The Ethiopian calendar in a style.
+/// Returns the Ethiopian calendar in a style.
 fn ethiopian<'t>(style: EthiopianEraStyle) -> AnyCalendar<'t>
     ensures system { any_system result ≡ ethiopian_system style }
     ensures held { kind_held result ≡ kind_of_style style }
@@ -29,7 +29,7 @@ fn ethiopian<'t>(style: EthiopianEraStyle) -> AnyCalendar<'t>
     AnyCalendar::Ethiopian(Ethiopian::new_with_era_style(style))
 }
 
-/// The tabular Hijri calendar with these leap years, from a day on.
+/// Returns the tabular Hijri calendar with a leap year rule and an epoch.
 fn tabular<'t>(
     leap_years: TabularAlgorithmLeapYears,
     epoch: TabularAlgorithmEpoch,
@@ -43,12 +43,15 @@ fn tabular<'t>(
 }
 
 impl<'t> AnyCalendar<'t> {
-    /// The calendar of a kind, over tables. [`AnyCalendar::kind`] gives the kind back, but `Japanese` for
-    /// `JapaneseExtended`.
+    /// Creates the calendar of a kind, over tables.
     ///
-    /// The rows of China serve `Chinese`, those of Korea `Dangi`, those of Umm al-Qura `HijriUmmAlQura` alone, the
-    /// corrected years `Persian`, and the eras `Japanese` and `JapaneseExtended`, of which both give the variant
+    /// `Chinese` uses the rows of China, `Dangi` those of Korea, and only `HijriUmmAlQura` those of Umm al-Qura.
+    /// `Persian` uses the corrected years, and `Japanese` and `JapaneseExtended` use the eras.
+    ///
+    /// [`AnyCalendar::kind`] returns the same kind, except `Japanese` for `JapaneseExtended`: both create the variant
     /// `Japanese`.
+    ///
+    /// # Examples
     ///
     /// ```
     /// let kind = AnyCalendarKind::from_program_name(b"hebrew")?;

@@ -1,7 +1,7 @@
-//! What may be asked of a calendar about one of its dates.
+//! Questions about a date, asked of its calendar.
 //!
-//! [`ask`](crate::any_calendar) goes through the calendars once for all of these questions, so that a further one is a
-//! function over any calendar.
+//! [`ask`](crate::any_calendar) matches the calendar once for all questions. A further question is one function over
+//! any calendar.
 
 ghost use Rattle.std.specs.Prelude.{◌≡◌, ◌↔◌, pos, ◌+ℤ◌, IsTrue};
 ghost use Rattle.cal_types.specs.MonthInfoParts.{month_info_parts};
@@ -12,15 +12,15 @@ use cal_base::Calendar;
 use cal_days::RataDie;
 use cal_types::{DayOfMonth, DayOfYear, IntoYearInfo, MonthInfo, YearInfo};
 
-/// A question that each calendar answers of a date of its own.
+/// A question about a date, which its calendar answers.
 pub(crate) trait DateQuestion {
     /// The answer's type.
     type Answer;
 
-    /// What the answer says of a date of a calendar.
+    /// The relation of an answer to the date and its calendar.
     ghost answers: { CalendarSystem → Date → Self.Answer → Type 0 };
 
-    /// The answer of a calendar about one of its dates.
+    /// Answers the question about a date of a calendar.
     fn ask<C: Calendar>(&self, calendar: &C, date: &C::DateInner) -> Self::Answer
         requires { IsTrue (C.belongs calendar.now date.now) }
         ensures { answers (C.system calendar.now) (C.date_of calendar.now date.now) result };

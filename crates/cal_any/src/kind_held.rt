@@ -8,7 +8,7 @@ use cal_coptic::EthiopianEraStyle;
 use cal_hijri::{TabularAlgorithmEpoch, TabularAlgorithmLeapYears, epoch_of, leap_years_of};
 use cal_kinds::AnyCalendarKind;
 
-/// The kind of the Ethiopian calendar in a style.
+/// Returns the kind of the Ethiopian calendar in a style.
 fn kind_of_style(style: EthiopianEraStyle) -> AnyCalendarKind
     ensures { result ≡ kind_of_style style }
 {
@@ -18,7 +18,7 @@ fn kind_of_style(style: EthiopianEraStyle) -> AnyCalendarKind
     }
 }
 
-/// The kind of the tabular Hijri calendar with these leap years, from a day on.
+/// Returns the kind of the tabular Hijri calendar with a leap year rule and an epoch.
 fn kind_of_tabular(
     leap_years: TabularAlgorithmLeapYears,
     epoch: TabularAlgorithmEpoch,
@@ -42,11 +42,12 @@ fn kind_of_tabular(
 }
 
 impl<'t> AnyCalendar<'t> {
-    /// The kind that the calendar is of.
+    /// Returns the kind of the calendar.
     ///
-    /// The kinds of the Ethiopian calendar differ by its style, and those of the tabular Hijri calendar by its leap
-    /// years and by the day on which its year 1 starts. Both variants of the Japanese calendar are of the kind
-    /// `Japanese`.
+    /// The kind of an Ethiopian calendar depends on its style. The kind of a tabular Hijri calendar depends on its leap
+    /// year rule and its epoch. Both variants of the Japanese calendar are of the kind `Japanese`.
+    ///
+    /// # Examples
     ///
     /// ```
     /// assert!(rt; AnyCalendar::Hebrew(Hebrew).kind() == AnyCalendarKind::Hebrew);

@@ -1,4 +1,6 @@
-//! Any of the calendars, chosen at run time.
+//! A calendar chosen at run time.
+//!
+//! [`AnyCalendar`] holds one of the calendars, and [`AnyCalendar::new`] creates the one of a kind.
 #![tactic(auto)]
 
 mod any_calendar;

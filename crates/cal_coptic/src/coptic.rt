@@ -328,6 +328,7 @@ impl Calendar for Coptic {
         Arithmetic(*self).day_of_year(&date.0)
     }
 
+    #[inline(always)]
     fn add(
         &self,
         date: &CopticDateInner,

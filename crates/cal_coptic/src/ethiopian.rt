@@ -53,7 +53,7 @@ pub struct Ethiopian {
 pub struct EthiopianDateInner(ArithmeticDate<Ethiopian>);
 
 impl EthiopianEraStyle {
-    /// The Coptic year less the extended year.
+    /// Returns the Coptic year less the extended year.
     fn coptic_offset(self) -> i32
         ensures value { result ≡ coptic_offset self }
         ensures range { IsShift result }
@@ -64,7 +64,7 @@ impl EthiopianEraStyle {
         }
     }
 
-    /// Whether two styles are the same.
+    /// Returns whether two styles are the same.
     fn is_same_as(self, other: EthiopianEraStyle) -> bool
         ensures { result ≡ is_same_style self other }
     {
@@ -73,7 +73,7 @@ impl EthiopianEraStyle {
 }
 
 impl Ethiopian {
-    /// The Ethiopian calendar in the style Amete Mihret.
+    /// Returns the Ethiopian calendar in the style Amete Mihret.
     ///
     /// ```
     /// let date = Date::from_rata_die(RataDie::new(738946), Ethiopian::new());
@@ -85,7 +85,7 @@ impl Ethiopian {
         Ethiopian::new_with_era_style(EthiopianEraStyle::AmeteMihret)
     }
 
-    /// The Ethiopian calendar in a style.
+    /// Returns the Ethiopian calendar in a style.
     ///
     /// ```
     /// let style = EthiopianEraStyle::AmeteAlem;
@@ -98,7 +98,7 @@ impl Ethiopian {
         Ethiopian { era_style }
     }
 
-    /// The style of the calendar.
+    /// Returns the style of the calendar.
     ///
     /// ```
     /// let ethiopian = Ethiopian::new_with_era_style(EthiopianEraStyle::AmeteAlem);
@@ -226,9 +226,9 @@ impl Years for Ethiopian {
     }
 }
 
-/// The extended year of a year, from -1040000 to 1040000, in the Incarnation Era (`am`) or the Era of the World
-/// (`aa`), where extended years are counted from the Incarnation Era. [`UnknownEraError`] comes for every other
-/// code.
+/// Returns the extended year of a year, from -1040000 to 1040000, in the Incarnation Era (`am`) or the Era of the World
+/// (`aa`), where extended years are counted from the Incarnation Era. Fails with
+/// [`UnknownEraError`] for any other code.
 fn year_from_incarnation(era: &[u8], year: i32) -> Result<i32, UnknownEraError>
     requires { IsFieldYear year }
     ensures { result ≡ era_read (incarnation_reads era.now year) }
@@ -288,7 +288,7 @@ impl DateFieldsResolver for Ethiopian {
         (coptic_reference_year m.number d -ℤ coptic_offset s.era_style) e };
 }
 
-/// A year of the Era of the World, with its extended year.
+/// Returns a year of the Era of the World, with its extended year.
 fn world_year(year: i32, extended_year: i32) -> EraYear
     ensures { result ≡ world_era_year year extended_year }
 {
@@ -301,7 +301,7 @@ fn world_year(year: i32, extended_year: i32) -> EraYear
     }
 }
 
-/// An extended year in its era.
+/// Returns an extended year in its era.
 fn era_year(style: EthiopianEraStyle, year: i32) -> EraYear
     requires { IsFieldYear year }
     ensures { result ≡ ethiopian_era_year style year }
@@ -476,6 +476,7 @@ impl Calendar for Ethiopian {
         Arithmetic(*self).day_of_year(&date.0)
     }
 
+    #[inline(always)]
     fn add(
         &self,
         date: &EthiopianDateInner,

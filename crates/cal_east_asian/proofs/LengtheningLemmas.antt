@@ -21,6 +21,7 @@ use Rattle.cal_east_asian.specs.TableAccepted.{IsAccepted, IsTableYear}
 use Rattle.cal_east_asian.specs.TableYears.{number_of, chosen_year, IsRow}
 use Rattle.cal_east_asian.specs.laws.ComputedLaws.{computed_year, computed-years}
 use Rattle.cal_east_asian.specs.laws.EastAsianStartLaws.{start-rule}
+use Rattle.cal_east_asian.specs.laws.RowNameLaws.{accepted-years}
 use Rattle.cal_east_asian.specs.laws.TableYearLaws.{accepted-consecutive, chosen-years}
 use Rattle.cal_east_asian.specs.declared.east_asian_row.EastAsianRow.{EastAsianRow}
 use Rattle.cal_east_asian.specs.declared.east_asian_traditional_year.EastAsianTraditionalYear.{EastAsianTraditionalYear}
@@ -100,19 +101,22 @@ module _ (side : Side) (old longer : List EastAsianRow) (before : IsAccepted (co
   abbrev later : ℤ → EastAsianTraditionalYear
   later = chosen_year (computed_year side) (years_of longer)
 
+  after : IsAccepted (computed_year side) (years_of longer)
+  after = accepted-years (computed_year side) longer lengthens.1
+
   kept : (y : ℤ) → IsNotAdded old longer y → AreAlike (earlier y) (later y)
   kept =
       chosen-kept row_year is_equal_row number_of (computed_year side) AreAlike (λ y. (refl, refl, refl)) (λ a b h. h.0) rows-alike old longer
-      (accepted-consecutive (computed_year side) (years_of old) before) (accepted-consecutive (computed_year side) (years_of longer) lengthens.1) lengthens.0
+      (accepted-consecutive (computed_year side) (years_of old) before) (accepted-consecutive (computed_year side) (years_of longer) after) lengthens.0
 
   starts : (y : ℤ) → IsRuleYear y → IsNotAdded old longer y → start_of_year (list_with side old) y ≡ start_of_year (list_with side longer) y
   starts y rule free =
       start-rule earlier (chosen-years (computed_year side) (years_of old) before (computed-years side)) y rule
       ∙ (kept y free).1
-      ∙ sym (start-rule later (chosen-years (computed_year side) (years_of longer) lengthens.1 (computed-years side)) y rule)
+      ∙ sym (start-rule later (chosen-years (computed_year side) (years_of longer) after (computed-years side)) y rule)
 
   table-range : (i : ℕ) (row : EastAsianTraditionalYear) → IsRow (years_of longer) i row → IsTableYear row.related_iso
-  table-range = number-range number_of (pos 1912) (years_of longer) (λ i row here. lengthens.1 i row here Year)
+  table-range = number-range number_of (pos 1912) (years_of longer) (λ i row here. after i row here Year)
 
   range : (i : ℕ) (row : EastAsianTraditionalYear) → IsRow (years_of longer) i row → IsBetween (pos 1) (pos 9999) row.related_iso
   range i row here = let table = table-range i row here in (omega (arith, signed, table), omega (arith, signed, table))

@@ -7,7 +7,7 @@ use Rattle.cal_types.specs.SameYear.{HaveSameYear}
 use Rattle.cal_types.specs.Lengthening as rows
 use Rattle.cal_east_asian.specs.EastAsianList.{east_asian_list}
 use Rattle.cal_east_asian.specs.EastAsianRows.{row_year, years_of}
-use Rattle.cal_east_asian.specs.TableAccepted.{IsAccepted, IsFirstFault}
+use Rattle.cal_east_asian.specs.RowsAccepted.{IsAccepted, IsFirstFault}
 use Rattle.cal_east_asian.specs.TableYears.{number_of, chosen_year}
 use Rattle.cal_east_asian.specs.laws.ComputedLaws.{computed_year}
 use Rattle.cal_east_asian.specs.declared.east_asian_row.EastAsianRow.{EastAsianRow}
@@ -34,13 +34,12 @@ is_equal_row a b = is_equal_year (row_year a) (row_year b)
 
 -- rows begin with the rows of a table for one side, and are accepted for it
 abbrev pub Lengthens : Side → List EastAsianRow → List EastAsianRow → Type 0
-Lengthens side = rows.Lengthens is_equal_row (λ rows. IsAccepted (computed_year side) (years_of rows))
+Lengthens side = rows.Lengthens is_equal_row (IsAccepted (computed_year side))
 
 -- a fault names the first row of the table that isn't among others in its place; where there is none it is their first
 -- fault
 abbrev pub IsLengthenFault : Side → List EastAsianRow → List EastAsianRow → LengthenFault → Type 0
-IsLengthenFault side =
-    rows.IsLengthenFault is_equal_row (λ rows fault. IsFirstFault (computed_year side) (years_of rows) fault)
+IsLengthenFault side = rows.IsLengthenFault is_equal_row (IsFirstFault (computed_year side))
 
 -- a year isn't among the rows that were added
 abbrev pub IsNotAdded : List EastAsianRow → List EastAsianRow → ℤ → Type 0

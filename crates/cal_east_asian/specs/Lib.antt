@@ -19,6 +19,7 @@ pub mod ComputedYears
 pub mod QingSeams
 pub mod TableYears
 pub mod TableAccepted
+pub mod RowsAccepted
 pub mod MonthStarts
 pub mod EastAsianReferences
 pub mod TableRules

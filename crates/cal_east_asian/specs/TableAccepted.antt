@@ -1,4 +1,4 @@
--- Which tables are accepted, and which fault any other one has.
+-- Which years are accepted as those of a table, and which fault any others have.
 use Rattle.std.specs.Prelude.{ℕ, ◌+◌, Bool, true, ◌&&◌, ◌||◌, nat_lt, int_le, List, length, Option, ℤ, pos, ◌+ℤ◌}
 use Rattle.cal_days.specs.Day.{IsBetween}
 use Rattle.cal_types.specs.Rows as rows
@@ -7,7 +7,7 @@ use Rattle.cal_east_asian.specs.EastAsianYears.{parts_of, end_day, leap_in_three
 use Rattle.cal_east_asian.specs.TableYears.{number_of, chosen_year}
 use Rattle.cal_east_asian.specs.declared.east_asian_traditional_year.EastAsianTraditionalYear.{EastAsianTraditionalYear}
 use Rattle.cal_errors.specs.declared.errors.TablePart.{TablePart}
-use Rattle.cal_errors.specs.declared.errors.TablePart.TheVariants.{Year, Join, End, Leap, Rule}
+use Rattle.cal_errors.specs.declared.errors.TablePart.TheVariants.{Range, Year, Join, End, Leap, Rule}
 use Rattle.cal_errors.specs.declared.errors.TableFault.{TableFault}
 
 -- the row before row i
@@ -49,6 +49,7 @@ leaps_after years row = leap_by_years years (row.related_iso +ℤ pos 1) && leap
 -- No rule picks the rows
 abbrev pub meets : (ℤ → EastAsianTraditionalYear) → List EastAsianTraditionalYear → ℕ → EastAsianTraditionalYear
     → TablePart → Bool
+meets year_of rows i row Range = true
 meets year_of rows i row Year = is_next (row_before rows i) row && int_le row.related_iso (pos 9999)
 meets year_of rows i row Join = joins year_of (row_before rows i) row
 meets year_of rows i row End = nat_lt (i + 1) (length rows) || ends year_of row

@@ -20,6 +20,7 @@ pub mod EastAsianYearLaws
 pub mod SameParts
 pub mod RowPartLaws
 pub mod EastAsianRowLaws
+pub mod RowNameLaws
 pub mod MeanPartLaws
 pub mod MeanTraditionalLaws
 pub mod TableRuleLaws

@@ -1,4 +1,4 @@
-//! The years that rows choose beside computed years.
+//! The years of a table: its rows, and computed years.
 
 ghost use Rattle.std.specs.Prelude.{◌≡◌, slice_get};
 ghost use Rattle.cal_days.specs.Day.{IsRuleYear};
@@ -11,7 +11,7 @@ use crate::east_asian_row::EastAsianRow;
 use crate::east_asian_traditional_year::EastAsianTraditionalYear;
 use crate::sides::Side;
 
-/// The row at an index, counted from 0.
+/// Returns the year of the row at an index, counted from 0.
 pub(crate) fn row_at(rows: &[EastAsianRow], index: usize) -> Option<EastAsianTraditionalYear>
     ensures { result ≡ slice_get (years_of rows.now) index }
 {
@@ -21,7 +21,7 @@ pub(crate) fn row_at(rows: &[EastAsianRow], index: usize) -> Option<EastAsianTra
     }
 }
 
-/// The row of a year. Rows follow one another, so its place follows from the first row's year.
+/// Returns the row of a year. Rows are consecutive, so its index follows from the year of the first row.
 fn row_of(rows: &[EastAsianRow], related_iso: i32) -> Option<EastAsianTraditionalYear>
     requires { IsRuleYear related_iso }
     ensures { result ≡ table.row_of (years_of rows.now) related_iso }
@@ -38,7 +38,7 @@ fn row_of(rows: &[EastAsianRow], related_iso: i32) -> Option<EastAsianTraditiona
     }
 }
 
-/// The row of a year where there is one, and otherwise the computed year.
+/// Returns the row of a year, or the computed year if it has none.
 pub(crate) fn chosen_year(
     side: Side,
     rows: &[EastAsianRow],

@@ -1,4 +1,4 @@
-//! The years that China and Korea choose where no table has a row.
+//! The years of China and Korea without a row in a table.
 
 ghost use Rattle.std.specs.Prelude.{◌≡◌, pos, neg_ℤ, ◌≤ℤ◌, ◌<ℤ◌};
 ghost use Rattle.cal_days.specs.Day.{IsBetween, IsRuleYear, IsValidDay};
@@ -24,7 +24,7 @@ const BEIJING_MEAN_TIME: i64 = 27_940_000;
 /// The mean new moon that 1900 begins with.
 const FIRST_MOON_OF_1900: i64 = -1236;
 
-/// The standard time from 1912 on, in milliseconds from Greenwich.
+/// Returns the standard time from 1912 on, in milliseconds from Greenwich.
 fn standard_offset(side: Side) -> i64
     ensures exact { result ≡ years.standard_offset side }
     ensures offset { IsOffset result }
@@ -35,8 +35,10 @@ fn standard_offset(side: Side) -> i64
     }
 }
 
-/// The year of a number from -8000000 to 8000000 where no table has a row: from 1912 on the mean year at the standard
-/// time, from 1900 to 1911 that of the Qing calendar, and before 1900 the mean year at Beijing's mean time.
+/// Returns the year of a number without a row, from -8000000 to 8000000.
+///
+/// From 1912 on it is the mean year at the standard time, from 1900 to 1911 the year of the Qing calendar, and before
+/// 1900 the mean year at Beijing's mean time.
 pub(crate) fn computed_year(side: Side, related_iso: i32) -> EastAsianTraditionalYear
     requires { IsRuleYear related_iso }
     ensures exact { result ≡ computed.computed_year side related_iso }
@@ -55,9 +57,9 @@ pub(crate) fn computed_year(side: Side, related_iso: i32) -> EastAsianTraditiona
     }
 }
 
-/// The computed year that contains a valid day.
+/// Returns the computed year that contains a valid day.
 ///
-/// Each year starts within the ISO year of its number, so it is the year of the day's ISO year, or the one before.
+/// Each year starts within the ISO year of its number, so it is the year of the day's ISO year, or the year before.
 pub(crate) fn computed_year_containing_rd(side: Side, rd: RataDie) -> EastAsianTraditionalYear
     requires { IsValidDay rd }
     ensures exact { result ≡ computed.computed_year side result.related_iso }
@@ -74,9 +76,9 @@ pub(crate) fn computed_year_containing_rd(side: Side, rd: RataDie) -> EastAsianT
     }
 }
 
-/// The number of the mean new moon that a computed year begins with.
+/// Returns the number of the mean new moon that a computed year begins with.
 ///
-/// The Qing years begin and end with such moons too, and every third of them has a leap month, from 1900 on.
+/// The Qing years also begin and end with such moons, and every third of them has a leap month, from 1900 on.
 fn computed_first_moon(side: Side, year: i32) -> i64
     requires { IsRuleYear year }
     ensures exact { result ≡ computed.computed_first_moon side year }
@@ -92,8 +94,9 @@ fn computed_first_moon(side: Side, year: i32) -> i64
     i64::from(12 * years + (years + 2) / 3) + FIRST_MOON_OF_1900
 }
 
-/// How many months the computed years have from one year on up to the year before another one, both from -8000000 to
-/// 8000000; where the other one is the earlier, their number is negative.
+/// Returns the number of months of the computed years from one year up to the year before another one.
+///
+/// Both are from -8000000 to 8000000. The number is negative if the other one is earlier.
 pub(crate) fn computed_months_between(side: Side, from: i32, to: i32) -> i64
     requires from { IsRuleYear from }
     requires to { IsRuleYear to }

@@ -1,9 +1,9 @@
-//! A row of a table of Chinese or Korean years.
+//! The rows of a table of Chinese or Korean years, as plain data.
 
-ghost use Rattle.std.specs.Prelude.{◌≡◌, ◌%◌, ◌<◌, ◌^◌, IsTrue};
-ghost use Rattle.cal_days.specs.Day.{IsRuleYear};
+ghost use Rattle.std.specs.Prelude.{◌≡◌, ◌%◌, ◌<◌, ◌^◌, IsTrue, nat_lt, neg_ℤ, pos};
+ghost use Rattle.cal_days.specs.Day.{IsRuleYear, is_between};
 ghost use Rattle.cal_east_asian.specs.RowParts.{place_or_none};
-ghost use Rattle.cal_east_asian.specs.EastAsianRows.{row_year};
+ghost use Rattle.cal_east_asian.specs.EastAsianRows.{names_year, row_of_year, row_year};
 ghost use Rattle.cal_east_asian.specs.EastAsianYear.{is_leap_place, months_of_year};
 ghost use Rattle.cal_east_asian.specs.RuleYears.{rule_year};
 
@@ -12,9 +12,9 @@ use cal_days::gregorian;
 
 /// A year of an [`EastAsianTable`](crate::EastAsianTable) as plain data, which a `static` can hold.
 ///
-/// Every value is read as a year, so a row needs no test of its own: what lies beyond a field's range is read as the
-/// nearest value within it, or as no leap month. Whether rows follow one another as a table's are to is tested by
-/// [`EastAsianTable::try_new`](crate::EastAsianTable::try_new).
+/// A row names a year if each field is within its range. Every year has exactly one such row.
+/// [`EastAsianTable::try_new`](crate::EastAsianTable::try_new) rejects any other row, and tests whether the rows follow
+/// one another.
 ///
 /// The Chinese year 2023 begins on 2023-01-22, 3 days after January 19. Its third month is the leap month 2, and its
 /// months in the places 2, 5, 6, 8, 9, 11 and 13 have 30 days:
@@ -30,31 +30,51 @@ use cal_days::gregorian;
 /// ```
 #[derive(Clone, Copy, Debug)]
 pub struct EastAsianRow {
-    /// The ISO year in which the year begins, from -8000000 to 8000000. A lower or higher one is read as the nearest
-    /// of these.
+    /// The number of the year, from -8000000 to 8000000: the ISO year in which it begins.
     pub related_iso: i32,
-    /// A bit for each month of 30 days, the first month's the lowest; the other months have 29. The bits above the
-    /// last month's are of no month.
+    /// The months of 30 days: bit 0 is set for the first month, up to bit 11, or bit 12 with a leap month. The other
+    /// months have 29 days, and the bits above are 0.
     pub long_months: u16,
-    /// The place of the leap month, from 2 to 13, or 0 without one. Any other is read as 0.
+    /// The place of the leap month, from 2 to 13, or 0 without one.
     pub leap_month: u8,
-    /// How many days after January 19 the year begins: 0 to 34. More are read as 34.
+    /// The number of days from January 19 of its number to the first day of the year, 0 to 34.
     pub start_offset: u8,
 }
 
-/// The place of a leap month, or 0 where no year has one there.
+/// Returns whether a leap month may have this place, or is missing for 0.
+fn is_leap_place(place: u8) -> bool
+    ensures { result ≡ is_leap_place place }
+{
+    place == 0 || (2 <= place && place <= 13)
+}
+
+/// Returns whether bits belong to months of a year with its leap month in a place, or without one for 0.
+fn are_bits_of_months(long_months: u16, leap_month: u8) -> bool
+    ensures { result ≡ nat_lt long_months (2 ^ months_of_year leap_month) }
+{
+    if leap_month == 0 {
+        long_months < 4096
+    } else {
+        long_months < 8192
+    }
+}
+
+/// Returns whether a year is from -8000000 to 8000000.
+fn is_rule_year(year: i32) -> bool
+    ensures { result ≡ is_between (neg_ℤ (pos 8000000)) (pos 8000000) year }
+{
+    -8000000 <= year && year <= 8000000
+}
+
+/// Returns the place of a leap month, or 0 if no year can have one there.
 fn place_or_none(place: u8) -> u8
     ensures value { result ≡ place_or_none place }
     ensures valid { IsTrue (is_leap_place result) }
 {
-    if place == 0 || (2 <= place && place <= 13) {
-        place
-    } else {
-        0
-    }
+    if is_leap_place(place) { place } else { 0 }
 }
 
-/// The bits that are those of months of a year with this place of its leap month, or without one.
+/// Returns the bits of the months of a year with its leap month in a place, or without one for 0.
 fn bits_of_months(long_months: u16, leap_month: u8) -> u16
     ensures value { result ≡ long_months % 2 ^ months_of_year leap_month }
     ensures few { result < 2 ^ months_of_year leap_month }
@@ -66,7 +86,7 @@ fn bits_of_months(long_months: u16, leap_month: u8) -> u16
     }
 }
 
-/// The nearest year to one from -8000000 to 8000000.
+/// Returns the nearest year from -8000000 to 8000000.
 fn nearest_rule_year(year: i32) -> i32
     ensures value { result ≡ rule_year year }
     ensures range { IsRuleYear result }
@@ -75,7 +95,12 @@ fn nearest_rule_year(year: i32) -> i32
 }
 
 impl EastAsianRow {
-    /// The year that the row is read as. A row with each field within its range is read as it stands.
+    /// Returns the year that the row names.
+    ///
+    /// If the row names no year, each field out of its range is taken as the nearest value within it, the place of a
+    /// leap month as 0, and the bits above those of the months as 0.
+    ///
+    /// # Examples
     ///
     /// ```
     /// static YEAR_2023: EastAsianRow = EastAsianRow {
@@ -99,16 +124,28 @@ impl EastAsianRow {
             leap_month,
         )
     }
+
+    /// Returns whether each field is within its range, so that the row names a year.
+    pub(crate) fn names_year(self) -> bool
+        ensures { result ≡ names_year self }
+    {
+        is_rule_year(self.related_iso)
+            && is_leap_place(self.leap_month)
+            && are_bits_of_months(self.long_months, self.leap_month)
+            && self.start_offset <= 34
+    }
 }
 
 impl EastAsianTraditionalYear {
-    /// The row that is read as this year.
+    /// Returns the row that names this year.
     ///
     /// ```
     /// assert!(rt; qing_year(1900)?.row().leap_month == 9);
     /// ```
     pub fn row(self) -> EastAsianRow
-        ensures { row_year result ≡ self }
+        ensures exact { result ≡ row_of_year self }
+        ensures year { row_year result ≡ self }
+        ensures named { IsTrue (names_year result) }
     {
         let january_1 = gregorian::year_start(self.related_iso).to_i64_date();
         EastAsianRow {

@@ -3,10 +3,11 @@
 ghost use Rattle.std.specs.Prelude.{◌≡◌, ◌↔◌, [], IsOk, MatchResult};
 ghost use Rattle.cal_days.specs.Day.{IsRuleYear};
 ghost use Rattle.cal_east_asian.specs.laws.ComputedLaws.{computed_year};
-ghost use Rattle.cal_east_asian.specs.EastAsianRows.{years_of};
+ghost use Rattle.cal_east_asian.specs.EastAsianRows.{NameYears, years_of};
 ghost use Rattle.cal_east_asian.specs.LeapRows.{leap_rows as leap_rows_of};
 ghost use Rattle.cal_east_asian.specs.LengthenedTables.{IsLengthenFault, KeepsYears, Lengthens};
-ghost use Rattle.cal_east_asian.specs.TableAccepted.{IsAccepted, IsFirstFault};
+ghost use Rattle.cal_east_asian.specs.RowsAccepted as by_rows;
+ghost use Rattle.cal_east_asian.specs.TableAccepted.{IsAccepted};
 ghost use Rattle.cal_east_asian.specs.TableYears as table;
 ghost use Rattle.cal_east_asian.specs.TableYears.{HasNoRow, IsRowOf};
 ghost use Rattle.cal_east_asian.specs.declared.east_asian_traditional_year.EastAsianTraditionalYear.{EastAsianTraditionalYear};
@@ -19,26 +20,29 @@ use crate::sides::Side;
 use crate::table_check::check;
 use cal_types::{LengthenFault, TableFault, first_difference};
 
-/// Rows of years for China or for Korea, which stand in place of the computed years of their numbers.
+/// Consecutive years for China or for Korea, which replace the computed years of the same numbers.
 ///
-/// The rows' numbers follow one another, from 1912 to 9999. Each row starts where the year before it ends, the last row
-/// ends where the computed next year starts, and no three years in a row lack a leap month. The rows are handed in by
-/// [`EastAsianTable::try_new`], [`EastAsianTable::new`] or [`EastAsianTable::with_leap_rows`]; a table made by
-/// [`EastAsianTable::none`] has none.
+/// The years are from 1912 to 9999, and each row names its year. Each row starts on the day after the year before it, and
+/// the computed year after the last row on the day after that row. One of any three consecutive years has a leap month.
+///
+/// [`EastAsianTable::try_new`] tests rows. [`EastAsianTable::none`] creates a table without rows.
 #[derive(Clone, Copy, Debug)]
 pub struct EastAsianTable<'t> {
     side: Side,
-    /// How many rows have a leap month, so that sums and differences over all rows needn't look at each.
+    /// The number of rows with a leap month, so that sums and differences over all rows needn't read each row.
     leap_rows: u32,
     rows: &'t [EastAsianRow],
     ghost accepted: { IsAccepted (computed_year side) (years_of rows.now) },
+    ghost named: { NameYears rows.now },
     ghost counted: { leap_rows ≡ leap_rows_of rows.now },
 }
 
 impl<'t> EastAsianTable<'t> {
-    /// A table without rows: **every year is computed**, and may begin a day or a month before or after the published
-    /// one. The crate `published_years` has tables of the published years (`china_table`, `korea_table`), and
-    /// [`EastAsianTable::try_new`] takes rows of one's own.
+    /// Creates a table without rows: **every year is computed**, and may begin a day or a month before or after the
+    /// published one.
+    ///
+    /// The crate `published_years` has tables of the published years (`china_table`, `korea_table`). For rows of your own,
+    /// use [`EastAsianTable::try_new`].
     ///
     /// ```
     /// let computed = ChineseTraditional::new(EastAsianTable::none(Side::China));
@@ -55,14 +59,16 @@ impl<'t> EastAsianTable<'t> {
         }
     }
 
-    /// The table of rows that are known to be accepted for one side, as those of constant data can be by computation.
-    /// Their leap months are counted; [`EastAsianTable::with_leap_rows`] looks at no row.
+    /// Creates a table from rows that are known to be accepted for a side, without testing them. For constant data,
+    /// acceptance can be proved by computation.
+    ///
+    /// The leap months are counted; [`EastAsianTable::with_leap_rows`] reads no row.
     ///
     /// ```text
     /// let table = EastAsianTable::new(Side::China, &ROWS);
     /// ```
     pub fn new(side: Side, rows: &'t [EastAsianRow]) -> EastAsianTable<'t>
-        requires { IsAccepted (computed_year side) (years_of rows.now) }
+        requires { by_rows.IsAccepted (computed_year side) rows.now }
         ensures side { result.side ≡ side }
         ensures rows { result.rows.now ≡ rows.now }
     {
@@ -73,8 +79,8 @@ impl<'t> EastAsianTable<'t> {
         }
     }
 
-    /// The table of rows that are known to be accepted for one side, of which so many have a leap month. No row is
-    /// looked at.
+    /// Creates a table from rows that are known to be accepted for a side, and the number of those with a leap month. No
+    /// row is read.
     ///
     /// ```text
     /// static ROWS: [EastAsianRow; 188] = ..; // 1912 to 2099
@@ -85,7 +91,7 @@ impl<'t> EastAsianTable<'t> {
         rows: &'t [EastAsianRow],
         leap_rows: u32,
     ) -> EastAsianTable<'t>
-        requires accepted { IsAccepted (computed_year side) (years_of rows.now) }
+        requires accepted { by_rows.IsAccepted (computed_year side) rows.now }
         requires counted { leap_rows ≡ leap_rows_of rows.now }
         ensures side { result.side ≡ side }
         ensures rows { result.rows.now ≡ rows.now }
@@ -97,16 +103,26 @@ impl<'t> EastAsianTable<'t> {
         }
     }
 
-    /// The table of these rows, for one side.
+    /// Creates a table for a side from rows.
     ///
-    /// A [`TableFault`] names the first row, counted from 1, that isn't as it is to be, and the first part that
-    /// breaks there: [`Year`](cal_types::TablePart::Year) where the first row's year is below 1912, another's isn't
-    /// one more than the row's before it, or one is above 9999; [`Join`](cal_types::TablePart::Join) where the row
-    /// doesn't start where the row before it ends, or the first one not where the computed year before it ends;
-    /// [`End`](cal_types::TablePart::End) where the computed year after the last row doesn't start where that row
-    /// ends; [`Leap`](cal_types::TablePart::Leap) where neither the row's year nor one of the two years before it has
-    /// a leap month, or, at the last row, the same is true of the first or the second year after it. Among these
-    /// years, one without a row is the computed one.
+    /// # Errors
+    ///
+    /// Fails with a [`TableFault`] that names the first row, counted from 1, that breaks a rule, and the first rule
+    /// that it breaks:
+    ///
+    /// - [`Range`](cal_types::TablePart::Range) if the row names no year: a field is out of its range
+    ///   ([`EastAsianRow`]).
+    /// - [`Year`](cal_types::TablePart::Year) if the year of the first row is below 1912, the year of another row isn't
+    ///   one more than the year of the row before it, or a year is above 9999.
+    /// - [`Join`](cal_types::TablePart::Join) if the row doesn't start on the day after the row before it, or the first
+    ///   row not on the day after the computed year before it.
+    /// - [`End`](cal_types::TablePart::End) if the computed year after the last row doesn't start on the day after that
+    ///   row.
+    /// - [`Leap`](cal_types::TablePart::Leap) if neither the row's year nor one of the two years before it has a leap
+    ///   month. The last row breaks it also if this is so for the first or the second year after it. A year without a
+    ///   row counts as its computed year.
+    ///
+    /// # Examples
     ///
     /// ```
     /// let rows = published::china_table().rows();
@@ -115,8 +131,8 @@ impl<'t> EastAsianTable<'t> {
     /// ```
     pub fn try_new(side: Side, rows: &'t [EastAsianRow]) -> Result<EastAsianTable<'t>, TableFault>
         ensures first { MatchResult result (λ made. (made.side ≡ side) × (made.rows.now ≡ rows.now))
-            (IsFirstFault (computed_year side) (years_of rows.now)) }
-        ensures exact { IsOk result ↔ IsAccepted (computed_year side) (years_of rows.now) }
+            (by_rows.IsFirstFault (computed_year side) rows.now) }
+        ensures exact { IsOk result ↔ by_rows.IsAccepted (computed_year side) rows.now }
     {
         match check(side, rows) {
             Ok(()) => Ok(EastAsianTable {
@@ -128,15 +144,19 @@ impl<'t> EastAsianTable<'t> {
         }
     }
 
-    /// The table of longer rows, for the same side: they begin with this table's rows, and are accepted. Each year
-    /// that isn't among the rows that were added keeps its first day and its months.
+    /// Creates a table for the same side from longer rows, which begin with the rows of this table. Every year that isn't
+    /// among the added rows keeps its first day and its months.
     ///
-    /// Rows are equal where the years are that they are read as: in number, first day, the lengths of their months and
-    /// the place of the leap month.
+    /// Rows are equal if their years ([`EastAsianRow::year`]) have the same number, first day, months and place of the
+    /// leap month. No memory is taken.
     ///
-    /// [`LengthenFault::Differs`] names the first of this table's rows, counted from 1, to which the longer ones have
-    /// none equal in its place, as where they are fewer. Where there is no such row, [`LengthenFault::Table`] has the
-    /// fault that [`EastAsianTable::try_new`] finds in the longer ones. No memory is taken.
+    /// # Errors
+    ///
+    /// - [`LengthenFault::Differs`] if a row of this table has no equal row in the same place of `rows`, for example if
+    ///   `rows` are fewer. It names the first such row, counted from 1.
+    /// - [`LengthenFault::Table`] otherwise, with the fault that [`EastAsianTable::try_new`] finds in `rows`.
+    ///
+    /// # Examples
     ///
     /// ```
     /// let table = EastAsianTable::try_new(Side::China, &rows[..50])?;
@@ -160,7 +180,7 @@ impl<'t> EastAsianTable<'t> {
         }
     }
 
-    /// Whose years these are.
+    /// Returns the side that the table is for.
     ///
     /// ```
     /// assert!(rt; published::korea_table().side() == Side::Korea);
@@ -171,25 +191,26 @@ impl<'t> EastAsianTable<'t> {
         self.side
     }
 
-    /// The rows of the table.
+    /// Returns the rows. Each of them names a year.
     ///
     /// ```
     /// assert!(rt; published::china_table().rows().len() == 188); // 1912 to 2099
     /// ```
     pub fn rows(&self) -> &'t [EastAsianRow]
-        ensures { result.now ≡ self.now.rows.now }
+        ensures rows { result.now ≡ self.now.rows.now }
+        ensures named { NameYears result.now }
     {
         self.rows
     }
 
-    /// How many rows have a leap month.
+    /// Returns the number of rows with a leap month.
     pub(crate) fn leap_rows(&self) -> u32
         ensures { result ≡ leap_rows_of self.now.rows.now }
     {
         self.leap_rows
     }
 
-    /// The year of a number from -8000000 to 8000000: its row where there is one, and otherwise the computed year.
+    /// Returns the row of a year from -8000000 to 8000000, or the computed year if it has none.
     pub(crate) fn year(&self, related_iso: i32) -> EastAsianTraditionalYear
         requires { IsRuleYear related_iso }
         ensures exact { result

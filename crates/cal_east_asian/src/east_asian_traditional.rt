@@ -1,4 +1,4 @@
-//! The Chinese and Korean calendars, and others of their kind, over any lawful rules.
+//! The calendar of the Chinese and Korean kind over any rules, and its dates.
 
 ghost use Rattle.std.specs.Prelude.{◌≡◌};
 ghost use Rattle.cal_days.specs.Day.{IsFieldYear};
@@ -25,21 +25,23 @@ use cal_types::{
 };
 use std::sync::ledger::Ledger;
 
-/// The calendar of some rules, which say what its years are.
+/// A calendar of the Chinese kind with rules for its years.
 ///
 /// Years are named by the cycle of sixty years, and numbered by the ISO year in which they start. A year has the plain
-/// months 1 to 12, and a leap year also a leap month, which has the number of the month before it. Under
-/// [`Overflow::Constrain`] the plain month of its number stands in for a leap month that a year lacks.
+/// months 1 to 12, and a leap year also a leap month, which has the number of the month before it. With
+/// [`Overflow::Constrain`], the plain month of its number replaces a leap month that doesn't occur in a year.
 #[derive(Clone, Copy, Debug)]
 pub struct EastAsianTraditional<R>(pub R);
 
-/// A mean month, in milliseconds.
+/// The length of a mean month, in milliseconds.
 const MEAN_MONTH: u64 = MONTH as u64;
 
-/// A mean year, in milliseconds.
+/// The length of a mean year, in milliseconds.
 const MEAN_YEAR: u64 = YEAR as u64;
 
-/// A date of the calendar of some rules: its year, the place of its month and its day.
+/// A date of such a calendar: its year, its ordinal month and its day.
+///
+/// Dates are equal, ordered and hashed by the number of the year, the ordinal month and the day.
 #[derive_where(Clone, Copy, Debug, PartialEq, Eq, PartialOrd, Ord, Hash)]
 pub struct ChineseDateInner<R: Rules>(ArithmeticDate<EastAsianTraditional<R>>);
 
@@ -131,7 +133,8 @@ impl<R: Rules> Years for EastAsianTraditional<R> {
         self.0.year_containing_rd(rd)
     }
 
-    /// By the mean month and year, less two months, since a year starts at most 34 days later in the Gregorian year than another.
+    /// Estimates by the mean month and year, less two months: a year starts at most 34 days later in its ISO year than
+    /// another.
     fn estimated_years(&self, _from: EastAsianTraditionalYear, months: u32) -> u32 {
         (u64::from(months.saturating_sub(2)) * MEAN_MONTH / MEAN_YEAR) as u32
     }
@@ -178,7 +181,7 @@ impl<R: Rules> DateFieldsResolver for EastAsianTraditional<R> {
         (R.reference_of_leap_month s.0) m d };
 }
 
-/// The year of the cycle of sixty years.
+/// Returns the year in the cycle of sixty years.
 #[tactic(auto, using(cal_days::proofs::Signed::signed), unfolding(cal_days::specs::Division::floor_mod))]
 fn cyclic_year(related_iso: i32) -> CyclicYear
     requires { IsFieldYear related_iso }
@@ -351,6 +354,7 @@ impl<R: Rules> Calendar for EastAsianTraditional<R> {
         Arithmetic(*self).day_of_year(&date.0)
     }
 
+    #[inline(always)]
     fn add(
         &self,
         date: &ChineseDateInner<R>,

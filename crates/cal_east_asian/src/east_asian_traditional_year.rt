@@ -1,4 +1,4 @@
-//! A year of a Chinese or Korean calendar.
+//! The years of a Chinese or Korean calendar.
 
 ghost use Rattle.std.specs.Prelude.{◌≡◌, ◌↔◌, ◌<◌, ◌≤◌, ◌^◌, IfSome, IsSome, IsTrue, Some, neg_ℤ, pos};
 ghost use Rattle.std.proofs.Common.{rules};
@@ -18,20 +18,20 @@ use date_bytes::east_asian;
 use std::cmp::Ordering;
 use std::hash::{Hash, Hasher};
 
-/// A year of a Chinese or Korean calendar: its number, the ISO year in which it starts, its first day, the lengths
-/// of its months, and the place of its leap month.
+/// A year of a Chinese or Korean calendar: its number (the ISO year in which it starts), its first day, the lengths of its
+/// months, and the place of its leap month.
 ///
-/// The number lies from -8000000 to 8000000, and the year starts 0 to 34 days after January 19 of its number. It has
-/// 12 months, or 13 with a leap month in the place 2 to 13. A leap month has the number of the month before it.
+/// The number is from -8000000 to 8000000, and the year starts 0 to 34 days after January 19 of its number. It has 12
+/// months, or 13 with a leap month in a place from 2 to 13. A leap month has the number of the month before it.
 ///
 /// Years are equal, ordered and hashed by the number.
 #[derive(Clone, Copy, Debug)]
 pub struct EastAsianTraditionalYear {
-    /// The rata die of its first day.
+    /// The first day (rata die).
     pub(crate) new_year: i64,
-    /// The ISO year in which it starts.
+    /// The number: the ISO year in which the year starts.
     pub(crate) related_iso: i32,
-    /// A bit for each month of 30 days, the first month's lowest. The other months have 29 days.
+    /// The months of 30 days: bit 0 is set for the first month. The other months have 29 days.
     pub(crate) long_months: u16,
     /// The place of the leap month, or 0 without one.
     pub(crate) leap_month: u8,
@@ -88,11 +88,13 @@ impl Hash for EastAsianTraditionalYear {
 }
 
 impl EastAsianTraditionalYear {
-    /// The year of a number whose months, and the next year's first one, start on these days.
+    /// Creates a year from the first days of its months, and of the first month of the next year.
     ///
-    /// It has 12 months, of which the first 13 starts are read, or with the place of a leap month 13, of which all 14
-    /// are. None exactly where the number isn't from -8000000 to 8000000, a month hasn't 29 or 30 days, the place of
-    /// the leap month isn't from 2 to 13, or the first day isn't 0 to 34 days after January 19 of the number.
+    /// Without a leap month the year has 12 months, and the first 13 days are read. With the place of a leap month it has
+    /// 13 months, and all 14 days are read.
+    ///
+    /// None if the number isn't from -8000000 to 8000000, a month has neither 29 nor 30 days, the place of the leap month
+    /// isn't from 2 to 13, or the first day isn't 0 to 34 days after January 19 of the number.
     ///
     /// ```
     /// let starts = [RataDie::new(738926); 14]; // no month has a day
@@ -124,7 +126,7 @@ impl EastAsianTraditionalYear {
         ))
     }
 
-    /// Its number: the ISO year in which it starts.
+    /// Returns the number of the year: the ISO year in which it starts.
     ///
     /// ```
     /// assert!(rt; qing_year(1900)?.related_iso() == 1900);
@@ -136,7 +138,7 @@ impl EastAsianTraditionalYear {
         self.related_iso
     }
 
-    /// Its first day.
+    /// Returns the first day.
     ///
     /// ```
     /// assert!(rt; qing_year(1900)?.new_year().to_i64_date() == 693626); // 1900-01-31
@@ -147,7 +149,7 @@ impl EastAsianTraditionalYear {
         RataDie::new(self.new_year)
     }
 
-    /// The place of its leap month, from 2 to 13, where it has one.
+    /// Returns the place of the leap month, from 2 to 13, or None if the year has no leap month.
     ///
     /// ```
     /// assert!(rt; qing_year(1900)?.leap_month() == Some(9)); // behind the month 8
@@ -162,7 +164,7 @@ impl EastAsianTraditionalYear {
         }
     }
 
-    /// How many months it has: 12, or 13 with a leap month.
+    /// Returns the number of months: 12, or 13 with a leap month.
     ///
     /// ```
     /// assert!(rt; qing_year(1900)?.months() == 13);
@@ -173,7 +175,7 @@ impl EastAsianTraditionalYear {
         months_in_year(self.leap_month)
     }
 
-    /// How many days the month in a place has: 29 or 30.
+    /// Returns the number of days of the month in a place, 29 or 30. `month`: from 1 to the number of months.
     ///
     /// ```
     /// let year = qing_year(1900)?;
@@ -187,8 +189,7 @@ impl EastAsianTraditionalYear {
         days_in_month(self.long_months, month)
     }
 
-    /// The year of these parts: its number, the rata die of its first day, a bit for each month of 30 days, the first
-    /// month's lowest, and the place of the leap month, or 0.
+    /// Creates a year from its parts.
     pub(crate) fn from_parts(
         related_iso: i32,
         new_year: i64,
@@ -213,7 +214,7 @@ impl EastAsianTraditionalYear {
     }
 }
 
-/// January 19 of an ISO year, on which a year of its number may start earliest.
+/// Returns January 19 of an ISO year: the earliest first day of the year of its number.
 fn january_19(related_iso: i32) -> i64
     requires { IsRuleYear related_iso }
     ensures value { result ≡ january_19 related_iso }
@@ -222,7 +223,7 @@ fn january_19(related_iso: i32) -> i64
     gregorian::year_start(related_iso).to_i64_date() + 18
 }
 
-/// How many days after January 19 of its number a year starts.
+/// Returns the number of days from January 19 of its number to the first day of a year.
 fn days_after_january_19(related_iso: i32, new_year: i64) -> u8
     requires number { IsRuleYear related_iso }
     requires start { IsNewYear related_iso new_year }

@@ -1,4 +1,8 @@
-//! The Chinese and Korean calendars, and others of their kind under any lawful rules.
+//! The Chinese and Korean calendars: the calendar [`EastAsianTraditional`] over any [`Rules`], which decide its years.
+//!
+//! [`ChineseTraditional`] and [`KoreanTraditional`] take an [`EastAsianTable`] of years. Years without a row are
+//! computed: [`qing_year`] from 1900 to 1911, and [`mean_year`] otherwise. Start with
+//! [`ChineseTraditional::new`](EastAsianTraditional::new).
 #![tactic(auto)]
 
 mod chosen_years;

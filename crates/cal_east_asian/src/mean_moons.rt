@@ -6,7 +6,7 @@ ghost use Rattle.cal_days.specs.Division.{floor_mod};
 ghost use Rattle.cal_east_asian.specs.MeanYears as mean;
 ghost use Rattle.cal_east_asian.specs.MeanYears.{IsLastMoon, IsNearMoon, IsOffset, day, last_moon, month_total};
 
-/// A day.
+/// The length of a day, in milliseconds.
 const DAY: i64 = 86_400_000;
 
 /// The time from one mean new moon to the next: 29 days and 45842876 milliseconds.
@@ -24,7 +24,7 @@ const MOON_0: i64 = 63_082_865_640_000;
 /// The mean winter solstice before 2000 at Greenwich: on 1999-12-22 at 7:44.
 const SOLSTICE_OF_2000: i64 = 63_081_531_840_000;
 
-/// The day of a moment.
+/// Returns the day of a moment.
 #[tactic(auto, using(cal_days::proofs::Signed::signed), unfolding(cal_days::specs::Division::floor_div))]
 fn day_of(moment: i64) -> i64
     ensures exact { result ≡ day moment }
@@ -34,7 +34,7 @@ fn day_of(moment: i64) -> i64
     moment.div_euclid(DAY)
 }
 
-/// The day of a moment, and how long after its start the moment is.
+/// Returns the day of a moment, and the time from its start to the moment.
 #[tactic(auto, using(cal_days::proofs::Signed::signed_casts))]
 pub(crate) fn day_and_time(moment: i64) -> (i64, u32)
     requires { (neg_ℤ (pos 600000000000000000) ≤ℤ moment) × (moment ≤ℤ pos 600000000000000000) }
@@ -48,7 +48,7 @@ pub(crate) fn day_and_time(moment: i64) -> (i64, u32)
     (day, (moment - DAY * day) as u32)
 }
 
-/// A mean new moon.
+/// Returns the moment of a mean new moon.
 #[tactic(auto, using(cal_days::proofs::Signed::signed), unfolding(crate::specs::MeanYears::moon))]
 pub(crate) fn moon(utc_offset: i64, index: i64) -> i64
     requires offset { IsOffset utc_offset }
@@ -59,7 +59,7 @@ pub(crate) fn moon(utc_offset: i64, index: i64) -> i64
     MOON_0 + utc_offset + MONTH * index
 }
 
-/// The mean winter solstice before a year.
+/// Returns the moment of the mean winter solstice before a year.
 #[tactic(auto, using(cal_days::proofs::Signed::signed), unfolding(crate::specs::MeanYears::term))]
 fn solstice(utc_offset: i64, year: i32) -> i64
     requires offset { IsOffset utc_offset }
@@ -71,7 +71,7 @@ fn solstice(utc_offset: i64, year: i32) -> i64
     SOLSTICE_OF_2000 + utc_offset + YEAR * years
 }
 
-/// Mean solar term 2 of a year.
+/// Returns the moment of the mean solar term 2 of a year.
 #[tactic(auto, using(cal_days::proofs::Signed::signed))]
 pub(crate) fn second_term(utc_offset: i64, year: i32) -> i64
     requires offset { IsOffset utc_offset }
@@ -82,7 +82,7 @@ pub(crate) fn second_term(utc_offset: i64, year: i32) -> i64
     solstice(utc_offset, year) + 2 * TERM
 }
 
-/// How long after moon 0 the last moment of a day is.
+/// Returns the time from moon 0 to the last moment of a day.
 #[tactic(auto, using(cal_days::proofs::Signed::signed))]
 fn since_moon_0(utc_offset: i64, day: i64) -> i64
     requires offset { IsOffset utc_offset }
@@ -95,7 +95,7 @@ fn since_moon_0(utc_offset: i64, day: i64) -> i64
     last - first
 }
 
-/// The last moon on or before a day.
+/// Returns the number of the last moon on or before a day.
 #[tactic(auto, using(cal_days::proofs::Signed::signed), unfolding(crate::specs::MeanYears::last_moon, cal_days::specs::Division::floor_div),)]
 pub(crate) fn last_moon_by(utc_offset: i64, day: i64) -> i64
     requires offset { IsOffset utc_offset }
@@ -106,8 +106,9 @@ pub(crate) fn last_moon_by(utc_offset: i64, day: i64) -> i64
     since_moon_0(utc_offset, day).div_euclid(MONTH)
 }
 
-/// The number of the mean new moon that a mean year from -8000000 to 8000000 begins with, at an offset from
-/// 27940000 to 32400000 milliseconds: the last moon on or before the day of term 2.
+/// Returns the number of the mean new moon that a mean year begins with: the last moon on or before the day of term 2.
+///
+/// The year is from -8000000 to 8000000, and the offset from 27940000 to 32400000 milliseconds.
 #[tactic(auto, using(cal_days::proofs::Signed::signed))]
 pub(crate) fn first_moon(utc_offset: i64, year: i32) -> i64
     requires offset { IsOffset utc_offset }

@@ -1,11 +1,11 @@
-//! Mean lunisolar years.
+//! Mean lunisolar years: start with [`mean_year`].
 //!
-//! Months begin on the day of a mean new moon. Of the months from the one that has the mean winter solstice on, the
-//! first one that lacks its solar term is the leap month: the next month begins on the day of that term or before.
+//! Months begin on the day of a mean new moon. Counted from the month of the mean winter solstice, the first month without
+//! its solar term is the leap month: the next month begins on the day of that term or before.
 //!
-//! So a year begins with the last moon on or before the day of term 2, whether or not a leap month goes before it, and
-//! its own leap month is the first of its months that lacks its term. Terms lie farther apart than moons, always by
-//! the same time, so a division finds the first month that may lack its term.
+//! So a year begins with the last moon on or before the day of term 2, whether or not a leap month comes before it. Its
+//! own leap month is the first of its months without its term. Terms are farther apart than moons, always by the same
+//! time, so a division finds the first month that may have no term.
 
 ghost use Rattle.std.specs.Prelude.{◌≡◌, ℕ, ◌+◌, ◌*◌, ◌/◌, ◌%◌, ◌<◌, ◌≤◌, nat_eq, nat_le, if◌then◌else◌, pos, neg_ℤ, ◌+ℤ◌, ◌-ℤ◌, ◌≤ℤ◌, ◌<ℤ◌};
 ghost use Rattle.cal_days.specs.Day.{IsBetween, IsRuleYear, IsValidDay};
@@ -21,19 +21,19 @@ use crate::east_asian_traditional_year::EastAsianTraditionalYear;
 use crate::mean_moons::{MONTH, day_and_time, last_moon_by, moon, second_term};
 use cal_days::{RataDie, gregorian};
 
-/// A day.
+/// The length of a day, in milliseconds.
 const DAY: u32 = 86_400_000;
 
-/// What a mean month has beyond 29 days.
+/// The length of a mean month beyond 29 days, in milliseconds.
 const BEYOND_29_DAYS: u32 = 45_842_876;
 
-/// What lies between two mean solar terms beyond 30 days.
+/// The time between two mean solar terms beyond 30 days, in milliseconds.
 const BEYOND_30_DAYS: u32 = 37_746_000;
 
-/// What lies between two mean solar terms beyond a mean month.
+/// The time between two mean solar terms beyond a mean month, in milliseconds.
 const BEYOND_A_MONTH: u32 = 78_303_124;
 
-/// How long after its solar term a month ends whose first moment and term are these.
+/// Returns the time from the solar term of a month to its end, from its first moment and its term.
 #[tactic(auto, using(cal_days::proofs::Signed::signed_casts))]
 fn lead(first: i64, term: i64) -> u32
     requires near { (neg_ℤ (pos 600000000000000000) ≤ℤ first) × (first ≤ℤ pos 600000000000000000) }
@@ -45,8 +45,10 @@ fn lead(first: i64, term: i64) -> u32
     (first + MONTH - term) as u32
 }
 
-/// The first month that ends less than a day after its solar term, or before it. Earlier months end after the days of
-/// their terms, and those after the next one end on the days of their terms or before. In between, the days decide.
+/// Returns the first month that ends less than a day after its solar term, or before it.
+///
+/// Earlier months end after the days of their terms. Months after the next one end on the days of their terms or before.
+/// In between, the days decide.
 fn first_near_term(lead: u32) -> u32
     requires { lead < 2637842876 }
     ensures near { lead < 86400000 + 78303124 * result }
@@ -60,7 +62,7 @@ fn first_near_term(lead: u32) -> u32
     }
 }
 
-/// 1 where a month ends after the day of its solar term, and else 0.
+/// Returns 1 if a month ends after the day of its solar term, or else 0.
 fn has_term(lead: u32, time: u32, month: u32) -> u32
     requires lead { lead < 2637842876 }
     requires time { time < 86400000 }
@@ -74,15 +76,16 @@ fn has_term(lead: u32, time: u32, month: u32) -> u32
     }
 }
 
-/// The place in the year of a month that is counted from 0. 0 where the year hasn't so many months.
+/// Returns the place in the year of a month counted from 0, or 0 if the year has no such month.
 fn place_in_year(month: u32) -> u8
     ensures { result ≡ if nat_le month 12 then month + 1 else 0 }
 {
     if month <= 12 { month as u8 + 1 } else { 0 }
 }
 
-/// The place in the year of the leap month, or 0. Term 2 lies so long after the start of its day, and the year's first
-/// month ends so long after it.
+/// Returns the place of the leap month, or 0.
+///
+/// `time` is the time of day of term 2, and `lead` the time from term 2 to the end of the first month of the year.
 fn leap_place(lead: u32, time: u32) -> u8
     requires lead { lead < 2637842876 }
     requires time { time < 86400000 }
@@ -92,8 +95,8 @@ fn leap_place(lead: u32, time: u32) -> u8
     place_in_year(near + has_term(lead, time, near) + has_term(lead, time, near + 1))
 }
 
-/// How long after the start of its day the month before one begins that begins so long after the start of its own day,
-/// and 1 where that month has 30 days.
+/// Returns the time of day at which the month before one begins, from the time of day of that one. Also returns 1 if the
+/// month before has 30 days, or else 0.
 fn month_before(time: u32) -> (u32, u16)
     requires { time < 86400000 }
     ensures time { result.0 < 86400000 }
@@ -108,7 +111,8 @@ fn month_before(time: u32) -> (u32, u16)
     }
 }
 
-/// 1 where the thirteenth month of a year with a leap month has 30 days. It begins so long after the start of its day.
+/// Returns the bit of the thirteenth month of a year with a leap month if it has 30 days, from the time of day at which
+/// it begins.
 fn thirteenth_bit(start: u32, place: u8) -> u16
     requires { start < 86400000 }
     ensures exact { result ≡ if nat_eq place 0 then 0 else (start + 45842876) / 86400000 }
@@ -121,8 +125,8 @@ fn thirteenth_bit(start: u32, place: u8) -> u16
     }
 }
 
-/// A bit for each month of 30 days, the first month's lowest, in a year with a leap month in a place, or without one.
-/// The year's first month begins so long after the start of its day.
+/// Returns the bits of the months of 30 days of a year with a leap month in a place, or without one for 0. `time` is the
+/// time of day at which the first month begins.
 fn long_months(time: u32, place: u8) -> u16
     requires { time < 86400000 }
     ensures { result ≡ month_bits time 0 (months_of_year place) }
@@ -139,11 +143,12 @@ fn long_months(time: u32, place: u8) -> u16
     bits
 }
 
-/// The mean lunisolar year of a number from -8000000 to 8000000, at an offset from Greenwich of 27940000 (Beijing's
-/// mean time), 28800000 or 32400000 milliseconds, or any between them.
+/// Returns the mean lunisolar year of a number at an offset from Greenwich.
 ///
-/// Its months are those from the month of solar term 2 to that of term 13, with the leap month among them or right
-/// after them. It starts 0 to 34 days after January 19 of its number and ends where the next one starts.
+/// `related_iso`: from -8000000 to 8000000. `utc_offset`: from 27940000 milliseconds (Beijing's mean time) to 32400000.
+///
+/// Its months are those from the month of solar term 2 to the month of term 13, with a leap month among them or right
+/// after them. It starts 0 to 34 days after January 19 of its number, and the next year starts on the day after it.
 ///
 /// ```
 /// let year = mean_year(28800000, 2023); // 8 hours from Greenwich
@@ -170,9 +175,9 @@ pub fn mean_year(utc_offset: i64, related_iso: i32) -> EastAsianTraditionalYear
     EastAsianTraditionalYear::from_parts(related_iso, new_year, lengths, place)
 }
 
-/// The mean year that contains a valid day, at an offset as in [`mean_year`].
+/// Returns the mean year that contains a valid day, at an offset as in [`mean_year`].
 ///
-/// Each year starts within the ISO year of its number, so it is the year of the day's ISO year, or the one before.
+/// Each year starts within the ISO year of its number, so it is the year of the day's ISO year, or the year before.
 pub(crate) fn mean_year_containing_rd(utc_offset: i64, rd: RataDie) -> EastAsianTraditionalYear
     requires offset { IsOffset utc_offset }
     requires rd { IsValidDay rd }

@@ -1,4 +1,4 @@
-//! The months of a year by their first days.
+//! Reads the months of a year from their first days.
 
 ghost use Rattle.std.specs.Prelude.{◌≡◌, ◌↔◌, ◌<◌, ◌≤◌, ◌^◌, IfSome, IsSome, IsTrue, pos, neg_ℤ, ◌-ℤ◌};
 ghost use Rattle.cal_days.specs.Day.{IsBetween, IsRuleYear};
@@ -7,7 +7,7 @@ ghost use Rattle.cal_east_asian.specs.MonthStarts.{HaveLengthsOf, HaveMonthLengt
 
 use cal_days::{RataDie, gregorian};
 
-/// The place of the leap month, or 0 without one. None for a place that isn't from 2 to 13.
+/// Returns the place of the leap month, or 0 without one. None for a place that isn't from 2 to 13.
 pub(crate) fn leap_place(leap_month: Option<u8>) -> Option<u8>
     ensures { result ≡ leap_place_read leap_month }
 {
@@ -23,14 +23,14 @@ pub(crate) fn leap_place(leap_month: Option<u8>) -> Option<u8>
     }
 }
 
-/// The first day of the first month.
+/// Returns the first day of the first month.
 pub(crate) fn first_day(starts: &[RataDie; 14]) -> RataDie
     ensures { result ≡ start_at starts.now 0 }
 {
     starts[0]
 }
 
-/// Whether a number is one of a year, and the year may start on a day.
+/// Returns whether a number is one of a year, and the year may start on a day.
 pub(crate) fn is_new_year(related_iso: i32, day: RataDie) -> bool
     ensures { IsTrue result ↔ (IsRuleYear related_iso × IsNewYear related_iso day) }
 {
@@ -41,7 +41,7 @@ pub(crate) fn is_new_year(related_iso: i32, day: RataDie) -> bool
     18 <= since && since <= 52
 }
 
-/// How many days a month has that starts on one day, where the next month starts on another.
+/// Returns the number of days from one first day to the next.
 fn days_from(first: RataDie, next: RataDie) -> i64
     ensures value { result ≡ next -ℤ first }
     ensures bound { IsBetween (neg_ℤ (pos 100000000000000000)) (pos 100000000000000000) result }
@@ -49,14 +49,14 @@ fn days_from(first: RataDie, next: RataDie) -> i64
     next.since(first)
 }
 
-/// Whether a month may have so many days.
+/// Returns whether a month may have this number of days.
 fn is_month_length(days: i64) -> bool
     ensures { IsTrue result ↔ IsBetween (pos 29) (pos 30) days }
 {
     days == 29 || days == 30
 }
 
-/// A bit for each month of 30 days, the first month's lowest. None where one of the months hasn't 29 or 30 days.
+/// Returns the bits of the months of 30 days, or None if a month has neither 29 nor 30 days.
 pub(crate) fn long_months(starts: &[RataDie; 14], months: u8) -> Option<u16>
     requires { months ≤ 13 }
     ensures some { IsSome result ↔ HaveMonthLengths starts.now 0 months }

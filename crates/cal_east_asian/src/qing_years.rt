@@ -1,4 +1,4 @@
-//! The years 1900 to 1911 of the Qing calendar, which China and Korea share.
+//! The years 1900 to 1911 of the Qing calendar, for China and Korea.
 
 ghost use Rattle.std.specs.Prelude.{◌≡◌, ◌<◌, ◌+◌, ◌↔◌, IfSome, IsSome, pos};
 ghost use Rattle.cal_east_asian.specs.EastAsianYears.{parts_of};
@@ -7,8 +7,7 @@ ghost use Rattle.cal_east_asian.specs.QingYears.{IsQingNumber, IsQingYear, qing_
 
 use crate::east_asian_traditional_year::EastAsianTraditionalYear;
 
-/// A year's first day, a bit for each month of 30 days, the first month's lowest, and the place of its leap month,
-/// or 0.
+/// The first day of a year, the bits of its months of 30 days, and the place of its leap month or 0.
 #[derive(Clone, Copy)]
 struct QingRow {
     new_year: i64,
@@ -16,7 +15,7 @@ struct QingRow {
     leap_month: u8,
 }
 
-/// A row of these parts.
+/// Creates a row from its parts.
 const fn row(new_year: i64, long_months: u16, leap_month: u8) -> QingRow
     ensures new_year { result.new_year ≡ new_year }
     ensures long_months { result.long_months ≡ long_months }
@@ -29,7 +28,7 @@ const fn row(new_year: i64, long_months: u16, leap_month: u8) -> QingRow
     }
 }
 
-/// The row of the year that lies so many years after 1900.
+/// Returns the row of the year `1900 + index`.
 fn qing_row(index: u8) -> QingRow
     requires { index < 12 }
     ensures new_year { result.new_year ≡ (qing_parts (pos (1900 + index))).new_year }
@@ -52,10 +51,10 @@ fn qing_row(index: u8) -> QingRow
     }
 }
 
-/// The year of a number from 1900 to 1911, as the Qing calendar had it. `None` exactly for any other number.
+/// Returns a year of the Qing calendar, from 1900 to 1911. None for any other number.
 ///
-/// Each of these years ends where the next one starts. 1900 starts where the mean year 1899 ends at an offset of
-/// 27940000 milliseconds, and 1911 ends where the mean year 1912 starts at 28800000 and at 32400000.
+/// Each of these years starts on the day after the year before it: 1900 on the day after the mean year 1899 at an offset
+/// of 27940000 milliseconds. The mean years 1912 at 28800000 and at 32400000 milliseconds start on the day after 1911.
 ///
 /// ```
 /// let year = qing_year(1900)?;

@@ -1,4 +1,4 @@
-//! The reference years of China and Korea, in which dates without a year stand.
+//! The reference years of China and Korea: the years of dates without a year.
 
 ghost use Rattle.std.specs.Prelude.{◌≡◌, ◌≤◌, IsTrue, Some, None, pos};
 ghost use Rattle.cal_types.specs.MonthParts.{month_parts};
@@ -9,7 +9,7 @@ use crate::east_asian_months::is_east_asian;
 use crate::sides::Side;
 use cal_types::{EcmaReferenceYearError, Month};
 
-/// The reference years of a month, where it has them: for days up to 26, for days up to 29, and for later days.
+/// The reference years of a month, if it has them: for days up to 26, for days up to 29, and for later days.
 #[derive(Clone, Copy)]
 struct ReferenceYears {
     to_26: Option<i32>,
@@ -17,7 +17,7 @@ struct ReferenceYears {
     later: Option<i32>,
 }
 
-/// One year for days up to 29, and another one for later days.
+/// Returns a year for days up to 29, and another year for later days.
 fn both(to_29: i32, later: i32) -> ReferenceYears
     ensures to_26 { result.to_26 ≡ Some to_29 }
     ensures to_29 { result.to_29 ≡ Some to_29 }
@@ -30,7 +30,7 @@ fn both(to_29: i32, later: i32) -> ReferenceYears
     }
 }
 
-/// A year for days up to 29 alone.
+/// Returns a year for days up to 29 only.
 fn short(to_29: i32) -> ReferenceYears
     ensures to_26 { result.to_26 ≡ Some to_29 }
     ensures to_29 { result.to_29 ≡ Some to_29 }
@@ -43,7 +43,7 @@ fn short(to_29: i32) -> ReferenceYears
     }
 }
 
-/// No year.
+/// Returns no year.
 fn no_years() -> ReferenceYears
     ensures to_26 { result.to_26 ≡ None }
     ensures to_29 { result.to_29 ≡ None }
@@ -56,7 +56,7 @@ fn no_years() -> ReferenceYears
     }
 }
 
-/// The year of day 30 of the third month.
+/// Returns the year of day 30 of the third month.
 fn year_of_day_30_of_month_3(side: Side) -> i32
     ensures { result ≡ pos (third_month_30 side) }
 {
@@ -66,7 +66,7 @@ fn year_of_day_30_of_month_3(side: Side) -> i32
     }
 }
 
-/// The reference years of a plain month.
+/// Returns the reference years of a plain month.
 fn plain_month_years(side: Side, number: u8) -> ReferenceYears
     requires { (1 ≤ number) × (number ≤ 12) }
     ensures to_26 { result.to_26 ≡ (plain_row side number).to_26 }
@@ -93,7 +93,7 @@ fn plain_month_years(side: Side, number: u8) -> ReferenceYears
     }
 }
 
-/// The reference years of a leap month, by its number.
+/// Returns the reference years of a leap month, by its number.
 fn leap_month_years(number: u8) -> ReferenceYears
     requires { (1 ≤ number) × (number ≤ 12) }
     ensures to_26 { result.to_26 ≡ (leap_row number).to_26 }
@@ -116,7 +116,7 @@ fn leap_month_years(number: u8) -> ReferenceYears
     }
 }
 
-/// The reference years of a month.
+/// Returns the reference years of a month.
 fn years_of_month(side: Side, month: Month) -> ReferenceYears
     requires { IsTrue (is_east_asian_month (month_parts month)) }
     ensures to_26 { result.to_26 ≡ (month_row side (month_parts month)).to_26 }
@@ -130,10 +130,10 @@ fn years_of_month(side: Side, month: Month) -> ReferenceYears
     }
 }
 
-/// The reference year of a month and a day. The day may be above the month's length.
+/// Returns the reference year of a month and a day. The day may be above the length of the month.
 ///
-/// [`EcmaReferenceYearError::MonthNotInCalendar`] comes for a month that isn't one of the months 1 to 12, and
-/// [`EcmaReferenceYearError::UseRegularIfConstrain`] for a leap month that has no reference year.
+/// Fails with [`EcmaReferenceYearError::MonthNotInCalendar`] if the month isn't one of the months 1 to 12, and with
+/// [`EcmaReferenceYearError::UseRegularIfConstrain`] if a leap month has no reference year for the day.
 pub(crate) fn reference_year(
     side: Side,
     month: Month,

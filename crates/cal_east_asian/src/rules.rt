@@ -1,4 +1,4 @@
-//! What decides the years of a Chinese or Korean calendar.
+//! Rules that decide the years of a Chinese or Korean calendar.
 
 ghost use Rattle.std.specs.Prelude.{◌≡◌, ◌↔◌, ℕ, ℤ, Bool, List, Option, Result, IsTrue, IsOk, Ok, Err, pos, false, ◌+ℤ◌, ◌≤ℤ◌, ◌<ℤ◌};
 ghost use Rattle.std.specs.Cmp.{IsEquivalence};
@@ -20,13 +20,14 @@ use cal_days::{RataDie, gregorian};
 use cal_types::{CalendarAlgorithm, EcmaReferenceYearError, Month};
 use std::fmt::Debug;
 
-/// What decides the years of a Chinese or Korean calendar: which months have 30 days, and where leap months stand.
+/// Rules that decide the years of a Chinese or Korean calendar: which months have 30 days, and where leap months are.
 ///
-/// [`EastAsianTraditional`](crate::EastAsianTraditional) makes a calendar of any rules. The years have their numbers,
-/// each starts where the one before it ends, and no three years in a row lack a leap month. That each starts 0 to 34
-/// days after January 19 of its number is kept by [`EastAsianTraditionalYear`].
+/// [`EastAsianTraditional`](crate::EastAsianTraditional) is the calendar with such rules. Each year has its number, and
+/// starts on the day after the year before it. One of any three consecutive years has a leap month.
+/// [`EastAsianTraditionalYear`] ensures that each year starts 0 to 34 days after January 19 of its number. A type with
+/// rules of your own proves the laws at the end of the trait.
 pub trait Rules: Copy + Debug + UnstableSealed + Drop {
-    /// What says that dates under two rules can't be compared.
+    /// The error for dates under two rules that aren't compatible.
     type DateCompatibilityError: Debug + Drop;
 
     /// The year of a number. Only those from -8000000 to 8000000 count.
@@ -35,24 +36,24 @@ pub trait Rules: Copy + Debug + UnstableSealed + Drop {
     /// The reference year of a month and a day, or why there is none. Only months of the calendar count.
     ghost reference: { Self → MonthParts → ℕ → Result ℤ EcmaReferenceYearError };
 
-    /// Whether dates under two rules can be compared.
+    /// Whether two rules are compatible, so that dates under them can be compared.
     ghost compatible: { Self → Self → Bool };
 
-    /// The calendar's algorithm, where CLDR names one.
+    /// The algorithm by which CLDR names the calendar, if it has a name for it.
     ghost algorithm: { Self → Option CalendarAlgorithm };
 
-    /// The calendar's name in English.
+    /// The name of the calendar in English.
     ghost name: { Self → List ℕ };
 
-    /// The year of a number from -8000000 to 8000000.
+    /// Returns the year of a number from -8000000 to 8000000.
     fn year(&self, related_iso: i32) -> EastAsianTraditionalYear
         requires { IsRuleYear related_iso }
         ensures { result ≡ year_of self.now related_iso };
 
-    /// The year that contains a valid day.
+    /// Returns the year that contains a valid day.
     ///
-    /// A year starts from January 19 to February 22 of its number, so it is the year of the day's ISO year, or the
-    /// one before.
+    /// `rd`: rata die, -365242499 to 365242134. A year starts from January 19 to February 22 of its number, so it is the
+    /// year of the day's ISO year, or the year before.
     fn year_containing_rd(&self, rd: RataDie) -> EastAsianTraditionalYear
         requires { IsValidDay rd }
         ensures given { result ≡ year_of self.now result.related_iso }
@@ -69,8 +70,9 @@ pub trait Rules: Copy + Debug + UnstableSealed + Drop {
         }
     }
 
-    /// A year from one number up to another, and how many months lie between the first days of the first year and of
-    /// that one, as far as the rules count them by the numbers alone: where they can't, it is the first year itself.
+    /// Returns a year from `first` to `last`, and the number of months between the first days of `first` and of that year.
+    ///
+    /// Rules that count months by the numbers of the years return `last`. By default it is `first`, and 0 months.
     fn months_by_number(&self, first: i32, last: i32) -> (i32, u32)
         requires first { IsRuleYear first }
         requires last { IsRuleYear last }
@@ -83,50 +85,67 @@ pub trait Rules: Copy + Debug + UnstableSealed + Drop {
         (first, 0)
     }
 
-    /// The reference year of a month and a day, in which a date without a year stands (ECMAScript Temporal's
-    /// NonISOMonthDayToISOReferenceDate). The day may be above the month's length.
+    /// Returns the reference year of a month and a day: the year of a date without one (ECMAScript Temporal,
+    /// `NonISOMonthDayToISOReferenceDate`).
     ///
-    /// [`EcmaReferenceYearError::MonthNotInCalendar`] comes only for a month that isn't one of the months 1 to 12,
-    /// [`EcmaReferenceYearError::UseRegularIfConstrain`] only for a leap month, which then leaves its place to the
-    /// plain month of its number, and [`EcmaReferenceYearError::Unimplemented`] where the rules have no reference
-    /// years.
+    /// The year is from -1040000 to 1040000. The day may be above the length of the month.
+    ///
+    /// # Errors
+    ///
+    /// - [`MonthNotInCalendar`](EcmaReferenceYearError::MonthNotInCalendar) only if the month isn't one of the months
+    ///   1 to 12, plain or leap.
+    /// - [`UseRegularIfConstrain`](EcmaReferenceYearError::UseRegularIfConstrain) only for a leap month of the calendar,
+    ///   which the plain month of its number then replaces.
+    /// - [`Unimplemented`](EcmaReferenceYearError::Unimplemented) if the rules have no reference years.
     fn ecma_reference_year(&self, month: Month, day: u8) -> Result<i32, EcmaReferenceYearError>
         ensures { result ≡ reference self.now (month_parts month) day };
 
-    /// An error exactly where dates under the two rules can't be compared.
+    /// Tests whether two rules are compatible, so that dates under them can be compared.
+    ///
+    /// # Errors
+    ///
+    /// - [`DateCompatibilityError`](Rules::DateCompatibilityError) if the rules aren't compatible.
     fn check_date_compatibility(&self, other: &Self) -> Result<(), Self::DateCompatibilityError>
         ensures { IsOk result ↔ IsTrue (compatible self.now other.now) };
 
-    /// The calendar's algorithm (CLDR, UTS 35). None where CLDR names none for it.
+    /// Returns the algorithm by which CLDR names the calendar (UTS 35), or None if it has no name for it.
     fn calendar_algorithm(&self) -> Option<CalendarAlgorithm>
         ensures { result ≡ algorithm self.now };
 
-    /// The calendar's name in English, for messages to programmers.
+    /// Returns the name of the calendar in English, for messages to programmers.
     fn debug_name(&self) -> &'static str
         ensures { result.now ≡ name self.now };
 
-    /// The years have their numbers, each starts where the one before it ends, and no three in a row lack a leap
-    /// month.
+    /// Each year has its number, and starts on the day after the year before it. One of any three consecutive years has
+    /// a leap month.
     ghost lawful: { (s : Self) → AreYears (year_of s) };
 
-    /// A reference year is one that fields may name.
+    /// A reference year is a year that fields may name.
     ghost reference_in_range: { (s : Self) (m : MonthParts) (d : ℕ) (y : ℤ) → reference s m d ≡ Ok y →
         IsFieldYear y };
 
-    /// No month of the calendar is refused as one that it lacks.
+    /// No month of the calendar is rejected as one that isn't.
     ghost reference_of_kind: { (s : Self) (m : MonthParts) (d : ℕ) → reference s m d ≡ Err MonthNotInCalendar →
         is_east_asian_month m ≡ false };
 
-    /// Only a leap month of the calendar leaves its place to the plain month of its number.
+    /// The plain month of its number replaces only a leap month of the calendar.
     ghost reference_of_leap_month: { (s : Self) (m : MonthParts) (d : ℕ) →
         reference s m d ≡ Err UseRegularIfConstrain → IsTrue m.is_leap × IsTrue (is_east_asian_month m) };
 
-    /// Where dates under two rules can't be compared, there is an error that says so.
+    /// There is an error for rules that aren't compatible.
     ghost refusal: { (s t : Self) → compatible s t ≡ false → Self.DateCompatibilityError };
 
-    /// Each value is compatible with itself, and compatibility goes both ways and on.
+    /// Compatibility is an equivalence: reflexive, symmetric and transitive.
     ghost alike: { IsEquivalence compatible };
 
-    /// Compatible rules give the same years.
+    /// Compatible rules have the same years.
     ghost shared: { (s t : Self) (y : ℤ) → IsTrue (compatible s t) → IsRuleYear y → year_of s y ≡ year_of t y };
+
+    /// Compatible rules have the same reference years.
+    ghost shared_references: { (s t : Self) (m : MonthParts) (d : ℕ) → IsTrue (compatible s t) →
+        reference s m d ≡ reference t m d };
+
+    /// Compatible rules have the same algorithm and the same name.
+    ghost shared_names: { (s t : Self) → IsTrue (compatible s t) →
+        (algorithm s ≡ algorithm t) × (name s ≡ name t) };
 }

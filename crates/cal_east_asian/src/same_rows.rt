@@ -1,4 +1,4 @@
-//! Tables with the same rows.
+//! Compares years and rows of tables.
 
 ghost use Rattle.std.specs.Prelude.{◌≡◌};
 ghost use Rattle.std.specs.Cmp.Lexicographic.{pointwise};
@@ -10,7 +10,7 @@ use crate::east_asian_row::EastAsianRow;
 use crate::east_asian_traditional_year::EastAsianTraditionalYear;
 use cal_types::Row;
 
-/// Whether two years have the same number, first day, month lengths and leap month.
+/// Returns whether two years have the same number, first day, month lengths and leap month.
 pub(crate) fn is_same_year(one: EastAsianTraditionalYear, other: EastAsianTraditionalYear) -> bool
     ensures { result ≡ same_year one other }
 {
@@ -20,14 +20,14 @@ pub(crate) fn is_same_year(one: EastAsianTraditionalYear, other: EastAsianTradit
         && one.leap_month == other.leap_month
 }
 
-/// One more than the greatest bits of the months of a year with its leap month in a place, or with none in 0.
+/// Returns one more than the greatest bits of the months of a year with its leap month in a place, or without one for 0.
 fn bits_end(leap_month: u8) -> u16
     ensures { result ≡ bits_end leap_month }
 {
     if leap_month == 0 { 4096 } else { 8192 }
 }
 
-/// Whether two years are equal in number, first day, the lengths of their months and the place of the leap month.
+/// Returns whether two years have the same number, first day, months and place of the leap month.
 fn is_equal_year(one: EastAsianTraditionalYear, other: EastAsianTraditionalYear) -> bool
     ensures { result ≡ is_equal_year one other }
 {
@@ -48,14 +48,14 @@ impl Row for EastAsianRow {
     }
 }
 
-/// Whether two rows are the same year.
+/// Returns whether two rows have the same year.
 fn is_same_row(one: EastAsianRow, other: EastAsianRow) -> bool
     ensures { result ≡ is_same_row one other }
 {
     is_same_year(one.year(), other.year())
 }
 
-/// Whether two lists have as many rows, and the same ones.
+/// Returns whether two lists have equally many rows, with the same years.
 fn are_same_rows(one: &[EastAsianRow], other: &[EastAsianRow]) -> bool
     ensures { result ≡ pointwise is_same_row one.now other.now }
 {
@@ -72,7 +72,7 @@ fn are_same_rows(one: &[EastAsianRow], other: &[EastAsianRow]) -> bool
     true
 }
 
-/// Whether two tables have as many rows, and the same years in them.
+/// Returns whether two tables have equally many rows, with the same years.
 pub(crate) fn have_same_rows(one: &[EastAsianRow], other: &[EastAsianRow]) -> bool
     ensures { result ≡ pointwise same_year (years_of one.now) (years_of other.now) }
 {

@@ -1,10 +1,10 @@
-//! Whose calendar it is.
+//! China and Korea.
 
-/// Whose calendar it is: that of China or that of Korea.
+/// The calendar of China or of Korea.
 #[derive(Clone, Copy, PartialEq, Eq, Debug)]
 pub enum Side {
-    /// From 1912 on, its years are those at 8 hours from Greenwich.
+    /// China: from 1912 on, computed years are those at 8 hours from Greenwich.
     China,
-    /// From 1912 on, its years are those at 9 hours from Greenwich.
+    /// Korea: from 1912 on, computed years are those at 9 hours from Greenwich.
     Korea,
 }

@@ -1,13 +1,14 @@
-//! The test of a table's rows.
+//! Tests the rows of a table.
 
-ghost use Rattle.std.specs.Prelude.{◌≡◌, ◌↔◌, ◌<◌, ◌+◌, ◌&&◌, ◌||◌, nat_lt, int_le, length, IsTrue, IfSome, IsNone, IsOk, MatchOption, MatchResult, pos};
+ghost use Rattle.std.specs.Prelude.{◌≡◌, ◌↔◌, ◌<◌, ◌+◌, ◌&&◌, ◌||◌, nat_lt, int_le, length, slice_get, Some, IsTrue, IfSome, IsNone, IsOk, MatchOption, MatchResult, pos};
 ghost use Rattle.cal_days.specs.Day.{IsBetween};
 ghost use Rattle.cal_east_asian.specs.laws.ComputedLaws as computed;
 ghost use Rattle.cal_east_asian.specs.EastAsianYears as years;
-ghost use Rattle.cal_east_asian.specs.EastAsianRows.{years_of};
+ghost use Rattle.cal_east_asian.specs.EastAsianRows.{row_year, years_of};
+ghost use Rattle.cal_east_asian.specs.RowsAccepted as by_rows;
 ghost use Rattle.cal_east_asian.specs.TableYears as table;
 ghost use Rattle.cal_east_asian.specs.TableYears.{IsRow};
-ghost use Rattle.cal_east_asian.specs.TableAccepted.{IsTableYear, row_before, is_next, follows, joins, ends, leap_by_years, leaps_after, meets, MeetsAll, IsAccepted, IsFirstBroken, IsFirstFault};
+ghost use Rattle.cal_east_asian.specs.TableAccepted.{IsTableYear, row_before, is_next, follows, joins, ends, leap_by_years, leaps_after, meets, MeetsAll, IsFirstBroken};
 ghost use Rattle.cal_errors.specs.declared.errors.TablePart.TheVariants as parts;
 
 use crate::chosen_years::{chosen_year, row_at};
@@ -18,21 +19,21 @@ use crate::east_asian_traditional_year::EastAsianTraditionalYear;
 use crate::sides::Side;
 use cal_types::{TableFault, TablePart};
 
-/// The day after a year's last day.
+/// Returns the day after the last day of a year.
 fn end_day(year: EastAsianTraditionalYear) -> i64
     ensures { result ≡ years.end_day year }
 {
     year.new_year + i64::from(days_in_year(year.leap_month, year.long_months))
 }
 
-/// Whether a year starts where another one ends.
+/// Returns whether a year starts on the day after another one.
 fn follows(before: EastAsianTraditionalYear, row: EastAsianTraditionalYear) -> bool
     ensures { result ≡ follows before row }
 {
     row.new_year == end_day(before)
 }
 
-/// The row before the one at an index.
+/// Returns the year of the row before the one at an index.
 fn row_before(rows: &[EastAsianRow], index: usize) -> Option<EastAsianTraditionalYear>
     ensures { result ≡ row_before (years_of rows.now) index }
 {
@@ -43,7 +44,7 @@ fn row_before(rows: &[EastAsianRow], index: usize) -> Option<EastAsianTraditiona
     }
 }
 
-/// Whether a row's year is the next one.
+/// Returns whether the year of a row is the next one.
 fn is_next(before: Option<EastAsianTraditionalYear>, row: EastAsianTraditionalYear) -> bool
     requires { IfSome before (λ before. IsTableYear before.related_iso) }
     ensures { result ≡ is_next before row }
@@ -54,7 +55,7 @@ fn is_next(before: Option<EastAsianTraditionalYear>, row: EastAsianTraditionalYe
     }
 }
 
-/// Whether a row starts where the year before it ends.
+/// Returns whether a row starts on the day after the year before it.
 fn joins(
     side: Side,
     before: Option<EastAsianTraditionalYear>,
@@ -69,7 +70,7 @@ fn joins(
     }
 }
 
-/// Whether a row ends where the computed year after it starts.
+/// Returns whether the computed year after a row starts on the day after it.
 fn ends(side: Side, row: EastAsianTraditionalYear) -> bool
     requires { IsTableYear row.related_iso }
     ensures { result ≡ ends (computed.computed_year side) row }
@@ -77,7 +78,7 @@ fn ends(side: Side, row: EastAsianTraditionalYear) -> bool
     follows(row, computed_year(side, row.related_iso + 1))
 }
 
-/// Whether one of three years has a leap month.
+/// Returns whether one of three years has a leap month.
 fn is_one_leap(
     year: EastAsianTraditionalYear,
     before: EastAsianTraditionalYear,
@@ -88,7 +89,7 @@ fn is_one_leap(
     year.leap_month != 0 || before.leap_month != 0 || first.leap_month != 0
 }
 
-/// Whether one of a year and the two before it has a leap month.
+/// Returns whether a year or one of the two years before it has a leap month.
 fn is_leap_in_three(side: Side, rows: &[EastAsianRow], related_iso: i32) -> bool
     requires { IsBetween (pos 1912) (pos 10001) related_iso }
     ensures { result ≡ leap_by_years (table.chosen_year (computed.computed_year side) (years_of rows.now)) related_iso }
@@ -100,7 +101,7 @@ fn is_leap_in_three(side: Side, rows: &[EastAsianRow], related_iso: i32) -> bool
     )
 }
 
-/// Whether there is a leap month in the three years up to the first year after a row, and up to the second.
+/// Returns whether there is a leap month in the three years up to the first year after a row, and up to the second.
 fn leaps_after(side: Side, rows: &[EastAsianRow], row: EastAsianTraditionalYear) -> bool
     requires { IsTableYear row.related_iso }
     ensures { result ≡ leaps_after (table.chosen_year (computed.computed_year side) (years_of rows.now)) row }
@@ -109,7 +110,7 @@ fn leaps_after(side: Side, rows: &[EastAsianRow], row: EastAsianTraditionalYear)
         && is_leap_in_three(side, rows, row.related_iso + 2)
 }
 
-/// Whether a row's year is as it is to be.
+/// Returns whether the year of a row meets [`TablePart::Year`].
 fn meets_year(rows: &[EastAsianRow], index: usize, row: EastAsianTraditionalYear) -> bool
     requires { IfSome (row_before (years_of rows.now) index) (λ before. IsTableYear before.related_iso) }
     ensures exact { result ≡ (is_next (row_before (years_of rows.now) index) row && int_le row.related_iso (pos 9999)) }
@@ -118,7 +119,7 @@ fn meets_year(rows: &[EastAsianRow], index: usize, row: EastAsianTraditionalYear
     is_next(row_before(rows, index), row) && row.related_iso <= 9999
 }
 
-/// Whether a row, if it is the last one, ends as it is to.
+/// Returns whether a row meets [`TablePart::End`], which is a rule for the last row.
 fn meets_end(side: Side, rows: &[EastAsianRow], index: usize, row: EastAsianTraditionalYear) -> bool
     requires within { index < length (years_of rows.now) }
     requires year { IsTableYear row.related_iso }
@@ -127,7 +128,7 @@ fn meets_end(side: Side, rows: &[EastAsianRow], index: usize, row: EastAsianTrad
     index + 1 < rows.len() || ends(side, row)
 }
 
-/// Whether the years after a row, if it is the last one, come with leap months as they are to.
+/// Returns whether the years after a row meet [`TablePart::Leap`], which is a rule for the last row.
 fn has_leaps_after(
     side: Side,
     rows: &[EastAsianRow],
@@ -142,7 +143,7 @@ fn has_leaps_after(
     index + 1 < rows.len() || leaps_after(side, rows, row)
 }
 
-/// Whether the three years up to a row's have a leap month, and, if it is the last one, those up to the next two.
+/// Returns whether the three years up to the row's have a leap month, and for the last row those up to the next two.
 fn meets_leap(
     side: Side,
     rows: &[EastAsianRow],
@@ -156,8 +157,8 @@ fn meets_leap(
     is_leap_in_three(side, rows, row.related_iso) && has_leaps_after(side, rows, index, row)
 }
 
-/// The first part that a row breaks.
-fn first_broken(
+/// Returns the first rule that the year of a row breaks.
+fn first_broken_of_year(
     side: Side,
     rows: &[EastAsianRow],
     index: usize,
@@ -184,15 +185,41 @@ fn first_broken(
     None
 }
 
-/// Whether rows are accepted; if not, the first row and its first part that break.
+/// Returns the row at an index, counted from 0.
+fn row_in(rows: &[EastAsianRow], index: usize) -> Option<EastAsianRow>
+    ensures { result ≡ slice_get rows.now index }
+{
+    rows.get(index).copied()
+}
+
+/// Returns the first rule that a row breaks.
+fn first_broken(
+    side: Side,
+    rows: &[EastAsianRow],
+    index: usize,
+    row: EastAsianRow,
+) -> Option<TablePart>
+    requires row { slice_get rows.now index ≡ Some row }
+    requires before { IfSome (row_before (years_of rows.now) index) (λ before. IsTableYear before.related_iso) }
+    ensures first { MatchOption result (by_rows.MeetsAll (computed.computed_year side) rows.now index row)
+        (by_rows.IsFirstBroken (computed.computed_year side) rows.now index row) }
+    ensures year { IsNone result → IsTableYear (row_year row).related_iso }
+{
+    if !row.names_year() {
+        return Some(TablePart::Range);
+    }
+    first_broken_of_year(side, rows, index, row.year())
+}
+
+/// Tests rows, and returns the first row that breaks a rule, and the first rule that it breaks.
 pub(crate) fn check(side: Side, rows: &[EastAsianRow]) -> Result<(), TableFault>
-    ensures first { MatchResult result (λ _. IsAccepted (computed.computed_year side) (years_of rows.now))
-        (IsFirstFault (computed.computed_year side) (years_of rows.now)) }
-    ensures exact { IsOk result ↔ IsAccepted (computed.computed_year side) (years_of rows.now) }
+    ensures first { MatchResult result (λ _. by_rows.IsAccepted (computed.computed_year side) rows.now)
+        (by_rows.IsFirstFault (computed.computed_year side) rows.now) }
+    ensures exact { IsOk result ↔ by_rows.IsAccepted (computed.computed_year side) rows.now }
 {
     let mut index = 0;
-    'rows: while let Some(year) = row_at(rows, index) {
-        if let Some(part) = first_broken(side, rows, index, year) {
+    'rows: while let Some(row) = row_in(rows, index) {
+        if let Some(part) = first_broken(side, rows, index, row) {
             return Err(TableFault {
                 row: index + 1,
                 part,

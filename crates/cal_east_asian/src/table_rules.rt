@@ -1,4 +1,4 @@
-//! The rules of the Chinese and the Korean calendar, with a table of years.
+//! The rules of the Chinese and the Korean calendar with a table of years, and these calendars.
 
 ghost use Rattle.std.specs.Prelude.{◌≡◌};
 
@@ -15,7 +15,7 @@ use cal_types::{CalendarAlgorithm, EcmaReferenceYearError, MismatchedCalendarErr
 use std::alloc::AllocError;
 use std::marker::PhantomData;
 
-/// The rules of the Chinese or of the Korean calendar, with a table of years: [`China`] and [`Korea`].
+/// The rules of the Chinese or the Korean calendar with a table of years: [`China`] and [`Korea`].
 #[derive(Debug)]
 pub struct TableRules<'t, S: TableSide> {
     table: EastAsianTable<'t>,
@@ -23,37 +23,39 @@ pub struct TableRules<'t, S: TableSide> {
     ghost side: { table.side ≡ S.side },
 }
 
-/// The rules of the Chinese calendar, with a table of years. **Years without a row are computed**, and they and their
-/// months may begin a day or a month before or after the published ones. [`China::new`](TableRules::new) takes the
-/// published years as a table: the crate `published_years` has it (`china_table`; its `chinese` is the calendar with
-/// it).
+/// The rules of the Chinese calendar with a table of years.
 ///
-/// A year that the table has a row of is that row. Another one is the mean year at 8 hours from Greenwich from 1912
-/// on, the year of the Qing calendar from 1900 to 1911, and the mean year at Beijing's mean time before. CLDR's name
-/// for the calendar is `chinese`. Dates of two such calendars can be compared where their tables have the same rows.
+/// **Years without a row are computed**: they and their months may begin a day or a month before or after the published
+/// ones. For the published years, pass the table of the crate `published_years` (`china_table`) to
+/// [`China::new`](TableRules::new), or use its calendar `chinese`.
+///
+/// A year without a row is the mean year at 8 hours from Greenwich from 1912 on, the year of the Qing calendar from 1900
+/// to 1911, and the mean year at Beijing's mean time before 1900. CLDR's name for the calendar is `chinese`. Dates of two
+/// such calendars can be compared if the tables have the same rows.
 pub type China<'t> = TableRules<'t, OfChina>;
 
-/// The rules of the Korean calendar, with a table of years. **Years without a row are computed**, and they and their
-/// months may begin a day or a month before or after the published ones. [`Korea::new`](TableRules::new) takes the
-/// published years as a table: the crate `published_years` has it (`korea_table`; its `korean` is the calendar with
-/// it).
+/// The rules of the Korean calendar with a table of years.
 ///
-/// A year that the table has a row of is that row. Another one is the mean year at 9 hours from Greenwich from 1912
-/// on, the year of the Qing calendar from 1900 to 1911, and the mean year at Beijing's mean time before. CLDR's name
-/// for the calendar is `dangi`. Dates of two such calendars can be compared where their tables have the same rows.
+/// **Years without a row are computed**: they and their months may begin a day or a month before or after the published
+/// ones. For the published years, pass the table of the crate `published_years` (`korea_table`) to
+/// [`Korea::new`](TableRules::new), or use its calendar `korean`.
+///
+/// A year without a row is the mean year at 9 hours from Greenwich from 1912 on, the year of the Qing calendar from 1900
+/// to 1911, and the mean year at Beijing's mean time before 1900. CLDR's name for the calendar is `dangi`. Dates of two
+/// such calendars can be compared if the tables have the same rows.
 pub type Korea<'t> = TableRules<'t, OfKorea>;
 
-/// The Chinese calendar, with a table of years.
+/// The Chinese calendar with a table of years.
 pub type ChineseTraditional<'t> = EastAsianTraditional<China<'t>>;
 
-/// The Korean calendar, with a table of years.
+/// The Korean calendar with a table of years.
 pub type KoreanTraditional<'t> = EastAsianTraditional<Korea<'t>>;
 
 impl<'t, S: TableSide> TableRules<'t, S> {
-    /// The rules with a table of years: of China's for [`China`], and of Korea's for [`Korea`].
+    /// Creates the rules with a table of years: a table for China for [`China`], and for Korea for [`Korea`].
     ///
-    /// [`EastAsianTable::try_new`] makes a table of rows that are handed in, and [`EastAsianTable::none`] one without
-    /// rows, so that all years are computed; the crate `published_years` has the published ones (`china_table`,
+    /// [`EastAsianTable::try_new`] creates a table from rows of your own. [`EastAsianTable::none`] creates a table without
+    /// rows, so that all years are computed. The crate `published_years` has the published years (`china_table`,
     /// `korea_table`).
     ///
     /// ```
@@ -73,11 +75,11 @@ impl<'t, S: TableSide> TableRules<'t, S> {
 }
 
 impl<'t, S: TableSide> EastAsianTraditional<TableRules<'t, S>> {
-    /// The calendar with a table of years: of China's for [`ChineseTraditional`], and of Korea's for
+    /// Creates the calendar with a table of years: a table for China for [`ChineseTraditional`], and for Korea for
     /// [`KoreanTraditional`].
     ///
-    /// [`EastAsianTable::try_new`] makes a table of rows that are handed in, and [`EastAsianTable::none`] one without
-    /// rows, so that all years are computed; the crate `published_years` has the published ones (`china_table`,
+    /// [`EastAsianTable::try_new`] creates a table from rows of your own. [`EastAsianTable::none`] creates a table without
+    /// rows, so that all years are computed. The crate `published_years` has the published years (`china_table`,
     /// `korea_table`).
     ///
     /// ```
@@ -116,7 +118,7 @@ impl<'t, S: TableSide> UnstableSealed for TableRules<'t, S> {}
 impl<'t, S: TableSide> Rules for TableRules<'t, S> {
     ghost use Rattle.std.specs.Prelude.{Some};
     ghost use Rattle.std.specs.Cmp.{on_equiv};
-    ghost use Rattle.std.proofs.Common.{sym, ◌∙◌};
+    ghost use Rattle.std.proofs.Common.{refl, sym, ◌∙◌};
     ghost use Rattle.cal_east_asian.specs.EastAsianReferences.{side_reference};
     ghost use Rattle.cal_east_asian.specs.TableRules.{table_year, have_same_rows as same_rows};
     ghost use Rattle.cal_east_asian.specs.laws.TableRuleLaws.{table-years, rows-alike, same_rows-years, side_reference-in_range, side_reference-of_kind, side_reference-of_leap_month};
@@ -174,4 +176,8 @@ impl<'t, S: TableSide> Rules for TableRules<'t, S> {
     ghost alike = { on_equiv (λ s. s.table) rows-alike };
 
     ghost shared = { λ s t y h _. same_rows-years s.table t.table (s.side ∙ sym t.side) h y };
+
+    ghost shared_references = { λ _ _ _ _ _. refl };
+
+    ghost shared_names = { λ _ _ _. (refl, refl) };
 }

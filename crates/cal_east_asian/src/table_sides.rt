@@ -14,30 +14,30 @@ pub trait TableSide: Copy + Debug + UnstableSealed + Drop {
     /// The side.
     ghost side: { Side };
 
-    /// The calendar's algorithm.
+    /// The algorithm of the calendar.
     ghost algorithm: { CalendarAlgorithm };
 
-    /// The calendar's name in English.
+    /// The name of the calendar in English.
     ghost name: { List ℕ };
 
-    /// The side.
+    /// Returns the side.
     fn side() -> Side
         ensures { result ≡ side };
 
-    /// The calendar's algorithm (CLDR, UTS 35).
+    /// Returns the algorithm of the calendar (CLDR, UTS 35).
     fn calendar_algorithm() -> CalendarAlgorithm
         ensures { result ≡ algorithm };
 
-    /// The calendar's name in English, for messages to programmers.
+    /// Returns the name of the calendar in English, for messages to programmers.
     fn debug_name() -> &'static str
         ensures { result.now ≡ name };
 }
 
-/// Stands for China in a type.
+/// China as a type parameter.
 #[derive(Clone, Copy, Debug)]
 pub struct OfChina;
 
-/// Stands for Korea in a type.
+/// Korea as a type parameter.
 #[derive(Clone, Copy, Debug)]
 pub struct OfKorea;
 

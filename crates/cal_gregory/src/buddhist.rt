@@ -33,7 +33,8 @@ impl GregorianYears for BuddhistEraYears {
     ghost use Rattle.std.specs.Prelude.{codes, refl, Some};
     ghost use Rattle.cal_errors.specs.declared.algorithm.CalendarAlgorithm.TheVariants as algorithms;
     ghost use Rattle.cal_types.specs.Eras.{only_era_reads};
-    ghost use Rattle.cal_types.proofs.EraLemmas.{only_era_reads-in_range, only_era_reads-covered};
+    ghost use Rattle.cal_types.proofs.EraLemmas.{only_era_reads-in_range};
+    ghost use Rattle.cal_base.specs.laws.EraYearLaws.{only_era_reads-near};
     ghost use Rattle.cal_base.specs.laws.OffsetListLaws.{true-offset};
     ghost use Rattle.cal_gregory.specs.BuddhistEra.{buddhist_offset, buddhist_era_year};
 
@@ -77,7 +78,7 @@ impl GregorianYears for BuddhistEraYears {
 
     ghost era_in_range = { λ _ era n y. only_era_reads-in_range (codes "be") era n y };
 
-    ghost era_covered = { λ _ era n y. only_era_reads-covered (codes "be") era n y };
+    ghost era_near = { λ _ era n y. only_era_reads-near (codes "be") era n y };
 
     ghost named = { λ _ t. refl };
 }
@@ -191,6 +192,7 @@ impl Calendar for Buddhist {
         AbstractGregorian(BuddhistEraYears).day_of_year(&date.0)
     }
 
+    #[inline(always)]
     fn add(
         &self,
         date: &BuddhistDateInner,

@@ -39,7 +39,7 @@ fn common_era_ambiguity(year: i32) -> YearAmbiguity
     }
 }
 
-/// An extended year in its era.
+/// Returns an extended year in its era.
 pub(crate) fn era_year(year: i32) -> EraYear
     requires { IsFieldYear year }
     ensures { result ≡ common_era_year year }
@@ -71,7 +71,8 @@ impl GregorianYears for CommonEraYears {
     ghost use Rattle.std.specs.Prelude.{codes, pos, refl, Some};
     ghost use Rattle.cal_errors.specs.declared.algorithm.CalendarAlgorithm.TheVariants.{Gregory};
     ghost use Rattle.cal_types.specs.Eras.{common_era_reads};
-    ghost use Rattle.cal_types.proofs.EraLemmas.{common_era_reads-in_range, common_era_reads-covered};
+    ghost use Rattle.cal_types.proofs.EraLemmas.{common_era_reads-in_range};
+    ghost use Rattle.cal_base.specs.laws.EraYearLaws.{common_era_reads-near};
     ghost use Rattle.cal_base.specs.laws.OffsetListLaws.{true-offset};
     ghost use Rattle.cal_gregory.specs.laws.CommonEraLaws.{common_era-named};
 
@@ -109,7 +110,7 @@ impl GregorianYears for CommonEraYears {
 
     ghost era_in_range = { λ _ era n y. common_era_reads-in_range era n y };
 
-    ghost era_covered = { λ _ era n y. common_era_reads-covered era n y };
+    ghost era_near = { λ _ era n y. common_era_reads-near era n y };
 
     ghost named = { λ _ t. common_era-named t };
 }
@@ -223,6 +224,7 @@ impl Calendar for Gregorian {
         AbstractGregorian(CommonEraYears).day_of_year(&date.0)
     }
 
+    #[inline(always)]
     fn add(
         &self,
         date: &GregorianDateInner,

@@ -36,7 +36,7 @@ pub struct Japanese {
 }
 
 impl Japanese {
-    /// The Japanese calendar with the eras up to Reiwa.
+    /// Returns the Japanese calendar with the eras up to Reiwa.
     ///
     /// ```
     /// let date = Date::from_rata_die(RataDie::new(738946), Japanese::new());
@@ -49,7 +49,7 @@ impl Japanese {
         Japanese::with_eras(JapaneseEras::up_to_reiwa())
     }
 
-    /// The Japanese calendar with these eras.
+    /// Returns the Japanese calendar with these eras.
     ///
     /// ```
     /// let japanese = Japanese::with_eras(JapaneseEras::up_to_reiwa());
@@ -67,14 +67,14 @@ impl Japanese {
 #[derive(Clone, Copy, Debug, PartialEq, Eq, PartialOrd, Ord, Hash)]
 pub struct JapaneseDateInner(ArithmeticDate<AbstractGregorian<JapaneseEras>>);
 
-/// Whether a year of an era is one of the years of Meiji below 6.
+/// Returns whether a year of an era is one of the years of Meiji below 6.
 fn is_early_meiji(code: &[u8], number: i32) -> bool
     ensures { result ≡ (is_code code.now (codes "meiji") && int_lt number (pos 6)) }
 {
     code == b"meiji".as_slice() && number < 6
 }
 
-/// An extended year in a listed era, but in the Gregorian ones in the years of Meiji below 6.
+/// Returns an extended year in a listed era, but in the Gregorian ones in the years of Meiji below 6.
 fn year_in_era(era: ListedEra, year: i32) -> EraYear
     requires year { IsFieldYear year }
     requires start { IsStartYear era.0.year }
@@ -102,7 +102,7 @@ impl GregorianYears for JapaneseEras {
     ghost use Rattle.cal_base.specs.laws.OffsetListLaws.{true-offset};
     ghost use Rattle.cal_gregory.specs.JapaneseEraList.{japanese_era_year, japanese_reads};
     ghost use Rattle.cal_gregory.specs.JapaneseEras.{listed_eras};
-    ghost use Rattle.cal_gregory.specs.laws.JapaneseLaws.{japanese_era-named, japanese_reads-in_range, japanese_reads-covered};
+    ghost use Rattle.cal_gregory.specs.laws.JapaneseLaws.{japanese_era-named, japanese_reads-in_range, japanese_reads-near};
 
     ghost offset = { λ _. pos 0 };
 
@@ -152,7 +152,7 @@ impl GregorianYears for JapaneseEras {
 
     ghost era_in_range = { λ s era n y. japanese_reads-in_range s era n y };
 
-    ghost era_covered = { λ s era n y. japanese_reads-covered s era n y };
+    ghost era_near = { λ s era n y. japanese_reads-near s era n y };
 
     ghost named = { λ s t. japanese_era-named s t };
 }
@@ -266,6 +266,7 @@ impl Calendar for Japanese {
         AbstractGregorian(self.eras).day_of_year(&date.0)
     }
 
+    #[inline(always)]
     fn add(
         &self,
         date: &JapaneseDateInner,

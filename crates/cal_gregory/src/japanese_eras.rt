@@ -31,7 +31,7 @@ impl JapaneseEras {
     ghost use Rattle.cal_gregory.specs.JapaneseErasLeft.{eras_left};
     ghost use Rattle.cal_gregory.specs.LastEra.{eras_with_last};
 
-    /// The eras up to Reiwa, and no later one.
+    /// Returns the eras up to Reiwa, and no later one.
     ///
     /// ```
     /// assert!(rt; JapaneseEras::up_to_reiwa().eras().count() == 5);
@@ -43,7 +43,7 @@ impl JapaneseEras {
         JapaneseEras { later: None }
     }
 
-    /// The eras up to Reiwa, and a last one with this start, code and index.
+    /// Returns the eras up to Reiwa, and a last one with this start, code and index.
     ///
     /// A start before 2026 is that of no later era: the eras are then those up to Reiwa, whatever the code and the
     /// index are. Otherwise `None` where the year is above 2089, the month isn't from 1 to 15, the day isn't from 1
@@ -74,7 +74,7 @@ impl JapaneseEras {
         }
     }
 
-    /// The listed eras in order, from both ends: the start, the code and the index of each.
+    /// Returns the listed eras in order, from both ends: the start, the code and the index of each.
     ///
     /// ```
     /// assert!(rt; JapaneseEras::up_to_reiwa().eras().count() == 5);
@@ -85,7 +85,7 @@ impl JapaneseEras {
         JapaneseErasIter::new(self)
     }
 
-    /// How many eras are listed.
+    /// Returns how many eras are listed.
     pub(crate) fn count(&self) -> usize
         ensures { result ≡ length (listed_eras self.now) }
     {
@@ -95,7 +95,7 @@ impl JapaneseEras {
         }
     }
 
-    /// The listed era in a place, counted from 0.
+    /// Returns the listed era in a place, counted from 0.
     pub(crate) fn listed(&self, place: usize) -> ListedEra
         requires { place < length (listed_eras self.now) }
         ensures { slice_get (listed_eras self.now) place ≡ Some result }
@@ -113,7 +113,7 @@ impl JapaneseEras {
         }
     }
 
-    /// The last listed era that starts on or before a date.
+    /// Returns the last listed era that starts on or before a date.
     pub(crate) fn started_by(&self, on: EraStartDate) -> Option<ListedEra>
         ensures last { result ≡ last_era (has_started (date on.year on.month on.day)) (listed_eras self.now) }
         ensures start { IfSome result (λ e. IsStartYear e.0.year) }
@@ -127,7 +127,7 @@ impl JapaneseEras {
         None
     }
 
-    /// The last listed era with a code.
+    /// Returns the last listed era with a code.
     pub(crate) fn with_code(&self, code: &[u8]) -> Option<ListedEra>
         ensures last { result ≡ last_era (λ e. is_code code.now e.1) (listed_eras self.now) }
         ensures start { IfSome result (λ e. IsStartYear e.0.year) }
@@ -142,7 +142,7 @@ impl JapaneseEras {
     }
 }
 
-/// A listed era.
+/// Returns a listed era.
 fn listed_era(year: i32, month: u8, day: u8, code: &[u8], index: u8) -> ListedEra
     requires fits { length code.now ≤ 8 }
     requires text { IsText code.now }

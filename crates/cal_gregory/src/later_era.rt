@@ -23,7 +23,7 @@ impl LaterEra {
     ghost use Rattle.std.specs.Option.{option_map};
     ghost use Rattle.cal_gregory.specs.JapaneseEras.{later_listed};
 
-    /// The era with this start, code and index, if it may be listed after Reiwa.
+    /// Returns the era with this start, code and index, if it may be listed after Reiwa.
     pub(crate) fn try_new(start: EraStartDate, code: TinyAsciiStr<8>, index: u8) -> Option<LaterEra>
         ensures { option_map later_listed result ≡ last_listed start code index }
     {
@@ -47,14 +47,14 @@ impl LaterEra {
     }
 }
 
-/// Whether an era may be listed after Reiwa.
+/// Returns whether an era may be listed after Reiwa.
 fn is_last_era(start: EraStartDate, code: &[u8], index: u8) -> bool
     ensures { result ≡ is_last_era start code.now index }
 {
     is_last_start(start) && is_last_code(code) && is_last_index(index)
 }
 
-/// Whether an era after Reiwa may start on a date.
+/// Returns whether an era after Reiwa may start on a date.
 fn is_last_start(start: EraStartDate) -> bool
     ensures { result ≡ is_last_start start }
 {
@@ -64,21 +64,21 @@ fn is_last_start(start: EraStartDate) -> bool
     is_year && is_month && is_day
 }
 
-/// Whether an era after Reiwa may have a code.
+/// Returns whether an era after Reiwa may have a code.
 fn is_last_code(code: &[u8]) -> bool
     ensures { result ≡ is_last_code code.now }
 {
     !code.is_empty() && are_letters(code)
 }
 
-/// Whether each byte is a letter from `a` to `z`.
+/// Returns whether each byte is a letter from `a` to `z`.
 fn are_letters(code: &[u8]) -> bool
     ensures { result ≡ list_all is_code_letter code.now }
 {
     code.iter().all(|b| b'a' <= *b && *b <= b'z')
 }
 
-/// Whether an era after Reiwa may have an index.
+/// Returns whether an era after Reiwa may have an index.
 fn is_last_index(index: u8) -> bool
     ensures { result ≡ is_last_index index }
 {

@@ -30,8 +30,8 @@ pub struct Roc;
 #[derive(Clone, Copy, Debug, PartialEq, Eq, PartialOrd, Ord, Hash)]
 pub struct RocDateInner(ArithmeticDate<AbstractGregorian<MinguoYears>>);
 
-/// The extended year of a year, from -1040000 to 1040000, in the era `roc` or before it (`broc`, which counts back:
-/// 1 is extended year 0). [`UnknownEraError`] comes for every other code.
+/// Returns the extended year of a year, from -1040000 to 1040000, in the era `roc` or before it (`broc`, which counts
+/// back: 1 is extended year 0). Fails with [`UnknownEraError`] for any other code.
 fn year_in_minguo_era(era: &[u8], year: i32) -> Result<i32, UnknownEraError>
     requires { IsFieldYear year }
     ensures { result ≡ era_read (roc_reads era.now year) }
@@ -45,7 +45,7 @@ fn year_in_minguo_era(era: &[u8], year: i32) -> Result<i32, UnknownEraError>
     }
 }
 
-/// An extended year in its era.
+/// Returns an extended year in its era.
 fn era_year(year: i32) -> EraYear
     requires { IsFieldYear year }
     ensures { result ≡ roc_era_year year }
@@ -79,7 +79,7 @@ impl GregorianYears for MinguoYears {
     ghost use Rattle.cal_errors.specs.declared.algorithm.CalendarAlgorithm.TheVariants as algorithms;
     ghost use Rattle.cal_base.specs.laws.OffsetListLaws.{true-offset};
     ghost use Rattle.cal_gregory.specs.RocEra.{roc_offset, roc_era_year, roc_reads};
-    ghost use Rattle.cal_gregory.specs.laws.RocEraLaws.{roc_era-named, roc_reads-in_range, roc_reads-covered};
+    ghost use Rattle.cal_gregory.specs.laws.RocEraLaws.{roc_era-named, roc_reads-in_range, roc_reads-near};
 
     ghost offset = { λ _. roc_offset };
 
@@ -115,7 +115,7 @@ impl GregorianYears for MinguoYears {
 
     ghost era_in_range = { λ _ era n y. roc_reads-in_range era n y };
 
-    ghost era_covered = { λ _ era n y. roc_reads-covered era n y };
+    ghost era_near = { λ _ era n y. roc_reads-near era n y };
 
     ghost named = { λ _ t. roc_era-named t };
 }
@@ -230,6 +230,7 @@ impl Calendar for Roc {
         AbstractGregorian(MinguoYears).day_of_year(&date.0)
     }
 
+    #[inline(always)]
     fn add(
         &self,
         date: &RocDateInner,

@@ -50,7 +50,7 @@ use std::sync::ledger::Ledger;
 pub struct Hebrew;
 
 impl Hebrew {
-    /// The Hebrew calendar.
+    /// Returns the Hebrew calendar.
     ///
     /// ```
     /// let date = Date::from_rata_die(RataDie::new(738946), Hebrew::new());
@@ -65,7 +65,7 @@ impl Hebrew {
 #[derive(Clone, Copy, Debug, PartialEq, Eq, PartialOrd, Ord, Hash)]
 pub struct HebrewDateInner(ArithmeticDate<Hebrew>);
 
-/// The year of an extended year from -8000000 to 8000000.
+/// Returns the year of an extended year from -8000000 to 8000000.
 fn year_of(extended_year: i32) -> HebrewYear
     requires { IsRuleYear extended_year }
     ensures { result ≡ hebrew_years.year_of extended_year }
@@ -182,7 +182,7 @@ impl Years for Hebrew {
     }
 }
 
-/// The reference year of a day of a month: the latest year in which it falls on or before 1972-12-31 of the ISO
+/// Returns the reference year of a day of a month: the latest year in which it falls on or before 1972-12-31 of the ISO
 /// calendar, the 26th of the month 4 of 5733.
 fn reference_year(month: Month, day: u8) -> i32
     ensures year { result ≡ hebrew_reference_year (month_parts month) day }
@@ -240,7 +240,7 @@ impl DateFieldsResolver for Hebrew {
         (hebrew_reference_year m d) e };
 }
 
-/// An extended year in the era `am` (CLDR, UTS 35).
+/// Returns an extended year in the era `am` (CLDR, UTS 35).
 fn era_year(year: i32) -> EraYear
     ensures { result ≡ hebrew_era_year year }
 {
@@ -417,6 +417,7 @@ impl Calendar for Hebrew {
         Arithmetic(*self).day_of_year(&date.0)
     }
 
+    #[inline(always)]
     fn add(
         &self,
         date: &HebrewDateInner,

@@ -12,28 +12,28 @@ ghost use Rattle.cal_hebrew.specs.HebrewPlaces.{IsYearLength, days_before_place,
 
 use cal_types::{LeapStatus, Month, MonthError, Overflow};
 
-/// Whether a year of so many days has 13 months.
+/// Returns whether a year of so many days has 13 months.
 pub(crate) fn is_leap(length: u16) -> bool
     ensures { result ≡ is_leap_length length }
 {
     length >= 383
 }
 
-/// Whether the second month of a year of so many days has 30 days.
+/// Returns whether the second month of a year of so many days has 30 days.
 fn is_second_long(length: u16) -> bool
     ensures { result ≡ is_complete length }
 {
     length == 355 || length == 385
 }
 
-/// Whether the third month of a year of so many days has 29 days.
+/// Returns whether the third month of a year of so many days has 29 days.
 fn is_third_short(length: u16) -> bool
     ensures { result ≡ is_deficient length }
 {
     length == 353 || length == 383
 }
 
-/// How many months a year of so many days has.
+/// Returns how many months a year of so many days has.
 pub(crate) fn months_in_year(length: u16) -> u8
     ensures value { result ≡ place_count length }
     ensures bound { result ≤ 13 }
@@ -41,7 +41,7 @@ pub(crate) fn months_in_year(length: u16) -> u8
     if is_leap(length) { 13 } else { 12 }
 }
 
-/// How many days the month in a place has.
+/// Returns how many days the month in a place has.
 pub(crate) fn days_in_month(length: u16, place: u8) -> u8
     requires { place ≤ 13 }
     ensures { result ≡ place_length length place }
@@ -57,7 +57,8 @@ pub(crate) fn days_in_month(length: u16, place: u8) -> u8
     }
 }
 
-/// How many days of the year go before the month in a place, where the second month has 29 days and the third 30.
+/// Returns how many days of the year go before the month in a place, where the second month has 29 days and the third
+/// 30.
 fn days_before_regular_month(length: u16, place: u8) -> u32
     requires { (1 ≤ place) × (place ≤ 13) }
     ensures value { result ≡ regular_days_before (is_leap_length length) place }
@@ -67,7 +68,7 @@ fn days_before_regular_month(length: u16, place: u8) -> u32
     (59 * (u32::from(place) - 1) + odd_days) / 2
 }
 
-/// How many days a year has over the shortest one, which has 353 days, or as a leap year 383.
+/// Returns how many days a year has over the shortest one, which has 353 days, or as a leap year 383.
 fn days_over_shortest(length: u16) -> u32
     requires { IsYearLength length }
     ensures value { result + (if is_leap_length length then 383 else 353) ≡ length }
@@ -80,8 +81,8 @@ fn days_over_shortest(length: u16) -> u32
     }
 }
 
-/// By how many days a year is ahead of one whose second month has 29 days and third 30, and one more, so that it
-/// isn't negative: after the third month, after the second, or before.
+/// Returns by how many days a year is ahead of one whose second month has 29 days and third 30, and one more, so that
+/// it isn't negative: after the third month, after the second, or before.
 fn days_over_regular(length: u16, has_second_passed: bool, has_third_passed: bool) -> u32
     requires { IsYearLength length }
     ensures value { result ≡ (if has_third_passed && is_deficient length then 0 else (
@@ -98,7 +99,7 @@ fn days_over_regular(length: u16, has_second_passed: bool, has_third_passed: boo
     }
 }
 
-/// How many days of the year go before the month in a place.
+/// Returns how many days of the year go before the month in a place.
 pub(crate) fn days_before_month(length: u16, place: u8) -> u32
     requires length { IsYearLength length }
     requires place { (1 ≤ place) × (place ≤ 13) }
@@ -108,7 +109,7 @@ pub(crate) fn days_before_month(length: u16, place: u8) -> u32
     days_before_regular_month(length, place) + days_over_regular(length, place > 2, place > 3) - 1
 }
 
-/// The day of the year, from 0, that a day would be if the second month had 29 days and the third 30.
+/// Returns the day of the year, from 0, that a day would be if the second month had 29 days and the third 30.
 fn day_of_regular_year(length: u16, day: u16) -> u32
     requires length { IsYearLength length }
     requires day { day < 385 }
@@ -136,7 +137,7 @@ fn twice_regular_day(length: u16, day: u16) -> u32
     }
 }
 
-/// The place of the month, and the day of the month, of a day of a year, which is counted from 0.
+/// Returns the place of the month, and the day of the month, of a day of a year, which is counted from 0.
 pub(crate) fn month_and_day(length: u16, day: u16) -> (u8, u8)
     requires length { IsYearLength length }
     requires within { day < length }
@@ -152,7 +153,7 @@ pub(crate) fn month_and_day(length: u16, day: u16) -> (u8, u8)
     ((twice / 59) as u8 + 1, (twice % 59 / 2) as u8 + 1)
 }
 
-/// Whether a month is one of the plain months 1 to 12, or the leap month 5.
+/// Returns whether a month is one of the plain months 1 to 12, or the leap month 5.
 pub(crate) fn is_hebrew(month: Month) -> bool
     ensures { result ≡ is_hebrew_month (month_parts month) }
 {
@@ -163,7 +164,7 @@ pub(crate) fn is_hebrew(month: Month) -> bool
     }
 }
 
-/// The place of a month in a year of so many days.
+/// Returns the place of a month in a year of so many days.
 ///
 /// In a common year the leap month has none, and under [`Overflow::Constrain`] the sixth month stands in for it.
 pub(crate) fn place_of_month(
@@ -189,7 +190,7 @@ pub(crate) fn place_of_month(
     }
 }
 
-/// The month in a place of a year of so many days.
+/// Returns the month in a place of a year of so many days.
 pub(crate) fn month_in_place(length: u16, place: u8) -> Month
     requires { (1 ≤ place) × (place ≤ 13) }
     ensures { month_parts result ≡ month_of_place (is_leap_length length) place }
@@ -216,7 +217,7 @@ pub(crate) fn leap_status(length: u16, place: u8) -> LeapStatus
     }
 }
 
-/// The month by which the month in a place of a year of so many days is formatted.
+/// Returns the month by which the month in a place of a year of so many days is formatted.
 pub(crate) fn formatted_month(length: u16, place: u8, month: Month) -> Month
     ensures { month_parts result ≡ formatted_month_of_place (is_leap_length length) place (month_parts month) }
 {
@@ -227,7 +228,7 @@ pub(crate) fn formatted_month(length: u16, place: u8, month: Month) -> Month
     }
 }
 
-/// How many months lie between the first day of year 1 and that of a year.
+/// Returns how many months lie between the first day of year 1 and that of a year.
 #[tactic(auto, using(cal_days::proofs::Signed::signed))]
 pub(crate) fn months_before_year(year: i32) -> i64
     requires { IsRuleYear year }

@@ -21,6 +21,7 @@ use Rattle.cal_hijri.specs.TableRules.{table_year}
 use Rattle.cal_hijri.specs.laws.TableRuleLaws.{table-joins}
 use Rattle.cal_hijri.specs.TableYears.{number_of}
 use Rattle.cal_hijri.specs.laws.HijriLaws.{start-rule}
+use Rattle.cal_hijri.specs.laws.RowNameLaws.{accepted-years}
 use Rattle.cal_hijri.specs.laws.TableLaws.{accepted-consecutive}
 use Rattle.cal_hijri.specs.declared.hijri_row.HijriRow.{HijriRow}
 use Rattle.cal_hijri.specs.declared.hijri_year.HijriYear.{HijriYear}
@@ -70,14 +71,17 @@ module _ (old longer : List HijriRow) (before : IsAccepted friday_year (years_of
   abbrev later : ℤ → HijriYear
   later = table_year (years_of longer)
 
+  after : IsAccepted friday_year (years_of longer)
+  after = accepted-years friday_year longer lengthens.1
+
   kept : (y : ℤ) → IsNotAdded old longer y → AreAlike (earlier y) (later y)
   kept =
       chosen-kept row_year is_equal_row number_of friday_year AreAlike (λ y. (refl, refl, refl)) (λ a b h. h.0) rows-alike old longer
-      (accepted-consecutive friday_year (years_of old) before) (accepted-consecutive friday_year (years_of longer) lengthens.1) lengthens.0
+      (accepted-consecutive friday_year (years_of old) before) (accepted-consecutive friday_year (years_of longer) after) lengthens.0
 
   starts : (y : ℤ) → IsRuleYear y → IsNotAdded old longer y → start_of_year (hijri_list earlier) y ≡ start_of_year (hijri_list later) y
   starts y rule free =
-      start-rule earlier (table-joins (years_of old) before) y rule ∙ (kept y free).1 ∙ sym (start-rule later (table-joins (years_of longer) lengthens.1) y rule)
+      start-rule earlier (table-joins (years_of old) before) y rule ∙ (kept y free).1 ∙ sym (start-rule later (table-joins (years_of longer) after) y rule)
 
   months : (y : ℤ) → IsNotAdded old longer y → months_of (long_months_of earlier y) ≡ months_of (long_months_of later y)
   months y free =
@@ -86,7 +90,7 @@ module _ (old longer : List HijriRow) (before : IsAccepted friday_year (years_of
       (λ off. rw off refl)
 
   range : (i : ℕ) (row : HijriYear) → IsRow (years_of longer) i row → IsTableYear row.extended_year
-  range = number-range number_of (pos 1) (years_of longer) (λ i row here. lengthens.1 i row here Year)
+  range = number-range number_of (pos 1) (years_of longer) (λ i row here. after i row here Year)
 
   pub keeps-years : KeepsYears old longer
   unfolding hijri_list

@@ -7,7 +7,7 @@ use Rattle.cal_types.specs.SameYear.{HaveSameYear}
 use Rattle.cal_types.specs.Lengthening as rows
 use Rattle.cal_hijri.specs.HijriList.{hijri_list}
 use Rattle.cal_hijri.specs.HijriRows.{row_year, years_of}
-use Rattle.cal_hijri.specs.TableAccepted.{IsAccepted, IsFirstFault}
+use Rattle.cal_hijri.specs.RowsAccepted.{IsAccepted, IsFirstFault}
 use Rattle.cal_hijri.specs.TableFriday.{friday_year}
 use Rattle.cal_hijri.specs.TableRules.{table_year}
 use Rattle.cal_hijri.specs.TableYears.{number_of}
@@ -29,12 +29,12 @@ is_equal_row a b = is_equal_year (row_year a) (row_year b)
 
 -- rows begin with a table's rows, and are accepted
 abbrev pub Lengthens : List HijriRow → List HijriRow → Type 0
-Lengthens = rows.Lengthens is_equal_row (λ rows. IsAccepted friday_year (years_of rows))
+Lengthens = rows.Lengthens is_equal_row (IsAccepted friday_year)
 
 -- a fault names the first row of the table that isn't among others in its place; where there is none it is their first
 -- fault
 abbrev pub IsLengthenFault : List HijriRow → List HijriRow → LengthenFault → Type 0
-IsLengthenFault = rows.IsLengthenFault is_equal_row (λ rows fault. IsFirstFault friday_year (years_of rows) fault)
+IsLengthenFault = rows.IsLengthenFault is_equal_row (IsFirstFault friday_year)
 
 -- a year isn't among the rows that were added
 abbrev pub IsNotAdded : List HijriRow → List HijriRow → ℤ → Type 0

@@ -13,6 +13,7 @@ pub mod TabularRules
 pub mod TableFriday
 pub mod TableYears
 pub mod TableAccepted
+pub mod RowsAccepted
 pub mod SameRows
 pub mod TableRules
 pub mod LengthenedTables

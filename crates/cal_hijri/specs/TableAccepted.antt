@@ -1,4 +1,4 @@
--- Which tables are accepted, and which fault any other one has.
+-- Which years are accepted as those of a table, and which fault any others have.
 use Rattle.std.specs.Prelude.{ℕ, ◌+◌, Bool, true, ◌&&◌, ◌||◌, nat_lt, int_le, List, length, Option, ℤ, pos, ◌+ℤ◌}
 use Rattle.cal_days.specs.Day.{IsBetween}
 use Rattle.cal_types.specs.Rows as rows
@@ -7,7 +7,7 @@ use Rattle.cal_hijri.specs.HijriList.{hijri_days}
 use Rattle.cal_hijri.specs.TableYears.{number_of}
 use Rattle.cal_hijri.specs.declared.hijri_year.HijriYear.{HijriYear}
 use Rattle.cal_errors.specs.declared.errors.TablePart.{TablePart}
-use Rattle.cal_errors.specs.declared.errors.TablePart.TheVariants.{Year, Join, End, Leap, Rule}
+use Rattle.cal_errors.specs.declared.errors.TablePart.TheVariants.{Range, Year, Join, End, Leap, Rule}
 use Rattle.cal_errors.specs.declared.errors.TableFault.{TableFault}
 
 -- row i of a table, counted from 0
@@ -46,8 +46,9 @@ abbrev pub ends : (ℤ → HijriYear) → HijriYear → Bool
 ends = rows.ends number_of start_of end_day
 
 -- whether row i of a table meets a part; `year_of` gives the computed years.
--- Hijri years have no leap months, and no rule picks the rows
+-- A year is in range. Hijri years have no leap months, and no rule picks the rows
 abbrev pub meets : (ℤ → HijriYear) → List HijriYear → ℕ → HijriYear → TablePart → Bool
+meets year_of rows i row Range = true
 meets year_of rows i row Year = is_next (row_before rows i) row && int_le row.extended_year (pos 9999)
 meets year_of rows i row Join = joins year_of (row_before rows i) row
 meets year_of rows i row End = nat_lt (i + 1) (length rows) || ends year_of row

@@ -12,6 +12,7 @@ pub mod SameYears
 pub mod HijriNameLaws
 pub mod RowStartLaws
 pub mod HijriRowLaws
+pub mod RowNameLaws
 pub mod TableFridayLaws
 pub mod TableRuleLaws
 pub mod TabularRuleLaws

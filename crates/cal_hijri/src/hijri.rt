@@ -1,4 +1,4 @@
-//! The Hijri calendar over any rules.
+//! The Hijri calendar over any rules, and its dates.
 
 ghost use Rattle.std.specs.Prelude.{◌≡◌};
 ghost use Rattle.cal_days.specs.Day.{IsFieldYear};
@@ -27,15 +27,16 @@ use cal_types::{
 };
 use std::sync::ledger::Ledger;
 
-/// The Hijri calendar, or Islamic calendar, under some rules.
+/// The Hijri (Islamic) calendar with rules for its years.
 ///
-/// A year has the plain months 1 to 12, of 29 or 30 days by the rules. A leap year is one of 355 days. The eras are
-/// `ah`, the years of the Hijra, and `bh`, the years before it, which are counted back from 1 (CLDR, UTS 35).
+/// A year has the plain months 1 to 12. The rules decide which of them have 29 days and which 30. A leap year has 355
+/// days. The eras are `ah`, the years from the Hijra on, and `bh`, the years before it, counted back from 1 (CLDR,
+/// UTS 35).
 #[derive(Clone, Copy, Debug)]
 pub struct Hijri<S>(pub S);
 
 impl Hijri<TabularAlgorithm> {
-    /// The tabular calendar with these leap years, from this day on.
+    /// Creates the tabular calendar with a rule of leap years and the first day of year 1.
     ///
     /// ```
     /// let years = TabularAlgorithmLeapYears::TypeII;
@@ -55,7 +56,7 @@ impl Hijri<TabularAlgorithm> {
 }
 
 impl<'t> Hijri<UmmAlQura<'t>> {
-    /// The Umm al-Qura calendar with these years.
+    /// Creates the Umm al-Qura calendar with a table of years.
     ///
     /// ```
     /// let computed = Hijri::new_umm_al_qura(HijriTable::none());
@@ -70,7 +71,7 @@ impl<'t> Hijri<UmmAlQura<'t>> {
 }
 
 impl<'t> Hijri<AstronomicalSimulation<'t>> {
-    /// The simulated calendar of Mecca with these years.
+    /// Creates the simulated calendar of Mecca with a table of years.
     ///
     /// ```
     /// let computed = Hijri::new_simulated_mecca(HijriTable::none());
@@ -85,11 +86,13 @@ impl<'t> Hijri<AstronomicalSimulation<'t>> {
 }
 
 /// A date of a Hijri calendar: its year, its month and its day.
+///
+/// Dates are equal, ordered and hashed by the extended year, the month and the day.
 #[derive_where(Clone, Copy, Debug, PartialEq, Eq, PartialOrd, Ord, Hash)]
 pub struct HijriDateInner<R: Rules>(ArithmeticDate<Hijri<R>>);
 
 impl HijriYear {
-    /// Whether another year has the same number, first day and months.
+    /// Returns whether another year has the same extended year, first day and months.
     pub(crate) fn has_parts_of(self, other: HijriYear) -> bool
         ensures { result ≡ has_parts_of self other }
     {
@@ -184,8 +187,9 @@ impl<R: Rules> Years for Hijri<R> {
     }
 }
 
-/// The extended year of a year, from -1040000 to 1040000, in the era `ah` or `bh`. [`UnknownEraError`] comes for
-/// every other code.
+/// Returns the extended year of a year in the era `ah` or `bh`, or an error for any other code.
+///
+/// `year`: from -1040000 to 1040000.
 fn year_in_era(era: &[u8], year: i32) -> Result<i32, UnknownEraError>
     requires { IsFieldYear year }
     ensures { result ≡ era_read (hijri_reads era.now year) }
@@ -239,7 +243,7 @@ impl<R: Rules> DateFieldsResolver for Hijri<R> {
     ghost reference_of_leap_month = { λ s m d e. no_leap_month (R.reference s.0) (R.references s.0) m d e };
 }
 
-/// An extended year in its era: `ah`, or `bh` before year 1 (CLDR, UTS 35).
+/// Returns an extended year in its era: `ah`, or `bh` before year 1 (CLDR, UTS 35).
 fn era_year(year: i32) -> EraYear
     requires { IsFieldYear year }
     ensures { result ≡ hijri_era_year year }
@@ -421,6 +425,7 @@ impl<R: Rules> Calendar for Hijri<R> {
         Arithmetic(*self).day_of_year(&date.0)
     }
 
+    #[inline(always)]
     fn add(
         &self,
         date: &HijriDateInner<R>,

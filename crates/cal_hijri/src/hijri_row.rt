@@ -1,23 +1,22 @@
-//! A row of a table of Hijri years.
+//! The rows of a table of Hijri years, as plain data.
 
-ghost use Rattle.std.specs.Prelude.{◌≡◌, ◌↔◌, IsSome, IfSome, min, pos, ◌+ℤ◌, ◌-ℤ◌};
-ghost use Rattle.cal_days.specs.Day.{IsRuleYear};
+ghost use Rattle.std.specs.Prelude.{◌≡◌, ◌↔◌, IsSome, IfSome, IsTrue, min, neg_ℤ, pos, ◌+ℤ◌, ◌-ℤ◌};
+ghost use Rattle.cal_days.specs.Day.{IsRuleYear, is_between};
 ghost use Rattle.cal_days.specs.Islamic.{islamic_mean_start};
 ghost use Rattle.cal_hijri.specs.HijriMonths.{IsNearMean};
 ghost use Rattle.cal_hijri.specs.RowStarts.{nearest_rule_year};
-ghost use Rattle.cal_hijri.specs.HijriRows.{row_year};
+ghost use Rattle.cal_hijri.specs.HijriRows.{names_year, row_of_year, row_year};
 
 use crate::hijri_year::HijriYear;
 use cal_days::islamic;
 
 /// A year of a [`HijriTable`](crate::HijriTable) as plain data, which a `static` can hold.
 ///
-/// Every value is read as a year, so a row needs no test of its own: what lies beyond a field's range is read as the
-/// nearest value within it. Whether rows follow one another as a table's are to is tested by
-/// [`HijriTable::try_new`](crate::HijriTable::try_new).
+/// A row names a year if each field is within its range. Every year from -8000000 to 8000000 has exactly one such row.
+/// [`HijriTable::try_new`](crate::HijriTable::try_new) rejects any other row, and tests whether the rows follow one
+/// another.
 ///
-/// The year 1445 begins on 2023-07-19, which is 5 days after the earliest day, and its months 2, 3, 4, 6, 9 and 12
-/// have 30 days:
+/// The year 1445 begins on 2023-07-19, 5 days after the earliest day. Its months 2, 3, 4, 6, 9 and 12 have 30 days:
 ///
 /// ```
 /// static YEAR_1445: HijriRow = HijriRow {
@@ -29,17 +28,24 @@ use cal_days::islamic;
 /// ```
 #[derive(Clone, Copy, Debug)]
 pub struct HijriRow {
-    /// The extended year, from -8000000 to 8000000. A lower or higher one is read as the nearest of these.
+    /// The extended year, from -8000000 to 8000000.
     pub extended_year: i32,
-    /// A bit for each month of 30 days, the first month's the lowest; the other months have 29. The bits above the
-    /// twelfth month's are of no month.
+    /// The months of 30 days: bit 0 is set for month 1, up to bit 11 for month 12. The other months have 29 days, and
+    /// the bits above are 0.
     pub long_months: u16,
-    /// How many days after the earliest day the year begins: 0 to 10. More are read as 10. The earliest day lies 5
-    /// days before the start of the mean year.
+    /// The number of days from the earliest day to the first day of the year, 0 to 10. The earliest day is 5 days
+    /// before the start of the mean year.
     pub start_offset: u8,
 }
 
-/// The nearest year to one from -8000000 to 8000000.
+/// Returns whether a year is from -8000000 to 8000000.
+fn is_rule_year(year: i32) -> bool
+    ensures { result ≡ is_between (neg_ℤ (pos 8000000)) (pos 8000000) year }
+{
+    -8000000 <= year && year <= 8000000
+}
+
+/// Returns the nearest year from -8000000 to 8000000.
 fn nearest_rule_year(year: i32) -> i32
     ensures value { result ≡ nearest_rule_year year }
     ensures range { IsRuleYear result }
@@ -47,7 +53,7 @@ fn nearest_rule_year(year: i32) -> i32
     year.clamp(-8000000, 8000000)
 }
 
-/// The day so many days after the earliest on which a year may start, and at most 10.
+/// Returns the day at an offset from the earliest first day of a year. An offset above 10 is taken as 10.
 fn start_after(year: i32, offset: u8) -> i64
     requires { IsRuleYear year }
     ensures value { result ≡ islamic_mean_start year -ℤ pos 5 +ℤ pos (min offset 10) }
@@ -57,7 +63,12 @@ fn start_after(year: i32, offset: u8) -> i64
 }
 
 impl HijriRow {
-    /// The year that the row is read as. A row with each field within its range is read as it stands.
+    /// Returns the year that the row names.
+    ///
+    /// If the row names no year, each field out of its range is taken as the nearest value within it, and the bits
+    /// above bit 11 of [`long_months`](HijriRow::long_months) as 0.
+    ///
+    /// # Examples
     ///
     /// ```
     /// let row = HijriRow {
@@ -77,12 +88,21 @@ impl HijriRow {
             long_months: self.long_months % 4096,
         }
     }
+
+    /// Returns whether each field is within its range, so that the row names a year.
+    pub(crate) fn names_year(self) -> bool
+        ensures { result ≡ names_year self }
+    {
+        is_rule_year(self.extended_year) && self.long_months < 4096 && self.start_offset <= 10
+    }
 }
 
 impl HijriYear {
-    /// The row that is read as this year.
+    /// Returns the row that names this year.
     ///
-    /// None exactly where the extended year isn't from -8000000 to 8000000; [`HijriYear::try_new`] makes no such year.
+    /// None if the extended year isn't from -8000000 to 8000000. [`HijriYear::try_new`] makes no such year.
+    ///
+    /// # Examples
     ///
     /// ```
     /// let row = HijriRow {
@@ -94,7 +114,9 @@ impl HijriYear {
     /// ```
     pub fn row(self) -> Option<HijriRow>
         ensures some { IsSome result ↔ IsRuleYear self.extended_year }
-        ensures row { IfSome result (λ row. row_year row ≡ self) }
+        ensures exact { IfSome result (λ row. row ≡ row_of_year self) }
+        ensures year { IfSome result (λ row. row_year row ≡ self) }
+        ensures named { IfSome result (λ row. IsTrue (names_year row)) }
     {
         if self.extended_year < -8000000 || self.extended_year > 8000000 {
             return None;

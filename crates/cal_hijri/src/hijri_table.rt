@@ -1,12 +1,13 @@
-//! Tables of years of a Hijri calendar, as they are observed or computed elsewhere.
+//! Tables of the years of a Hijri calendar, as observed or computed elsewhere.
 
-ghost use Rattle.std.specs.Prelude.{◌≡◌, ◌≢◌, ℕ, ◌<◌, ◌+◌, ◌&&◌, ◌||◌, int_le, length, slice_get, [], IsTrue, IfSome, IsNone, IsOk, ◌↔◌, MatchOption, MatchResult, pos};
+ghost use Rattle.std.specs.Prelude.{◌≡◌, ◌≢◌, ℕ, ◌<◌, ◌+◌, ◌&&◌, ◌||◌, int_le, length, slice_get, [], Some, IsTrue, IfSome, IsNone, IsOk, ◌↔◌, MatchOption, MatchResult, pos};
 ghost use Rattle.cal_days.specs.Day.{IsRuleYear};
 ghost use Rattle.std.specs.Cmp.Lexicographic.{pointwise};
-ghost use Rattle.cal_hijri.specs.HijriRows.{is_same_row, years_of};
+ghost use Rattle.cal_hijri.specs.HijriRows.{NameYears, is_same_row, row_year, years_of};
 ghost use Rattle.cal_hijri.specs.TableFriday as beside;
 ghost use Rattle.cal_hijri.specs.TableYears as table;
 ghost use Rattle.cal_hijri.specs.LengthenedTables.{is_equal_year, IsLengthenFault, KeepsYears, Lengthens};
+ghost use Rattle.cal_hijri.specs.RowsAccepted as by_rows;
 ghost use Rattle.cal_hijri.specs.SameRows.{are_same_rows};
 ghost use Rattle.cal_hijri.specs.TableAccepted.{IsRow, IsTableYear, row_before, is_next, end_day, follows, joins, ends, meets, MeetsAll, IsAccepted, IsFirstBroken, IsFirstFault};
 ghost use Rattle.cal_hijri.specs.declared.hijri_year.HijriYear.{HijriYear};
@@ -19,20 +20,23 @@ use crate::tabular_algorithm::{
 };
 use cal_types::{LengthenFault, Row, TableFault, TablePart, first_difference};
 
-/// Years in a row, each of which takes the place of the tabular year from Friday on.
+/// Consecutive years that replace the tabular years of type II with the epoch Friday.
 ///
-/// The first row's year is 1 or later, and the last one's at most 9999. Each row starts where the year before it
-/// ends, and the tabular year after the last row starts where that row ends.
+/// The years are from 1 to 9999, and each row names its year. Each row starts on the day after the year before it. The
+/// tabular year after the last row starts on the day after that row.
 #[derive(Clone, Copy, Debug)]
 pub struct HijriTable<'t> {
     rows: &'t [HijriRow],
     ghost accepted: { IsAccepted beside.friday_year (years_of rows.now) },
+    ghost named: { NameYears rows.now },
 }
 
 impl<'t> HijriTable<'t> {
-    /// No rows: **every year is computed**, as the tabular one, and it and its months may begin a day or more before or
-    /// after the published ones. The crate `published_years` has the table of the published years
-    /// (`umm_al_qura_table`), and [`HijriTable::try_new`] takes rows of one's own.
+    /// Creates a table without rows: **every year is computed**, as the tabular year. It and its months may begin a
+    /// day or more before or after the published ones.
+    ///
+    /// The crate `published_years` has the table of the published years (`umm_al_qura_table`). For rows of your own,
+    /// use [`HijriTable::try_new`].
     ///
     /// ```
     /// let computed = Hijri::new_umm_al_qura(HijriTable::none());
@@ -44,27 +48,35 @@ impl<'t> HijriTable<'t> {
         HijriTable { rows: &[] }
     }
 
-    /// The table of rows that are known to be accepted, as those of constant data can be by computation. No row is
-    /// looked at.
+    /// Creates a table from rows that are known to be accepted, without testing them. For constant data, acceptance can
+    /// be proved by computation.
     ///
     /// ```text
     /// static ROWS: [HijriRow; 301] = ..; // 1300 to 1600
     /// let table = HijriTable::new(&ROWS);
     /// ```
     pub fn new(rows: &'t [HijriRow]) -> HijriTable<'t>
-        requires { IsAccepted beside.friday_year (years_of rows.now) }
+        requires { by_rows.IsAccepted beside.friday_year rows.now }
         ensures { result.rows.now ≡ rows.now }
     {
         HijriTable { rows }
     }
 
-    /// The table of these rows.
+    /// Creates a table from rows.
     ///
-    /// A [`TableFault`] names the first row, counted from 1, that isn't as it is to be, and the first part that
-    /// breaks there: [`TablePart::Year`] where the first row's year is below 1, another's isn't one more than the
-    /// row's before it, or one is above 9999; [`TablePart::Join`] where the row doesn't start where the row before it
-    /// ends, or the first one not where the tabular year before it ends; [`TablePart::End`] where the tabular year
-    /// after the last row doesn't start where that row ends.
+    /// # Errors
+    ///
+    /// Fails with a [`TableFault`] that names the first row, counted from 1, that breaks a rule, and the first rule
+    /// that it breaks:
+    ///
+    /// - [`TablePart::Range`] if the row names no year: a field is out of its range ([`HijriRow`]).
+    /// - [`TablePart::Year`] if the year of the first row is below 1, the year of another row isn't one more than the
+    ///   year of the row before it, or a year is above 9999.
+    /// - [`TablePart::Join`] if the row doesn't start on the day after the row before it, or the first row not on the
+    ///   day after the tabular year before it.
+    /// - [`TablePart::End`] if the tabular year after the last row doesn't start on the day after that row.
+    ///
+    /// # Examples
     ///
     /// ```
     /// let rows = published::umm_al_qura_table().rows();
@@ -73,8 +85,8 @@ impl<'t> HijriTable<'t> {
     /// ```
     pub fn try_new(rows: &'t [HijriRow]) -> Result<HijriTable<'t>, TableFault>
         ensures first { MatchResult result (λ made. made.rows.now ≡ rows.now)
-            (IsFirstFault beside.friday_year (years_of rows.now)) }
-        ensures exact { IsOk result ↔ IsAccepted beside.friday_year (years_of rows.now) }
+            (by_rows.IsFirstFault beside.friday_year rows.now) }
+        ensures exact { IsOk result ↔ by_rows.IsAccepted beside.friday_year rows.now }
     {
         match check(rows) {
             Ok(()) => Ok(HijriTable { rows }),
@@ -82,14 +94,19 @@ impl<'t> HijriTable<'t> {
         }
     }
 
-    /// The table of longer rows: they begin with this table's rows, and are accepted. Each year that isn't among the
-    /// rows that were added keeps its first day and its months.
+    /// Creates a table from longer rows, which begin with the rows of this table. Every year that isn't among the added
+    /// rows keeps its first day and its months.
     ///
-    /// Rows are equal where the years are that they are read as: in number, first day and the lengths of their months.
+    /// Rows are equal if their years ([`HijriRow::year`]) have the same extended year, first day and months. No memory
+    /// is taken.
     ///
-    /// [`LengthenFault::Differs`] names the first of this table's rows, counted from 1, to which the longer ones have
-    /// none equal in its place, as where they are fewer. Where there is no such row, [`LengthenFault::Table`] has the
-    /// fault that [`HijriTable::try_new`] finds in the longer ones. No memory is taken.
+    /// # Errors
+    ///
+    /// - [`LengthenFault::Differs`] if a row of this table has no equal row in the same place of `rows`, for example if
+    ///   `rows` are fewer. It names the first such row, counted from 1.
+    /// - [`LengthenFault::Table`] otherwise, with the fault that [`HijriTable::try_new`] finds in `rows`.
+    ///
+    /// # Examples
     ///
     /// ```
     /// let table = HijriTable::try_new(&rows[..50])?;
@@ -110,25 +127,26 @@ impl<'t> HijriTable<'t> {
         }
     }
 
-    /// The rows.
+    /// Returns the rows. Each of them names a year.
     ///
     /// ```
     /// assert!(rt; published::umm_al_qura_table().rows().len() == 301);
     /// ```
     pub fn rows(&self) -> &'t [HijriRow]
-        ensures { result.now ≡ self.now.rows.now }
+        ensures rows { result.now ≡ self.now.rows.now }
+        ensures named { NameYears result.now }
     {
         self.rows
     }
 
-    /// Whether another table has as many rows, with the same numbers, first days and months.
+    /// Returns whether another table has as many rows, with the same extended years, first days and months.
     pub(crate) fn has_rows_of(&self, other: &HijriTable<'t>) -> bool
         ensures { result ≡ are_same_rows (years_of self.now.rows.now) (years_of other.now.rows.now) }
     {
         are_same_rows(self.rows, other.rows)
     }
 
-    /// The row of a year where there is one, and otherwise the tabular year.
+    /// Returns the row of a year, or the tabular year if it has none.
     pub(crate) fn year(&self, extended_year: i32) -> HijriYear
         requires { IsRuleYear extended_year }
         ensures chosen { result ≡ table.chosen beside.friday_year (years_of self.now.rows.now) extended_year }
@@ -141,7 +159,7 @@ impl<'t> HijriTable<'t> {
     }
 }
 
-/// Whether two years are equal in number, first day and the lengths of their months.
+/// Returns whether two years have the same extended year, first day and months.
 fn is_equal_year(year: HijriYear, other: HijriYear) -> bool
     ensures { result ≡ is_equal_year year other }
 {
@@ -160,7 +178,7 @@ impl Row for HijriRow {
     }
 }
 
-/// The row of a year where there is one, and otherwise the tabular year.
+/// Returns the row of a year, or the tabular year if it has none.
 fn chosen(rows: &[HijriRow], extended_year: i32) -> HijriYear
     requires { IsRuleYear extended_year }
     ensures { result ≡ table.chosen beside.friday_year (years_of rows.now) extended_year }
@@ -171,14 +189,14 @@ fn chosen(rows: &[HijriRow], extended_year: i32) -> HijriYear
     }
 }
 
-/// Whether two rows are equal in number, first day and months.
+/// Returns whether the years of two rows have the same extended year, first day and months.
 fn is_same_row(row: HijriRow, other: HijriRow) -> bool
     ensures { result ≡ is_same_row row other }
 {
     row.year().has_parts_of(other.year())
 }
 
-/// Whether rows are equal in number, first day and months.
+/// Returns whether two lists have equally many rows, and their years are the same.
 fn are_same_rows(rows: &[HijriRow], others: &[HijriRow]) -> bool
     ensures { result ≡ pointwise is_same_row rows.now others.now }
 {
@@ -195,7 +213,7 @@ fn are_same_rows(rows: &[HijriRow], others: &[HijriRow]) -> bool
     true
 }
 
-/// The tabular year from Friday on.
+/// Returns the tabular year of type II with the epoch Friday.
 fn friday_year(extended_year: i32) -> HijriYear
     requires { IsRuleYear extended_year }
     ensures { result ≡ beside.friday_year extended_year }
@@ -207,7 +225,14 @@ fn friday_year(extended_year: i32) -> HijriYear
     tabular_year(rules, extended_year)
 }
 
-/// The row at an index, counted from 0.
+/// Returns the row at an index, counted from 0.
+fn row_in(rows: &[HijriRow], index: usize) -> Option<HijriRow>
+    ensures { result ≡ slice_get rows.now index }
+{
+    rows.get(index).copied()
+}
+
+/// Returns the year of the row at an index, counted from 0.
 fn row_at(rows: &[HijriRow], index: usize) -> Option<HijriYear>
     ensures { result ≡ slice_get (years_of rows.now) index }
 {
@@ -217,7 +242,7 @@ fn row_at(rows: &[HijriRow], index: usize) -> Option<HijriYear>
     }
 }
 
-/// The row of a year. Rows follow one another, so its place follows from the first row's year.
+/// Returns the row of a year. Rows are consecutive, so its index follows from the year of the first row.
 fn row_of(rows: &[HijriRow], extended_year: i32) -> Option<HijriYear>
     requires { IsRuleYear extended_year }
     ensures { result ≡ table.row_of (years_of rows.now) extended_year }
@@ -235,21 +260,21 @@ fn row_of(rows: &[HijriRow], extended_year: i32) -> Option<HijriYear>
     }
 }
 
-/// The day after a year's last day.
+/// Returns the day after the last day of a year.
 fn end_day(year: HijriYear) -> i64
     ensures { result ≡ end_day year }
 {
     year.first_day + i64::from(days_before_month(year.long_months, 13))
 }
 
-/// Whether a year starts where another one ends.
+/// Returns whether a year starts on the day after another one.
 fn follows(before: HijriYear, row: HijriYear) -> bool
     ensures { result ≡ follows before row }
 {
     row.first_day == end_day(before)
 }
 
-/// The row before the one at an index.
+/// Returns the year of the row before the one at an index.
 fn row_before(rows: &[HijriRow], index: usize) -> Option<HijriYear>
     ensures { result ≡ row_before (years_of rows.now) index }
 {
@@ -260,7 +285,7 @@ fn row_before(rows: &[HijriRow], index: usize) -> Option<HijriYear>
     }
 }
 
-/// Whether a row's year is the next one.
+/// Returns whether the year of a row is the next one.
 fn is_next(before: Option<HijriYear>, row: HijriYear) -> bool
     requires { IfSome before (λ before. IsTableYear before.extended_year) }
     ensures { result ≡ is_next before row }
@@ -271,7 +296,7 @@ fn is_next(before: Option<HijriYear>, row: HijriYear) -> bool
     }
 }
 
-/// Whether a row starts where the year before it ends.
+/// Returns whether a row starts on the day after the year before it.
 fn joins(before: Option<HijriYear>, row: HijriYear) -> bool
     requires { IsTableYear row.extended_year }
     ensures { result ≡ joins beside.friday_year before row }
@@ -282,7 +307,7 @@ fn joins(before: Option<HijriYear>, row: HijriYear) -> bool
     }
 }
 
-/// Whether a row ends where the tabular year after it starts.
+/// Returns whether the tabular year after a row starts on the day after it.
 fn ends(row: HijriYear) -> bool
     requires { IsTableYear row.extended_year }
     ensures { result ≡ ends beside.friday_year row }
@@ -290,7 +315,7 @@ fn ends(row: HijriYear) -> bool
     follows(row, friday_year(row.extended_year + 1))
 }
 
-/// Whether a row's year is as it is to be.
+/// Returns whether the year of a row meets [`TablePart::Year`].
 fn meets_year(rows: &[HijriRow], index: usize, row: HijriYear) -> bool
     requires { IfSome (row_before (years_of rows.now) index) (λ before. IsTableYear before.extended_year) }
     ensures exact { result ≡ (is_next (row_before (years_of rows.now) index) row
@@ -300,7 +325,7 @@ fn meets_year(rows: &[HijriRow], index: usize, row: HijriYear) -> bool
     is_next(row_before(rows, index), row) && row.extended_year <= 9999
 }
 
-/// Whether a row, if it is the last one, ends as it is to.
+/// Returns whether a row meets [`TablePart::End`], which is a rule for the last row.
 fn meets_end(rows: &[HijriRow], index: usize, row: HijriYear) -> bool
     requires within { index < length (years_of rows.now) }
     requires year { IsTableYear row.extended_year }
@@ -309,8 +334,8 @@ fn meets_end(rows: &[HijriRow], index: usize, row: HijriYear) -> bool
     index + 1 < rows.len() || ends(row)
 }
 
-/// The first part that a row breaks.
-fn first_broken(rows: &[HijriRow], index: usize, row: HijriYear) -> Option<TablePart>
+/// Returns the first rule that the year of a row breaks.
+fn first_broken_of_year(rows: &[HijriRow], index: usize, row: HijriYear) -> Option<TablePart>
     requires row { IsRow (years_of rows.now) index row }
     requires before { IfSome (row_before (years_of rows.now) index) (λ before. IsTableYear before.extended_year) }
     ensures first { MatchOption result (MeetsAll beside.friday_year (years_of rows.now) index row)
@@ -329,15 +354,29 @@ fn first_broken(rows: &[HijriRow], index: usize, row: HijriYear) -> Option<Table
     None
 }
 
-/// Whether rows are accepted; if not, the first row and its first part that break.
+/// Returns the first rule that a row breaks.
+fn first_broken(rows: &[HijriRow], index: usize, row: HijriRow) -> Option<TablePart>
+    requires row { slice_get rows.now index ≡ Some row }
+    requires before { IfSome (row_before (years_of rows.now) index) (λ before. IsTableYear before.extended_year) }
+    ensures first { MatchOption result (by_rows.MeetsAll beside.friday_year rows.now index row)
+        (by_rows.IsFirstBroken beside.friday_year rows.now index row) }
+    ensures year { IsNone result → IsTableYear (row_year row).extended_year }
+{
+    if !row.names_year() {
+        return Some(TablePart::Range);
+    }
+    first_broken_of_year(rows, index, row.year())
+}
+
+/// Tests rows, and returns the first row that breaks a rule, and the first rule that it breaks.
 fn check(rows: &[HijriRow]) -> Result<(), TableFault>
-    ensures first { MatchResult result (λ _. IsAccepted beside.friday_year (years_of rows.now))
-        (IsFirstFault beside.friday_year (years_of rows.now)) }
-    ensures exact { IsOk result ↔ IsAccepted beside.friday_year (years_of rows.now) }
+    ensures first { MatchResult result (λ _. by_rows.IsAccepted beside.friday_year rows.now)
+        (by_rows.IsFirstFault beside.friday_year rows.now) }
+    ensures exact { IsOk result ↔ by_rows.IsAccepted beside.friday_year rows.now }
 {
     let mut index = 0;
-    'rows: while let Some(year) = row_at(rows, index) {
-        if let Some(part) = first_broken(rows, index, year) {
+    'rows: while let Some(row) = row_in(rows, index) {
+        if let Some(part) = first_broken(rows, index, row) {
             return Err(TableFault {
                 row: index + 1,
                 part,

@@ -1,4 +1,4 @@
-//! A year of a Hijri calendar.
+//! The years of a Hijri calendar.
 
 ghost use Rattle.std.specs.Prelude.{◌≡◌, ◌<◌, ◌≤◌, ◌↔◌, IsTrue, IsSome, IfSome, pos};
 ghost use Rattle.std.proofs.Common.{rules};
@@ -15,26 +15,26 @@ use date_bytes::hijri;
 use std::cmp::Ordering;
 use std::hash::{Hash, Hasher};
 
-/// A year of a Hijri calendar: its extended year, its first day, and which of its twelve months have 30 days and
-/// which 29.
+/// A year of a Hijri calendar: its extended year, its first day, and which of its twelve months have 30 days and which
+/// 29.
 ///
-/// The first day lies at most 5 days from the start of the mean year. Years are equal, ordered and hashed by the
-/// extended year.
+/// The first day is at most 5 days before or after the start of the mean year. Years are equal, ordered and hashed by
+/// the extended year.
 #[derive(Clone, Copy, Debug)]
 pub struct HijriYear {
     pub(crate) first_day: i64,
     pub(crate) extended_year: i32,
-    /// A bit for each month with 30 days, the first month's the lowest.
+    /// The months of 30 days: bit 0 is set for month 1, up to bit 11 for month 12.
     pub(crate) long_months: u16,
     ghost near: { IsNearMean extended_year first_day },
     ghost twelve: { long_months < 4096 },
 }
 
 impl HijriYear {
-    /// The year of an extended year whose months, and the next year's first one, start on these days.
+    /// Creates a year from the first days of its months, and of the first month of the next year.
     ///
-    /// None exactly where the extended year isn't from -8000000 to 8000000, a month hasn't 29 or 30 days, or the
-    /// first day lies more than 5 days from the start of the mean year.
+    /// None if the extended year isn't from -8000000 to 8000000, a month has neither 29 nor 30 days, or the first day is
+    /// more than 5 days before or after the start of the mean year.
     ///
     /// ```
     /// let starts = [RataDie::new(738720); 13]; // no month has a day
@@ -59,7 +59,7 @@ impl HijriYear {
         })
     }
 
-    /// The extended year.
+    /// Returns the extended year.
     ///
     /// ```
     /// static YEAR_1445: HijriRow = HijriRow {
@@ -75,7 +75,7 @@ impl HijriYear {
         self.extended_year
     }
 
-    /// The first day.
+    /// Returns the first day.
     ///
     /// ```
     /// let row = HijriRow {
@@ -91,7 +91,7 @@ impl HijriYear {
         RataDie::new(self.first_day)
     }
 
-    /// How many days a month, 1 to 12, has: 29 or 30.
+    /// Returns the number of days of a month, 29 or 30. `month`: from 1 to 12.
     ///
     /// ```
     /// let row = HijriRow {
@@ -109,7 +109,7 @@ impl HijriYear {
     }
 }
 
-/// Whether a year is from -8000000 to 8000000, and its first day at most 5 days from the start of the mean year.
+/// Returns whether a year is from -8000000 to 8000000, and its first day at most 5 days from the start of the mean year.
 fn is_near_mean(extended_year: i32, first_day: RataDie) -> bool
     ensures { IsTrue result ↔ (IsRuleYear extended_year × IsNearMean extended_year first_day) }
 {
@@ -120,15 +120,15 @@ fn is_near_mean(extended_year: i32, first_day: RataDie) -> bool
     -5 <= since && since <= 5
 }
 
-/// Whether a month may have so many days.
+/// Returns whether a month may have this number of days.
 fn is_month_length(days: i64) -> bool
     ensures { IsTrue result ↔ IsBetween (pos 29) (pos 30) days }
 {
     29 <= days && days <= 30
 }
 
-/// The bits of the months with 30 days, by the days on which the months start and the year ends. None exactly where
-/// a month hasn't 29 or 30 days.
+/// Returns the bits of the months of 30 days, from the first days of the months and of the next year. None if a month
+/// has neither 29 nor 30 days.
 fn long_months(starts: &[RataDie; 13]) -> Option<u16>
     ensures some { IsSome result ↔ HaveMonthLengths starts.now 0 }
     ensures months { IfSome result (λ long. HasLengthsOf starts.now long) }
@@ -147,7 +147,7 @@ fn long_months(starts: &[RataDie; 13]) -> Option<u16>
     Some(long_months)
 }
 
-/// How many days a month, 1 to 12, has: 30 where its bit is set.
+/// Returns the number of days of a month, 1 to 12: 30 if its bit is set.
 pub(crate) fn days_in_month(long_months: u16, month: u8) -> u8
     requires { (1 ≤ month) × (month ≤ 12) }
     ensures value { result ≡ month_days long_months month }
@@ -156,7 +156,7 @@ pub(crate) fn days_in_month(long_months: u16, month: u8) -> u8
     29 + ((long_months >> (month - 1)) % 2) as u8
 }
 
-/// How many days lie before a month, 1 to 12; before a thirteenth one, those of the whole year.
+/// Returns the number of days before a month, 1 to 12. For the month 13 it is the number of days of the year.
 pub(crate) fn days_before_month(long_months: u16, month: u8) -> u16
     requires { (1 ≤ month) × (month ≤ 13) }
     ensures value { result ≡ prior_days long_months month }

@@ -1,4 +1,7 @@
-//! The Hijri calendars: the rules that decide their years, and the calendar over any of them.
+//! The Hijri calendars: the calendar [`Hijri`] over any [`Rules`], which decide its years.
+//!
+//! The rules are [`TabularAlgorithm`], [`UmmAlQura`] and [`AstronomicalSimulation`]; the latter two take a
+//! [`HijriTable`] of years. Start with [`Hijri::new_tabular`] or [`Hijri::new_umm_al_qura`].
 #![tactic(auto)]
 
 mod hijri;

@@ -1,4 +1,4 @@
-//! What decides the years of a Hijri calendar.
+//! Rules that decide the years of a Hijri calendar.
 
 ghost use Rattle.std.specs.Prelude.{◌≡◌, ◌↔◌, ℕ, ℤ, Bool, false, List, Option, Result, None, Err, IsTrue, IsOk, codes, pos, ◌+ℤ◌, ◌≤ℤ◌, ◌<ℤ◌};
 ghost use Rattle.std.specs.Cmp.{IsEquivalence};
@@ -16,39 +16,41 @@ use cal_days::{RataDie, islamic};
 use cal_types::{CalendarAlgorithm, EcmaReferenceYearError, Month};
 use std::fmt::Debug;
 
-/// What decides the years of a Hijri calendar: where each one starts, and which of its months have 30 days.
+/// Rules that decide the years of a Hijri calendar: the first day of each year, and which of its months have 30 days.
 ///
-/// [`Hijri`](crate::Hijri) makes a calendar of it.
+/// [`Hijri`](crate::Hijri) is the calendar with such rules. A type with rules of your own proves the laws at the end of
+/// the trait.
 pub trait Rules: Copy + Debug + UnstableSealed + Drop {
     ghost use Rattle.cal_hijri.specs.HijriList.{Joins, Numbered, hijri_days};
     ghost use Rattle.cal_hijri.specs.HijriNames.{AreReferences};
 
-    /// What says that dates under two values can't be compared.
+    /// The error for dates under two rules that aren't compatible.
     type DateCompatibilityError: Debug + Drop;
 
-    /// The year of an extended year, which counts from -8000000 to 8000000.
+    /// The year of an extended year. Only those from -8000000 to 8000000 count.
     ghost year_of: { Self → ℤ → HijriYear };
 
-    /// The reference year of a month from 1 to 12 and a day. Rules without reference years keep this.
+    /// The reference year of a month from 1 to 12 and a day. By default there are no reference years.
     ghost reference: { Self → MonthParts → ℕ → Result ℤ EcmaReferenceYearError } = { λ _ _ _. Err Unimplemented };
 
-    /// Whether dates under two values can be compared.
+    /// Whether two rules are compatible, so that dates under them can be compared.
     ghost compatible: { Self → Self → Bool };
 
-    /// The algorithm by which CLDR names the calendar. Rules that it doesn't name keep this.
+    /// The algorithm by which CLDR names the calendar. By default there is none.
     ghost algorithm: { Self → Option CalendarAlgorithm } = { λ _. None };
 
-    /// The calendar's name in English.
+    /// The name of the calendar in English.
     ghost name: { Self → List ℕ } = { λ _. codes "Hijri (custom rules)" };
 
-    /// The year of an extended year from -8000000 to 8000000.
+    /// Returns the year of an extended year from -8000000 to 8000000.
     fn year(&self, extended_year: i32) -> HijriYear
         requires { IsRuleYear extended_year }
         ensures { result ≡ year_of self.now extended_year };
 
-    /// The year that contains a valid day, -365242499 to 365242134.
+    /// Returns the year that contains a valid day.
     ///
-    /// A year starts at most 5 days from its mean start, so it is the mean year of the day or one beside it.
+    /// `rd`: rata die, -365242499 to 365242134. A year starts at most 5 days from its mean start, so it is the mean year
+    /// of the day, or the year before or after it.
     fn year_containing_rd(&self, rd: RataDie) -> HijriYear
         requires { IsValidDay rd }
         ensures given { result ≡ year_of self.now result.extended_year }
@@ -69,42 +71,60 @@ pub trait Rules: Copy + Debug + UnstableSealed + Drop {
         }
     }
 
-    /// The reference year of a month and a day, in which a date without a year stands (ECMAScript Temporal's
-    /// NonISOMonthDayToISOReferenceDate): a year from -1040000 to 1040000. The day may be above the month's length.
+    /// Returns the reference year of a month and a day: the year of a date without one (ECMAScript Temporal,
+    /// `NonISOMonthDayToISOReferenceDate`).
     ///
-    /// [`EcmaReferenceYearError::MonthNotInCalendar`] comes only for a month that isn't one of the plain months 1
-    /// to 12, [`EcmaReferenceYearError::UseRegularIfConstrain`] never, and
-    /// [`EcmaReferenceYearError::Unimplemented`] where the rules have no reference years.
+    /// The year is from -1040000 to 1040000. The day may be above the length of the month.
+    ///
+    /// # Errors
+    ///
+    /// - [`MonthNotInCalendar`](EcmaReferenceYearError::MonthNotInCalendar) only if the month isn't one of the plain
+    ///   months 1 to 12.
+    /// - [`Unimplemented`](EcmaReferenceYearError::Unimplemented) if the rules have no reference years.
+    ///
+    /// [`UseRegularIfConstrain`](EcmaReferenceYearError::UseRegularIfConstrain) is never returned.
     fn ecma_reference_year(&self, month: Month, day: u8) -> Result<i32, EcmaReferenceYearError>
         ensures { result ≡ reference self.now (month_parts month) day };
 
-    /// An error exactly where dates under the two values can't be compared.
+    /// Tests whether two rules are compatible, so that dates under them can be compared.
+    ///
+    /// # Errors
+    ///
+    /// - [`DateCompatibilityError`](Rules::DateCompatibilityError) if the rules aren't compatible.
     fn check_date_compatibility(&self, other: &Self) -> Result<(), Self::DateCompatibilityError>
         ensures { IsOk result ↔ IsTrue (compatible self.now other.now) };
 
-    /// The algorithm by which CLDR names the calendar (UTS 35), or None where it doesn't.
+    /// Returns the algorithm by which CLDR names the calendar (UTS 35), or None if it has no name for it.
     fn calendar_algorithm(&self) -> Option<CalendarAlgorithm>
         ensures { result ≡ algorithm self.now };
 
-    /// The calendar's name in English; `Hijri (custom rules)` for rules that have no name of their own.
+    /// Returns the name of the calendar in English. By default it is `Hijri (custom rules)`.
     fn debug_name(&self) -> &'static str
         ensures { result.now ≡ name self.now };
 
-    /// A year has its number.
+    /// Each year has its number.
     ghost numbered: { (s : Self) → Numbered (year_of s) };
 
-    /// A year starts where the one before ends.
+    /// Each year starts on the day after the year before it.
     ghost joins: { (s : Self) → Joins (year_of s) };
 
-    /// Reference years lie in their range, and a month of the calendar isn't refused as another.
+    /// Reference years are in their range, and no month of the calendar is rejected as another one.
     ghost references: { (s : Self) → AreReferences (reference s) };
 
-    /// Where dates under two values can't be compared, there is an error that says so.
+    /// There is an error for rules that aren't compatible.
     ghost refusal: { (s t : Self) → compatible s t ≡ false → Self.DateCompatibilityError };
 
-    /// Each value is compatible with itself, and compatibility goes both ways and on.
+    /// Compatibility is an equivalence: reflexive, symmetric and transitive.
     ghost alike: { IsEquivalence compatible };
 
-    /// Compatible values give the same years.
+    /// Compatible rules have the same years.
     ghost shared: { (s t : Self) (y : ℤ) → IsTrue (compatible s t) → IsRuleYear y → year_of s y ≡ year_of t y };
+
+    /// Compatible rules have the same reference years.
+    ghost shared_references: { (s t : Self) (m : MonthParts) (d : ℕ) → IsTrue (compatible s t) →
+        reference s m d ≡ reference t m d };
+
+    /// Compatible rules have the same algorithm and the same name.
+    ghost shared_names: { (s t : Self) → IsTrue (compatible s t) →
+        (algorithm s ≡ algorithm t) × (name s ≡ name t) };
 }

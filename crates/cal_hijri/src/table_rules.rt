@@ -1,4 +1,4 @@
-//! The rules over a table of years, and the calendars that have such rules.
+//! The rules of calendars with a table of years: [`UmmAlQura`] and [`AstronomicalSimulation`].
 
 ghost use Rattle.std.specs.Prelude.{◌≡◌, ℕ, List, Option};
 ghost use Rattle.cal_errors.specs.declared.algorithm.CalendarAlgorithm.{CalendarAlgorithm};
@@ -14,28 +14,28 @@ use cal_types::{
 };
 use std::marker::PhantomData;
 
-/// What a table's years are of: the names of the calendar.
+/// The calendar that a table of years is for: its names.
 pub trait TablePurpose: UnstableSealed {
     /// The algorithm by which CLDR names the calendar.
     ghost algorithm: { Option CalendarAlgorithm };
 
-    /// The calendar's name in English.
+    /// The name of the calendar in English.
     ghost name: { List ℕ };
 
-    /// The algorithm by which CLDR names the calendar (UTS 35), or None where it doesn't.
+    /// Returns the algorithm by which CLDR names the calendar (UTS 35), or None if it has no name for it.
     fn calendar_algorithm() -> Option<CalendarAlgorithm>
         ensures { result ≡ algorithm };
 
-    /// The calendar's name in English.
+    /// Returns the name of the calendar in English.
     fn debug_name() -> &'static str
         ensures { result.now ≡ name };
 }
 
-/// The years are those of Saudi Arabia: [`UmmAlQura`].
+/// Marks the years of Saudi Arabia: [`UmmAlQura`].
 #[derive(Clone, Copy, Debug)]
 pub struct OfSaudiArabia;
 
-/// The years are those of the first sight of the new moon at Mecca: [`AstronomicalSimulation`].
+/// Marks the years of the simulated first sight of the new moon at Mecca: [`AstronomicalSimulation`].
 #[derive(Clone, Copy, Debug)]
 pub struct OfMecca;
 
@@ -77,35 +77,42 @@ impl TablePurpose for OfMecca {
     }
 }
 
-/// The rules of a calendar over a table: its years, and the tabular years from Friday on where it has none. **Years
-/// without a row are computed**, and they and their months may begin a day or more before or after the published ones.
+/// The rules of a calendar with a table of years.
 ///
-/// Dates under two such rules of one purpose can be compared where the rows are the same.
+/// A year is its row in the table, or else the tabular year of type II with the epoch Friday. **Years without a row are
+/// computed**: they and their months may begin a day or more before or after the published ones.
+///
+/// Dates under two such rules of one purpose can be compared if the tables have the same rows.
 #[derive_where(Clone, Copy, Debug)]
 pub struct TableRules<'t, P> {
     table: HijriTable<'t>,
     of: PhantomData<P>,
 }
 
-/// The rules of the Umm al-Qura calendar of Saudi Arabia: the years of a table, and the tabular years from Friday on
-/// where it has none. **Years without a row are computed**, and they and their months may begin a day or more before or
-/// after the published ones. [`UmmAlQura::new`](TableRules::new) takes the published years as a table: the crate
-/// `published_years` has it (`umm_al_qura_table`; its `umm_al_qura` is the calendar with it).
+/// The rules of the Umm al-Qura calendar of Saudi Arabia, with a table of years.
 ///
-/// CLDR's name for the calendar is `islamic-umalqura`. Dates under two such rules can be compared where the rows are
-/// the same.
+/// A year is its row in the table, or else the tabular year of type II with the epoch Friday. **Years without a row are
+/// computed**: they and their months may begin a day or more before or after the published ones.
+///
+/// For the published years, pass the table of the crate `published_years` (`umm_al_qura_table`) to
+/// [`UmmAlQura::new`](TableRules::new), or use its calendar `umm_al_qura`.
+///
+/// CLDR's name for the calendar is `islamic-umalqura`. Dates under two such rules can be compared if the tables have the
+/// same rows.
 pub type UmmAlQura<'t> = TableRules<'t, OfSaudiArabia>;
 
-/// The rules of a calendar that computes the first sight of the new moon at Mecca: the years of a table, and the
-/// tabular years from Friday on where it has none. **Years without a row are computed**, and they and their months may
-/// begin a day or more before or after the published ones. The crate `published_years` has no years of this calendar:
-/// hand rows in by [`HijriTable::try_new`].
+/// The rules of the calendar of the simulated first sight of the new moon at Mecca, with a table of years.
 ///
-/// CLDR has no name for the calendar. Dates under two such rules can be compared where the rows are the same.
+/// A year is its row in the table, or else the tabular year of type II with the epoch Friday. **Years without a row are
+/// computed**: they and their months may begin a day or more before or after the published ones.
+///
+/// The crate `published_years` has no years of this calendar. Pass rows of your own to [`HijriTable::try_new`].
+///
+/// CLDR has no name for the calendar. Dates under two such rules can be compared if the tables have the same rows.
 pub type AstronomicalSimulation<'t> = TableRules<'t, OfMecca>;
 
 impl<'t, P> TableRules<'t, P> {
-    /// The rules with these years.
+    /// Creates the rules with a table of years.
     ///
     /// ```
     /// let computed = Hijri(UmmAlQura::new(HijriTable::none()));
@@ -126,6 +133,7 @@ impl<'t, P: TablePurpose> UnstableSealed for TableRules<'t, P> {}
 
 impl<'t, P: TablePurpose> Rules for TableRules<'t, P> {
     ghost use Rattle.std.specs.Cmp.{on_equiv};
+    ghost use Rattle.std.proofs.Common.{refl};
     ghost use Rattle.cal_hijri.specs.HijriRows.{years_of};
     ghost use Rattle.cal_hijri.specs.SameRows.{are_same_rows};
     ghost use Rattle.cal_hijri.specs.laws.TableRuleLaws.{same_rows-equivalence, table-joins, table-numbered, table-references, table-shared};
@@ -178,4 +186,8 @@ impl<'t, P: TablePurpose> Rules for TableRules<'t, P> {
     ghost alike = { on_equiv (λ s. years_of s.table.rows.now) same_rows-equivalence };
 
     ghost shared = { λ s t y h _. table-shared (years_of s.table.rows.now) (years_of t.table.rows.now) y h };
+
+    ghost shared_references = { λ _ _ _ _ _. refl };
+
+    ghost shared_names = { λ _ _ _. (refl, refl) };
 }

@@ -17,7 +17,7 @@ use cal_types::{
     Month,
 };
 
-/// Which of 30 years are leap years.
+/// The rule of leap years: which of 30 years are leap years.
 #[derive(Clone, Copy, Debug, PartialEq, Eq, PartialOrd, Ord, Hash)]
 pub enum TabularAlgorithmLeapYears {
     /// The years 2, 5, 7, 10, 13, 16, 18, 21, 24, 26 and 29.
@@ -26,7 +26,7 @@ pub enum TabularAlgorithmLeapYears {
     TypeI,
 }
 
-/// The day on which year 1 starts.
+/// The epoch: the first day of year 1.
 #[derive(Clone, Copy, Debug, PartialEq, Eq, PartialOrd, Ord, Hash)]
 pub enum TabularAlgorithmEpoch {
     /// Thursday, July 15, 622 in the Julian calendar.
@@ -35,11 +35,12 @@ pub enum TabularAlgorithmEpoch {
     Friday,
 }
 
-/// The tabular rules: odd months have 30 days and even ones 29, and the last month of a leap year has 30.
+/// The tabular rules: odd months have 30 days and even months 29, and the last month of a leap year has 30.
 ///
-/// CLDR's name for the calendar with the leap years of type II is `islamic-civil` where year 1 starts on a Friday,
-/// and `islamic-tbla` where it starts on a Thursday. Dates under two such rules can be compared where the rules are
-/// the same.
+/// CLDR's name for the calendar with the leap years of type II is `islamic-civil` with the epoch Friday, and
+/// `islamic-tbla` with the epoch Thursday. Dates under two such rules can be compared if the rules are the same.
+///
+/// Rules are ordered by the leap years, then by the epoch, each in the order of its variants.
 #[derive(Clone, Copy, Debug, PartialEq, Eq, PartialOrd, Ord, Hash)]
 pub struct TabularAlgorithm {
     leap_years: TabularAlgorithmLeapYears,
@@ -47,7 +48,7 @@ pub struct TabularAlgorithm {
 }
 
 impl TabularAlgorithm {
-    /// The rules with these leap years, from this day on.
+    /// Creates the rules with a rule of leap years and an epoch.
     ///
     /// ```
     /// let rules = TabularAlgorithm::new(
@@ -68,14 +69,14 @@ impl TabularAlgorithm {
     }
 }
 
-/// The leap years of tabular rules.
+/// Returns the rule of leap years of tabular rules.
 pub fn leap_years_of(rules: TabularAlgorithm) -> TabularAlgorithmLeapYears
     ensures { result ≡ rules.leap_years }
 {
     rules.leap_years
 }
 
-/// The day on which year 1 of tabular rules starts.
+/// Returns the epoch of tabular rules.
 pub fn epoch_of(rules: TabularAlgorithm) -> TabularAlgorithmEpoch
     ensures { result ≡ rules.epoch }
 {
@@ -83,7 +84,7 @@ pub fn epoch_of(rules: TabularAlgorithm) -> TabularAlgorithmEpoch
 }
 
 impl TabularAlgorithmEpoch {
-    /// The day number of the day.
+    /// Returns the day number of the epoch.
     fn to_i64_date(self) -> i64
         ensures day { result ≡ epoch_day self }
         ensures known { IsIslamicEpoch result }
@@ -96,7 +97,7 @@ impl TabularAlgorithmEpoch {
 }
 
 impl TabularAlgorithmLeapYears {
-    /// Whether a year has 355 days and not 354.
+    /// Returns whether a year is a leap year, of 355 days.
     fn is_leap_year(self, year: i32) -> bool
         ensures { IsTrue result ↔ IsTrue (is_leap self year) }
     {
@@ -106,7 +107,7 @@ impl TabularAlgorithmLeapYears {
         }
     }
 
-    /// The months of a year that have 30 days, as bits, the first month's the lowest.
+    /// Returns the bits of the months of 30 days.
     fn long_months(self, year: i32) -> u16
         ensures { result ≡ long_by (is_leap self year) }
     {
@@ -118,7 +119,7 @@ impl TabularAlgorithmLeapYears {
     }
 }
 
-/// The day number of the first day of an extended year from -8000000 to 8000000.
+/// Returns the day number of the first day of an extended year from -8000000 to 8000000.
 fn year_start(rules: TabularAlgorithm, extended_year: i32) -> i64
     requires { IsRuleYear extended_year }
     ensures { result ≡ tabular_start rules extended_year }
@@ -132,7 +133,7 @@ fn year_start(rules: TabularAlgorithm, extended_year: i32) -> i64
     }
 }
 
-/// The tabular year of an extended year from -8000000 to 8000000.
+/// Returns the tabular year of an extended year from -8000000 to 8000000.
 pub(crate) fn tabular_year(rules: TabularAlgorithm, extended_year: i32) -> HijriYear
     requires { IsRuleYear extended_year }
     ensures { result ≡ tabular_year rules extended_year }
@@ -144,8 +145,8 @@ pub(crate) fn tabular_year(rules: TabularAlgorithm, extended_year: i32) -> Hijri
     }
 }
 
-/// The reference year of a day of a month, 1 to 12: the latest year in which it falls on or before 1972-12-31 of
-/// the ISO calendar.
+/// Returns the reference year of a day of a month, 1 to 12: the latest year in which it falls on or before 1972-12-31
+/// of the ISO calendar.
 pub(crate) fn reference_year(epoch: TabularAlgorithmEpoch, month: u8, day: u8) -> i32
     ensures { result ≡ tabular_reference_year epoch month day }
 {
@@ -166,7 +167,7 @@ impl UnstableSealed for TabularAlgorithm {}
 
 impl Rules for TabularAlgorithm {
     ghost use Rattle.cal_hijri.specs.TabularRules.{tabular_reference, are_same_rules, algorithm_of_rules, name_of_rules};
-    ghost use Rattle.cal_hijri.specs.laws.TabularRuleLaws.{same_rules-equivalence, tabular-numbered, tabular-joins, tabular-references, tabular-shared};
+    ghost use Rattle.cal_hijri.specs.laws.TabularRuleLaws.{same_rules-equivalence, tabular-numbered, tabular-joins, tabular-references, tabular-shared, tabular-shared_names, tabular-shared_references};
 
     type DateCompatibilityError = MismatchedCalendarError;
 
@@ -236,4 +237,8 @@ impl Rules for TabularAlgorithm {
     ghost alike = { same_rules-equivalence };
 
     ghost shared = { λ s t y h _. tabular-shared s t y h };
+
+    ghost shared_references = { λ s t m d h. tabular-shared_references s t m d h };
+
+    ghost shared_names = { λ s t h. tabular-shared_names s t h };
 }

@@ -11,7 +11,7 @@ use Rattle.cal_types.proofs.DateTests.{and-left, and-right, true-and}
 use Rattle.cal_types.specs.laws.RowLaws.{row_before-next}
 use Rattle.cal_julian.specs.PersianAccepted.{IsListed, year_before, is_above, AreCorrections}
 use Rattle.cal_julian.specs.PersianRule.{AreCorrectable, IsRising, is_correctable}
-use Rattle.cal_errors.specs.declared.errors.TablePart.TheVariants.{Year, Join, End, Leap, Rule}
+use Rattle.cal_errors.specs.declared.errors.TablePart.TheVariants.{Range, Year, Join, End, Leap, Rule}
 
 differ : {P : Type 0} (b : Bool) → b ≡ true → b ≡ false → P
 differ b on off = let e : true ≡ false = sym on ∙ off in absurd cc
@@ -69,6 +69,7 @@ module _ (years : List ℤ) (rising : IsRising years) (known : AreCorrectable ye
 
   -- years that rise and may be corrected are accepted
   pub rising-accepted : AreCorrections years
+  rising-accepted i y h Range = refl
   rising-accepted i y h Year =
       let may = each_passes is_correctable years known i y h in
       true-and (is_between (pos 1) (pos 9999) y) (is_above (year_before years i) y) (and-left (is_between (pos 1) (pos 9999) y) (persian_leap y) may) (above i y h)

@@ -5,7 +5,7 @@ use Rattle.cal_days.specs.Persian.{persian_leap}
 use Rattle.cal_types.specs.Rows as rows
 use Rattle.cal_types.specs.Faults as faults
 use Rattle.cal_errors.specs.declared.errors.TablePart.{TablePart}
-use Rattle.cal_errors.specs.declared.errors.TablePart.TheVariants.{Year, Join, End, Leap, Rule}
+use Rattle.cal_errors.specs.declared.errors.TablePart.TheVariants.{Range, Year, Join, End, Leap, Rule}
 use Rattle.cal_errors.specs.declared.errors.TableFault.{TableFault}
 
 -- year i of those that are listed, counted from 0
@@ -23,8 +23,9 @@ is_above (Some before) y = int_lt before y
 
 -- whether a year meets a part, after the one before it. Year: it is from 1 to 9999 and above that one.
 -- Rule: the rule makes it a leap year.
--- A year has no start, so it has nothing to join, and no leap months
+-- A year is a plain number, which is in range. It has no start, so it has nothing to join, and no leap months
 abbrev pub meets : Option ℤ → ℤ → TablePart → Bool
+meets before y Range = true
 meets before y Year = is_between (pos 1) (pos 9999) y && is_above before y
 meets before y Join = true
 meets before y End = true

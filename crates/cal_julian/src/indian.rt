@@ -41,7 +41,7 @@ const VAISAKHA_AFTER_MARCH: u16 = 51;
 pub struct Indian;
 
 impl Indian {
-    /// The Indian national calendar.
+    /// Returns the Indian national calendar.
     ///
     /// ```
     /// let date = Date::from_rata_die(RataDie::new(738946), Indian::new());
@@ -56,7 +56,7 @@ impl Indian {
 #[derive(Clone, Copy, Debug, PartialEq, Eq, PartialOrd, Ord, Hash)]
 pub struct IndianDateInner(ArithmeticDate<Indian>);
 
-/// Whether the year has 366 days.
+/// Returns whether the year has 366 days.
 fn is_leap(year: NumberedYear) -> bool
     requires { IsRuleYear year.number }
     ensures { IsTrue result ↔ IsTrue (indian_leap year.number) }
@@ -64,7 +64,7 @@ fn is_leap(year: NumberedYear) -> bool
     gregorian::is_leap_year(year.number + YEARS_BEHIND)
 }
 
-/// The days of a month, 1 to 12. Only the first asks whether the year is a leap year.
+/// Returns the days of a month, 1 to 12. Only the first asks whether the year is a leap year.
 fn days_in_month_of(year: NumberedYear, month: u8) -> u8
     requires year { IsRuleYear year.number }
     requires month { (1 ≤ month) × (month ≤ 12) }
@@ -77,7 +77,7 @@ fn days_in_month_of(year: NumberedYear, month: u8) -> u8
     }
 }
 
-/// The days of a month, 1 to 12, in a leap year or a common one.
+/// Returns the days of a month, 1 to 12, in a leap year or a common one.
 fn days_in_month(leap: bool, month: u8) -> u8
     requires { (1 ≤ month) × (month ≤ 12) }
     ensures { result ≡ indian_month_length leap month }
@@ -90,7 +90,8 @@ fn days_in_month(leap: bool, month: u8) -> u8
     }
 }
 
-/// The year on whose first day of Vaisakha a month's year begins, and the month as such years count it, 2 to 13.
+/// Returns the year on whose first day of Vaisakha a month's year begins, and the month as such years count it, 2 to
+/// 13.
 fn in_vaisakha_year(year: i32, month: u8) -> (i32, u8)
     requires year { IsRuleYear year }
     requires month { (1 ≤ month) × (month ≤ 12) }
@@ -106,8 +107,8 @@ fn in_vaisakha_year(year: i32, month: u8) -> (i32, u8)
     }
 }
 
-/// The days from the first day of Vaisakha to that of a month, 2 to 12, or of 13, which is the first of the next
-/// year.
+/// Returns the days from the first day of Vaisakha to that of a month, 2 to 12, or of 13, which is the first of the
+/// next year.
 fn days_from_vaisakha(month: u8) -> u16
     requires { (2 ≤ month) × (month ≤ 13) }
     ensures value { result ≡ vaisakha_days_before month }
@@ -117,7 +118,8 @@ fn days_from_vaisakha(month: u8) -> u16
     30 * months + months.min(5)
 }
 
-/// The month, 2 to 12, and the day of the month, of a day that lies 0 to 334 days after the first day of Vaisakha.
+/// Returns the month, 2 to 12, and the day of the month, of a day that lies 0 to 334 days after the first day of
+/// Vaisakha.
 fn month_and_day_from_vaisakha(day: u16) -> (u8, u8)
     requires { day < 335 }
     ensures month { (2 ≤ result.0) × (result.0 ≤ 12) }
@@ -133,7 +135,7 @@ fn month_and_day_from_vaisakha(day: u16) -> (u8, u8)
     }
 }
 
-/// The day number of a date of a year from -8000000 to 8000000.
+/// Returns the day number of a date of a year from -8000000 to 8000000.
 fn day_number(year: i32, month: u8, day: u8) -> i64
     requires year { IsRuleYear year }
     requires date { IsDate indian_list (date year month day) }
@@ -145,7 +147,7 @@ fn day_number(year: i32, month: u8, day: u8) -> i64
     gregorian::march_start(vaisakha_year + YEARS_BEHIND).to_i64_date() + i64::from(before)
 }
 
-/// The date of a valid day: the year, the month and the day of the month.
+/// Returns the date of a valid day: the year, the month and the day of the month.
 fn date_on(rd: RataDie) -> (i32, u8, u8)
     requires { IsValidDay rd }
     ensures on { IsOn indian_list rd (date result.0 result.1 result.2) }
@@ -159,7 +161,7 @@ fn date_on(rd: RataDie) -> (i32, u8, u8)
     (march_year - YEARS_BEHIND, month, day)
 }
 
-/// The date of a day that lies 0 to 50 days after March 1 of a Gregorian year.
+/// Returns the date of a day that lies 0 to 50 days after March 1 of a Gregorian year.
 fn date_before_vaisakha(march_year: i32, since_march: u8) -> (i32, u8, u8)
     requires year { IsBetween (neg_ℤ (pos 1000000)) (pos 999999) march_year }
     requires day { since_march < 51 }
@@ -176,7 +178,7 @@ fn date_before_vaisakha(march_year: i32, since_march: u8) -> (i32, u8, u8)
     }
 }
 
-/// The leap days of a Gregorian year, 0 or 1.
+/// Returns the leap days of a Gregorian year, 0 or 1.
 fn leap_days(gregorian_year: i32) -> u8
     ensures { result ≡ (if gregorian_leap gregorian_year then 1 else 0) }
 {
@@ -294,8 +296,8 @@ impl Years for Indian {
     }
 }
 
-/// The reference year of a day of a month, 1 to 12: the latest year in which it falls on or before 1972-12-31 of
-/// the ISO calendar.
+/// Returns the reference year of a day of a month, 1 to 12: the latest year in which it falls on or before 1972-12-31
+/// of the ISO calendar.
 fn reference_year(month: u8, day: u8) -> i32
     ensures year { result ≡ indian_reference_year month day }
     ensures range { IsRuleYear result }
@@ -508,6 +510,7 @@ impl Calendar for Indian {
         Arithmetic(*self).day_of_year(&date.0)
     }
 
+    #[inline(always)]
     fn add(
         &self,
         date: &IndianDateInner,

@@ -37,7 +37,7 @@ use std::sync::ledger::Ledger;
 pub struct Julian;
 
 impl Julian {
-    /// The Julian calendar.
+    /// Returns the Julian calendar.
     ///
     /// ```
     /// let date = Date::from_rata_die(RataDie::new(738946), Julian::new());
@@ -52,7 +52,7 @@ impl Julian {
 #[derive(Clone, Copy, Debug, PartialEq, Eq, PartialOrd, Ord, Hash)]
 pub struct JulianDateInner(ArithmeticDate<Julian>);
 
-/// Whether the year has 366 days.
+/// Returns whether the year has 366 days.
 fn is_leap(year: NumberedYear) -> bool
     requires { IsRuleYear year.number }
     ensures { IsTrue result ↔ IsTrue (julian_leap year.number) }
@@ -60,7 +60,7 @@ fn is_leap(year: NumberedYear) -> bool
     julian::is_leap_year(year.number)
 }
 
-/// The days of a month, 1 to 12. Only February asks whether the year is a leap year.
+/// Returns the days of a month, 1 to 12. Only February asks whether the year is a leap year.
 fn days_in_month_of(year: NumberedYear, month: u8) -> u8
     requires year { IsRuleYear year.number }
     requires month { (1 ≤ month) × (month ≤ 12) }
@@ -69,7 +69,7 @@ fn days_in_month_of(year: NumberedYear, month: u8) -> u8
     days_in_month(month == 2 && is_leap(year), month)
 }
 
-/// The day number of a date of a year from -8000000 to 8000000.
+/// Returns the day number of a date of a year from -8000000 to 8000000.
 fn day_number(year: i32, month: u8, day: u8) -> i64
     requires year { IsRuleYear year }
     requires date { IsDate julian_list (date year month day) }
@@ -81,7 +81,7 @@ fn day_number(year: i32, month: u8, day: u8) -> i64
     julian::march_start(march_year).to_i64_date() + i64::from(before)
 }
 
-/// The date of a valid day: the year, the ordinal month and the day of the month.
+/// Returns the date of a valid day: the year, the ordinal month and the day of the month.
 fn date_on(rd: RataDie) -> (i32, u8, u8)
     requires { IsValidDay rd }
     ensures on { IsOn julian_list rd (date result.0 result.1 result.2) }
@@ -203,8 +203,8 @@ impl Years for Julian {
     }
 }
 
-/// The reference year of a day of a month, 1 to 12: the latest year in which it falls on or before 1972-12-31 of
-/// the ISO calendar.
+/// Returns the reference year of a day of a month, 1 to 12: the latest year in which it falls on or before 1972-12-31
+/// of the ISO calendar.
 fn reference_year(month: u8, day: u8) -> i32
     ensures year { result ≡ julian_reference_year month day }
     ensures range { IsRuleYear result }
@@ -254,7 +254,7 @@ impl DateFieldsResolver for Julian {
         (julian_reference_year m.number d) e };
 }
 
-/// An extended year in its era: `ce`, or `bce` before year 1 (CLDR, UTS 35).
+/// Returns an extended year in its era: `ce`, or `bce` before year 1 (CLDR, UTS 35).
 fn era_year(year: i32) -> EraYear
     requires { IsFieldYear year }
     ensures { result ≡ julian_era_year year }
@@ -430,6 +430,7 @@ impl Calendar for Julian {
         Arithmetic(*self).day_of_year(&date.0)
     }
 
+    #[inline(always)]
     fn add(
         &self,
         date: &JulianDateInner,

@@ -2,7 +2,7 @@
 
 ghost use Rattle.std.specs.Prelude.{◌≡◌, ◌+◌, ◌<◌, ◌/◌, ◌%◌};
 
-/// How many of six months of 31 days have passed, and the day of the month, of a day that is counted from 0.
+/// Returns how many of six months of 31 days have passed, and the day of the month, of a day that is counted from 0.
 pub fn months_and_day(day: u16) -> (u8, u8)
     requires { day < 186 }
     ensures months { result.0 ≡ day / 31 }

@@ -26,14 +26,14 @@ use std::sync::ledger::Ledger;
 /// A year has six months of 31 days, five of 30, and a last one of 29 or, in leap years, 30. Of 33 years 8 are leap
 /// years, but for the years that are corrected. Its one era has the code `ap`, and the year in it is the extended
 /// year (CLDR, UTS 35). The reference year of a day is 1351, and 1350 from month 10, day 11 on. CLDR's name for it
-/// is `persian`. Dates of two such calendars can be compared where the same years are corrected in both.
+/// is `persian`. Dates of two such calendars can be compared if the same years are corrected in both.
 #[derive(Clone, Copy, Debug)]
 pub struct Persian<'t> {
     corrections: PersianCorrections<'t>,
 }
 
 impl<'t> Persian<'t> {
-    /// The Persian calendar with these corrections.
+    /// Returns the Persian calendar with these corrections.
     ///
     /// ```
     /// let persian = Persian::new(PersianCorrections::none());
@@ -167,8 +167,8 @@ impl<'t> Years for Persian<'t> {
     }
 }
 
-/// The reference year of a day of a month, 1 to 12: the latest year in which it falls on or before 1972-12-31 of
-/// the ISO calendar.
+/// Returns the reference year of a day of a month, 1 to 12: the latest year in which it falls on or before 1972-12-31
+/// of the ISO calendar.
 fn reference_year(month: u8, day: u8) -> i32
     ensures year { result ≡ persian_reference_year month day }
     ensures range { IsRuleYear result }
@@ -389,6 +389,7 @@ impl<'t> Calendar for Persian<'t> {
         Arithmetic(*self).day_of_year(&date.0)
     }
 
+    #[inline(always)]
     fn add(
         &self,
         date: &PersianDateInner<'t>,

@@ -23,7 +23,7 @@ pub struct PersianCorrections<'t> {
 }
 
 impl<'t> PersianCorrections<'t> {
-    /// No corrections: every year goes by the rule.
+    /// Returns no corrections: every year goes by the rule.
     ///
     /// ```
     /// assert!(rt; PersianCorrections::none().years().is_empty());
@@ -34,8 +34,8 @@ impl<'t> PersianCorrections<'t> {
         PersianCorrections { years: &[] }
     }
 
-    /// The corrections of years that are known to be accepted, as those of constant data can be by computation. No
-    /// year is looked at.
+    /// Returns the corrections of years that are known to be accepted, as those of constant data can be by computation.
+    /// No year is looked at.
     ///
     /// ```text
     /// static YEARS: [i32; 78] = ..; // 1502 to 2987
@@ -48,11 +48,13 @@ impl<'t> PersianCorrections<'t> {
         PersianCorrections { years }
     }
 
-    /// The corrections of these years.
+    /// Creates the corrections of some years.
     ///
-    /// A [`TableFault`] names the first row, counted from 1, whose year isn't as it is to be, and the first part that
-    /// breaks there: [`TablePart::Year`] where the year isn't from 1 to 9999, or isn't above the year before it;
-    /// [`TablePart::Rule`] where it isn't a leap year by the rule of 33 years.
+    /// # Errors
+    ///
+    /// - [`TableFault`] names the first invalid row, counted from 1, and the first part that breaks there:
+    ///   [`TablePart::Year`] if the year isn't from 1 to 9999, or isn't above the year before it;
+    ///   [`TablePart::Rule`] if it isn't a leap year by the rule of 33 years.
     ///
     /// ```
     /// let corrections = PersianCorrections::try_new(&[1502])?;
@@ -69,7 +71,7 @@ impl<'t> PersianCorrections<'t> {
         }
     }
 
-    /// The corrected years.
+    /// Returns the corrected years.
     ///
     /// ```
     /// let corrections = PersianCorrections::try_new(&[1502])?;
@@ -81,14 +83,14 @@ impl<'t> PersianCorrections<'t> {
         self.years
     }
 
-    /// Whether a year is a corrected one.
+    /// Returns whether a year is a corrected one.
     fn contains(&self, year: i32) -> bool
         ensures { result ≡ is_corrected self.now.years.now year }
     {
         !self.years.is_empty() && self.years.binary_search(&year).is_ok()
     }
 
-    /// Whether a year from -8000000 to 8000000 has 366 days.
+    /// Returns whether a year from -8000000 to 8000000 has 366 days.
     pub(crate) fn is_leap_year(&self, year: i32) -> bool
         requires { IsRuleYear year }
         ensures { IsTrue result ↔ IsTrue (is_persian_leap self.now.years.now year) }
@@ -100,7 +102,7 @@ impl<'t> PersianCorrections<'t> {
         }
     }
 
-    /// The day number of the first day of a year from -8000000 to 8000000.
+    /// Returns the day number of the first day of a year from -8000000 to 8000000.
     pub(crate) fn year_start(&self, year: i32) -> i64
         requires { IsRuleYear year }
         ensures { result ≡ persian_new_year self.now.years.now year }
@@ -113,7 +115,8 @@ impl<'t> PersianCorrections<'t> {
         }
     }
 
-    /// The year that contains a valid day, -365242499 to 365242134, and how many of its days lie before that day.
+    /// Returns the year that contains a valid day, -365242499 to 365242134, and how many of its days lie before that
+    /// day.
     pub(crate) fn year_and_day_from_fixed(&self, rd: RataDie) -> (i32, u16)
         requires { IsValidDay rd }
         ensures day { persian_new_year self.now.years.now result.0 +ℤ pos result.1 ≡ rd }
@@ -150,7 +153,7 @@ impl<'t> PersianCorrections<'t> {
     }
 }
 
-/// The first part that a year breaks, after the year before it, if there is one.
+/// Returns the first part that a year breaks, after the year before it, if there is one.
 fn first_broken(before: Option<i32>, year: i32) -> Option<TablePart>
     ensures { MatchOption result (MeetsAll before year) (IsFirstBroken before year) }
 {
@@ -163,7 +166,7 @@ fn first_broken(before: Option<i32>, year: i32) -> Option<TablePart>
     None
 }
 
-/// Whether a year is from 1 to 9999, and above the year before it, if there is one.
+/// Returns whether a year is from 1 to 9999, and above the year before it, if there is one.
 fn is_next(before: Option<i32>, year: i32) -> bool
     ensures exact { result ≡ meets before year parts.Year }
     ensures range { IsTrue result → IsBetween (pos 1) (pos 9999) year }
@@ -171,7 +174,7 @@ fn is_next(before: Option<i32>, year: i32) -> bool
     1 <= year && year <= 9999 && is_above(before, year)
 }
 
-/// Whether a year is above the year before it, if there is one.
+/// Returns whether a year is above the year before it, if there is one.
 fn is_above(before: Option<i32>, year: i32) -> bool
     ensures { result ≡ is_above before year }
 {
@@ -181,7 +184,7 @@ fn is_above(before: Option<i32>, year: i32) -> bool
     }
 }
 
-/// Whether years are accepted; if not, the first year and its first part that break.
+/// Returns whether years are accepted; if not, the first year and its first part that break.
 fn check(years: &[i32]) -> Result<(), TableFault>
     ensures first { MatchResult result (λ _. AreCorrections years.now) (IsFirstFault years.now) }
     ensures exact { IsOk result ↔ AreCorrections years.now }

@@ -22,7 +22,7 @@ const YEARS_BEFORE: i32 = 1023000;
 /// The days of these years.
 const DAYS_BEFORE: i64 = 373643000;
 
-/// The year that contains a valid day, -365242499 to 365242134, and how many of its days lie before that day.
+/// Returns the year that contains a valid day, -365242499 to 365242134, and how many of its days lie before that day.
 #[tactic(auto, using(cal_days::proofs::Signed::signed_casts))]
 pub fn year_and_day_from_fixed(rd: RataDie) -> (i32, u16)
     requires { IsValidDay rd }

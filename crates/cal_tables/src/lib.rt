@@ -1,4 +1,6 @@
-//! The tables that calendars are made with, and the calendar of each kind over them.
+//! The tables of the calendars, and the calendars that use them.
+//!
+//! Start with [`Tables`]: [`Tables::none`] has no rows, and [`Tables::try_new`] collects five tables.
 #![tactic(auto)]
 
 mod tables;

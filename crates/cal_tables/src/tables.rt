@@ -1,4 +1,4 @@
-//! The tables that calendars are made with.
+//! The tables of the calendars.
 
 ghost use Rattle.std.specs.Prelude.{◌≡◌};
 ghost use Rattle.cal_east_asian.specs.declared.sides.Side.TheVariants as side;
@@ -8,8 +8,10 @@ use cal_gregory::{Japanese, JapaneseEras};
 use cal_hijri::{AstronomicalSimulation, Hijri, HijriTable, UmmAlQura};
 use cal_julian::{Persian, PersianCorrections};
 
-/// The tables that calendars are made with: the years of China, of Korea and of Umm al-Qura that stand in place of the
-/// computed ones, the corrected Persian years, and the eras that Japan lists.
+/// The tables that calendars use.
+///
+/// These are the years of China, Korea and Umm al-Qura that replace the computed ones, the corrected Persian years, and
+/// the eras of Japan.
 #[derive(Clone, Copy, Debug)]
 pub struct Tables<'t> {
     china: EastAsianTable<'t>,
@@ -33,7 +35,9 @@ impl<'t> Tables<'t> {
     ghost use Rattle.cal_julian.specs.PersianSystem.{persian_system};
     ghost use Rattle.cal_kinds.specs.declared.any_calendar_kind.AnyCalendarKind.TheVariants as kind;
 
-    /// No table has a row, no Persian year is corrected, and the eras are those up to Reiwa.
+    /// Creates tables without rows or corrected Persian years, and with the eras up to Reiwa.
+    ///
+    /// # Examples
     ///
     /// ```
     /// let computed = AnyCalendar::new(AnyCalendarKind::Chinese, Tables::none());
@@ -51,7 +55,10 @@ impl<'t> Tables<'t> {
         }
     }
 
-    /// These tables. None exactly where the first one isn't China's, or the second one isn't Korea's.
+    /// Creates the collection of five tables. Returns `None` exactly if the first isn't China's or the second isn't
+    /// Korea's.
+    ///
+    /// # Examples
     ///
     /// ```
     /// let tables = Tables::try_new(
@@ -87,7 +94,9 @@ impl<'t> Tables<'t> {
         }
     }
 
-    /// The Chinese calendar, with the rows of China.
+    /// Returns the Chinese calendar, with the rows of China.
+    ///
+    /// # Examples
     ///
     /// ```
     /// let chinese = published::tables().chinese();
@@ -102,7 +111,9 @@ impl<'t> Tables<'t> {
         ChineseTraditional::new(self.china)
     }
 
-    /// The Korean calendar, with the rows of Korea.
+    /// Returns the Korean calendar, with the rows of Korea.
+    ///
+    /// # Examples
     ///
     /// ```
     /// let korean = published::tables().korean();
@@ -117,7 +128,9 @@ impl<'t> Tables<'t> {
         KoreanTraditional::new(self.korea)
     }
 
-    /// The Hijri calendar of Umm al-Qura, with its rows.
+    /// Returns the Hijri calendar of Umm al-Qura, with its rows.
+    ///
+    /// # Examples
     ///
     /// ```
     /// let umm_al_qura = published::tables().umm_al_qura();
@@ -132,7 +145,9 @@ impl<'t> Tables<'t> {
         Hijri::new_umm_al_qura(self.umm_al_qura)
     }
 
-    /// The Hijri calendar as it is simulated for Mecca, which has no rows.
+    /// Returns the simulated Hijri calendar of Mecca, which has no rows.
+    ///
+    /// # Examples
     ///
     /// ```
     /// let date = Date::from_rata_die(RataDie::new(738946), Tables::none().simulated_mecca());
@@ -146,7 +161,9 @@ impl<'t> Tables<'t> {
         Hijri::new_simulated_mecca(HijriTable::none())
     }
 
-    /// The Persian calendar, with the corrected years.
+    /// Returns the Persian calendar, with the corrected years.
+    ///
+    /// # Examples
     ///
     /// ```
     /// let persian = published::tables().persian();
@@ -160,7 +177,9 @@ impl<'t> Tables<'t> {
         Persian::new(self.persian)
     }
 
-    /// The Japanese calendar, with the eras that Japan lists.
+    /// Returns the Japanese calendar, with the listed eras.
+    ///
+    /// # Examples
     ///
     /// ```
     /// let date = Date::from_rata_die(RataDie::new(738946), tables.japanese());

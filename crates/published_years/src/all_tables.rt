@@ -10,7 +10,7 @@ use crate::persian_years::persian_corrections;
 use cal_gregory::JapaneseEras;
 use cal_tables::Tables;
 
-/// The published tables, with the eras of Japan up to Reiwa: what a calendar of any kind is made with.
+/// Returns the published tables, with the eras of Japan up to Reiwa, to create a calendar of any kind.
 ///
 /// ```
 /// let calendar = AnyCalendar::new(AnyCalendarKind::Chinese, published_years::tables());

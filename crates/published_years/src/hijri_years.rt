@@ -2,7 +2,7 @@
 
 ghost use Rattle.std.specs.Prelude.{◌≡◌, map};
 ghost use Rattle.cal_hijri.specs.HijriRows.{years_of};
-ghost use Rattle.cal_hijri.specs.TableAccepted.{IsAccepted};
+ghost use Rattle.cal_hijri.specs.RowsAccepted.{IsAccepted};
 ghost use Rattle.cal_hijri.specs.TableFriday.{friday_year};
 ghost use Rattle.cal_hijri.specs.TableYears.{number_of};
 ghost use Rattle.published_years.specs.Published.{numbers_through};
@@ -10,9 +10,8 @@ ghost use Rattle.published_years.specs.Published.{numbers_through};
 use crate::hijri_data::{FIRST_UMM_AL_QURA_YEAR, LAST_UMM_AL_QURA_YEAR, UMM_AL_QURA};
 use cal_hijri::{Hijri, HijriTable, UmmAlQura};
 
-/// The table of the Umm al-Qura years from [`FIRST_UMM_AL_QURA_YEAR`] to [`LAST_UMM_AL_QURA_YEAR`], 1300 to 1600.
-///
-/// They are those of Java 17 (`HijrahDate`) and of ICU 72 and 78, which are the same.
+/// Returns the table of the Umm al-Qura years from [`FIRST_UMM_AL_QURA_YEAR`] to [`LAST_UMM_AL_QURA_YEAR`], 1300 to 1600
+/// (Java 17, `HijrahDate`; ICU 72 and 78 have the same years).
 ///
 /// ```
 /// let rows = published::umm_al_qura_table().rows();
@@ -21,15 +20,16 @@ use cal_hijri::{Hijri, HijriTable, UmmAlQura};
 /// ```
 pub fn umm_al_qura_table() -> HijriTable<'static>
     ensures rows { result.rows.now ≡ UMM_AL_QURA }
-    ensures accepted { IsAccepted friday_year (years_of UMM_AL_QURA) }
+    ensures accepted { IsAccepted friday_year UMM_AL_QURA }
     ensures years { map number_of (years_of UMM_AL_QURA)
         ≡ numbers_through FIRST_UMM_AL_QURA_YEAR LAST_UMM_AL_QURA_YEAR }
 {
     HijriTable::new(&UMM_AL_QURA)
 }
 
-/// The Hijri calendar of Umm al-Qura with the years that [`umm_al_qura_table`] has. Any other year is the tabular one
-/// of type II, from Friday on.
+/// Returns the Umm al-Qura calendar with the years of [`umm_al_qura_table`].
+///
+/// Any other year is the tabular year of type II with the epoch Friday.
 ///
 /// ```
 /// let umm_al_qura = published_years::umm_al_qura();

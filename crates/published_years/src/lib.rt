@@ -1,15 +1,15 @@
-//! The published years of the calendars that go by tables, as constant data: calendars and tables of them, without
-//! memory or reading.
+//! The published years of the calendars with tables, as constant data: their tables and calendars, which take no memory
+//! and read no file.
 //!
 //! | Calendar | Table | Published years | Where they come from |
 //! |---|---|---|---|
 //! | [`chinese`] | [`china_table`] | 1912 to 2099 | the rule of GB/T 33661-2017, at 8 hours from Greenwich throughout |
 //! | [`korean`] | [`korea_table`] | 1912 to 2097 | the same rule at 9 hours from Greenwich |
-//! | [`umm_al_qura`] | [`umm_al_qura_table`] | 1300 to 1600 | as Java 17 and ICU 78 have them |
-//! | [`persian`] | [`persian_corrections`] | 78 corrections from 1502 to 2987 | as ICU 78 has them |
+//! | [`umm_al_qura`] | [`umm_al_qura_table`] | 1300 to 1600 | the years of Java 17 and ICU 78 |
+//! | [`persian`] | [`persian_corrections`] | 78 corrections from 1502 to 2987 | the corrections of ICU 78 |
 //!
-//! Any other year is the computed one, as its calendar says. [`tables`] has all of them, for a calendar that is chosen
-//! at run time.
+//! Any other year is computed, as its calendar describes. [`tables`] returns all of the tables, for a calendar that is
+//! chosen at run time.
 #![tactic(auto)]
 
 mod all_tables;

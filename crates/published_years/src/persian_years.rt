@@ -1,16 +1,18 @@
 //! The corrected Persian years.
 
-ghost use Rattle.std.specs.Prelude.{◌≡◌};
+ghost use Rattle.std.specs.Prelude.{◌≡◌, Some, length, slice_get};
 ghost use Rattle.cal_julian.specs.PersianAccepted.{AreCorrections};
 
-use crate::persian_data::CORRECTED_YEARS;
+use crate::persian_data::{
+    CORRECTED_YEARS, FIRST_CORRECTED_PERSIAN_YEAR, LAST_CORRECTED_PERSIAN_YEAR,
+};
 use cal_julian::{Persian, PersianCorrections};
 
-/// The 78 years that the rule of 33 years makes leap years and the astronomical calendar doesn't: the year after each
-/// is the leap year.
+/// Returns the corrections of the Persian calendar: 78 years that are leap years by the rule of 33 years, but not in the
+/// astronomical calendar. The year after each of them is the leap year.
 ///
 /// The first is [`FIRST_CORRECTED_PERSIAN_YEAR`](crate::FIRST_CORRECTED_PERSIAN_YEAR), 1502, and the last
-/// [`LAST_CORRECTED_PERSIAN_YEAR`](crate::LAST_CORRECTED_PERSIAN_YEAR), 2987. ICU 78 has the same 78.
+/// [`LAST_CORRECTED_PERSIAN_YEAR`](crate::LAST_CORRECTED_PERSIAN_YEAR), 2987. ICU 78 has the same years.
 ///
 /// ```
 /// let persian = Persian::new(published_years::persian_corrections());
@@ -20,12 +22,16 @@ use cal_julian::{Persian, PersianCorrections};
 pub fn persian_corrections() -> PersianCorrections<'static>
     ensures years { result.years.now ≡ CORRECTED_YEARS }
     ensures accepted { AreCorrections CORRECTED_YEARS }
+    ensures first { slice_get CORRECTED_YEARS 0 ≡ Some FIRST_CORRECTED_PERSIAN_YEAR }
+    ensures last { slice_get CORRECTED_YEARS 77 ≡ Some LAST_CORRECTED_PERSIAN_YEAR }
+    ensures count { length CORRECTED_YEARS ≡ 78 }
 {
     PersianCorrections::new(&CORRECTED_YEARS)
 }
 
-/// The Persian calendar with the corrections that [`persian_corrections`] has. Before and after them it goes by the
-/// rule of 33 years alone; from 1350 to 3000 it has the new years of ICU 78.
+/// Returns the Persian calendar with the corrections of [`persian_corrections`].
+///
+/// Before and after them it uses the rule of 33 years alone. From 1350 to 3000 it has the new years of ICU 78.
 ///
 /// ```
 /// let persian = published_years::persian();

@@ -9,7 +9,9 @@ use Rattle.cal_types.specs.CalendarList.{Date}
 use Rattle.cal_types.specs.Eras.{common_era_reads}
 use Rattle.cal_types.specs.YearNames.{is_code}
 use Rattle.cal_types.proofs.DateTests.{and-left}
-use Rattle.cal_types.proofs.EraLemmas.{common_era_reads-in_range, common_era_reads-covered}
+use Rattle.cal_types.proofs.EraLemmas.{common_era_reads-in_range}
+use Rattle.cal_base.specs.OffsetList.{IsNearEra}
+use Rattle.cal_base.specs.laws.EraYearLaws.{common_era_reads-near, near_era-covered}
 use Rattle.cal_gregory.specs.laws.CommonEraLaws.{common_era_year-named, either_extended}
 use Rattle.cal_gregory.specs.JapaneseEraList.{IsStartYear, ListedEra, last_era, has_started, year_of_era, japanese_reads, is_early_meiji, year_printed, japanese_era_year}
 use Rattle.cal_gregory.specs.JapaneseEras.{later_eras, listed_eras}
@@ -85,11 +87,15 @@ japanese_reads-in_range eras era n y h e =
     (λ z same. common_era_reads-in_range era n z h same)
     (λ s near. (omega (arith, signed, h, near), omega (arith, signed, h, near))) y e
 
-pub japanese_reads-covered : (eras : JapaneseEras) (era : List ℕ) (n y : ℤ) → IsConstructorYear n → japanese_reads (listed_eras eras) era n ≡ Some y → IsCoveredYear y
-japanese_reads-covered eras era n y h e =
-    by_eras IsCoveredYear n (common_era_reads era n) (last_era (λ e. is_code era e.1) (listed_eras eras)) (listed-near (λ e. is_code era e.1) eras)
-    (λ z same. common_era_reads-covered era n z h same)
+pub japanese_reads-near : (eras : JapaneseEras) (era : List ℕ) (n y : ℤ) → IsConstructorYear n → japanese_reads (listed_eras eras) era n ≡ Some y → IsNearEra y
+japanese_reads-near eras era n y h e =
+    by_eras IsNearEra n (common_era_reads era n) (last_era (λ e. is_code era e.1) (listed_eras eras)) (listed-near (λ e. is_code era e.1) eras)
+    (λ z same. common_era_reads-near era n z h same)
     (λ s near. (omega (arith, signed, h, near), omega (arith, signed, h, near))) y e
+
+-- so their days are valid
+pub japanese_reads-covered : (eras : JapaneseEras) (era : List ℕ) (n y : ℤ) → IsConstructorYear n → japanese_reads (listed_eras eras) era n ≡ Some y → IsCoveredYear y
+japanese_reads-covered eras era n y h e = near_era-covered y (japanese_reads-near eras era n y h e)
 
 printed_named : (found : Option ListedEra) (y : ℤ) → (year_printed found y).extended_year ≡ y
 printed_named None y = common_era_year-named y

@@ -9,7 +9,7 @@ use super::{ListedDate, ListedMonth, ListedYears};
 use cal_types::DateDuration;
 
 impl<'a> ListedYears<'a> {
-    /// The day number of a date. `None` exactly where its year isn't listed or has no such date.
+    /// Returns the day number of a date. `None` exactly if its year isn't listed or has no such date.
     pub fn day_number(&self, date: ListedDate) -> Option<i64>
         ensures { IsDayNumberOf self.now (date_of date) result }
     {
@@ -17,7 +17,7 @@ impl<'a> ListedYears<'a> {
         Some(self.first_day + i64::from(days))
     }
 
-    /// The date of a day number. `None` exactly where it isn't a day of the listed years.
+    /// Returns the date of a day number. `None` exactly if it isn't a day of the listed years.
     pub fn date_on(&self, day: i64) -> Option<ListedDate>
         ensures { IsDateOn self.now day result }
     {
@@ -42,7 +42,7 @@ impl<'a> ListedYears<'a> {
         unreachable!()
     }
 
-    /// The difference of two dates in days. `None` exactly where one of them isn't a date of a listed year.
+    /// Returns the difference of two dates in days. `None` exactly if one of them isn't a date of a listed year.
     pub fn difference_in_days(&self, from: ListedDate, to: ListedDate) -> Option<DateDuration>
         ensures { IsDifferenceOf self.now (date_of from) (date_of to) Days result }
     {
@@ -57,7 +57,7 @@ impl<'a> ListedYears<'a> {
         })
     }
 
-    /// How many days after the first day a date lies. `None` exactly where its year isn't listed or has no
+    /// Returns how many days after the first day a date lies. `None` exactly if its year isn't listed or has no
     /// such date.
     fn days_after_first(&self, date: ListedDate) -> Option<u32>
         ensures value { IsDaysAfterFirst self.now (date_of date) result }
@@ -87,7 +87,7 @@ impl<'a> ListedYears<'a> {
         }
     }
 
-    /// The days of the listed years before the one at `index`.
+    /// Returns the days of the listed years before the one at `index`.
     fn days_before_year(&self, index: usize) -> u32
         requires { index ≤ length self.now.years.now }
         ensures value { result ≡ days_in_years (take index self.now.years.now) }
@@ -101,7 +101,7 @@ impl<'a> ListedYears<'a> {
     }
 }
 
-/// The days of at most 13 months.
+/// Returns the days of at most 13 months.
 fn days_in(months: &[ListedMonth]) -> u32
     requires { length months.now ≤ 13 }
     ensures value { result ≡ days_in months.now }
@@ -114,7 +114,7 @@ fn days_in(months: &[ListedMonth]) -> u32
     days
 }
 
-/// The place of the month, from 1, and the day of it that comes after `passed` days of some months.
+/// Returns the place of the month, from 1, and the day of it that comes after `passed` days of some months.
 fn place_and_day(months: &[ListedMonth], passed: u32) -> (u8, u8)
     requires few { length months.now ≤ 13 }
     requires within { passed < days_in months.now }

@@ -8,7 +8,7 @@ use Rattle.cal_east_asian.proofs.table_months.months_beside_rows.Goals as goal
 
 pub overflow_cast-rows : goal.overflow_cast-rows
 overflow_cast-rows c =
-    let many = ap (λ (xs : List EastAsianRow). length xs) c.rows.ensures in
+    let many = ap (λ (xs : List EastAsianRow). length xs) c.rows.ensures.rows in
     omega (arith, signed, few-rows c.args.table.now, many)
 
 -- a small number as a signed one
@@ -17,7 +17,7 @@ signed_length n m e few = omega (arith, signed_casts, e, few)
 
 pub overflow_add-first : goal.overflow_add-first
 overflow_add-first c =
-    let many = ap (λ (xs : List EastAsianRow). length xs) c.rows.ensures in
+    let many = ap (λ (xs : List EastAsianRow). length xs) c.rows.ensures.rows in
     omega (arith, signed, signed_length (length c.rows.result.now) (length c.args.table.now.rows.now) many (few-rows c.args.table.now), few-rows c.args.table.now, first-rule c.args.table.now c.args.first c.requires.first)
 
 pub months_without_rows-requires-clause-computed : goal.months_without_rows-requires-clause-computed
@@ -31,7 +31,7 @@ pub months_of_rows-requires-clause-places : goal.months_of_rows-requires-clause-
 months_of_rows-requires-clause-places c lt =
     let start = c.nearest_year-start.ensures in
     let end = c.nearest_year-end.ensures in
-    let many = ap (λ (xs : List EastAsianRow). length xs) c.rows.ensures in
+    let many = ap (λ (xs : List EastAsianRow). length xs) c.rows.ensures.rows in
     let few = few-rows c.args.table.now in
     let rows = signed_length (length c.rows.result.now) (length c.args.table.now.rows.now) many few in
     let rule = first-rule c.args.table.now c.args.first c.requires.first in
@@ -57,7 +57,7 @@ months_without_rows-requires-2-clause-computed c y low high =
     let start = c.nearest_year-start.ensures in
     let end = c.nearest_year-end.ensures in
     let first = c.requires.first in
-    let many = ap (λ (xs : List EastAsianRow). length xs) c.rows.ensures in
+    let many = ap (λ (xs : List EastAsianRow). length xs) c.rows.ensures.rows in
     let few = few-rows c.args.table.now in
     let rows = signed_length (length c.rows.result.now) (length c.args.table.now.rows.now) many few in
     let rule = first-rule c.args.table.now c.args.first first in
