@@ -1,4 +1,5 @@
 pub mod Asking
+pub mod FallingOn
 pub mod Found
 pub mod Listing
 pub mod YearlyDays

@@ -1,4 +1,4 @@
-//! The anniversaries of a window, one after another.
+//! An iterator over the anniversaries in a window.
 
 ghost use Rattle.std.specs.Prelude.{◌≡◌, Some};
 ghost use Rattle.cal_types.specs.MonthParts.{month_parts};
@@ -10,18 +10,18 @@ use cal_base::Calendar;
 use cal_days::RataDie;
 use cal_types::Window;
 
-/// The days of a window that a month and a day of a calendar name, each once and in order.
+/// The anniversaries of a month and a day in a window: an iterator over their days, in order.
 ///
-/// An item takes one look-up for each year that is passed: one where each year has the month and the day. A month or a
-/// day that never comes takes one for each year of the window, and ends with it. Nothing is kept but where the list
-/// stands.
+/// [`anniversaries`](crate::anniversaries()) creates it. Each item looks up one date for every year it passes, which is
+/// one if each year has the month and the day. If no year has them, the first call looks at every year of the window.
+/// The iterator takes no memory.
 #[derive(Drop)]
 pub struct Anniversaries<C: Calendar> {
     calendar: C,
     asked: YearlyDay,
-    /// What is left of the window.
+    /// The rest of the window.
     rest: Option<Window>,
-    /// The year that is looked at next.
+    /// The year to look at next.
     year: i32,
     /// The year of the window's last day.
     last_year: i32,
@@ -29,7 +29,7 @@ pub struct Anniversaries<C: Calendar> {
 }
 
 impl<C: Calendar> Anniversaries<C> {
-    /// The anniversaries of a window, none of which was given.
+    /// Creates an iterator over all anniversaries in the window.
     pub(crate) fn new(calendar: C, asked: YearlyDay, window: Window) -> Anniversaries<C>
         requires { IsAsked (C.system calendar).list (month_parts asked.month) asked.day }
         ensures calendar { result.calendar ≡ calendar }
@@ -49,8 +49,12 @@ impl<C: Calendar> Anniversaries<C> {
         }
     }
 
-    /// What is left of the window: the days after the anniversary that was given last, or the whole window where none
-    /// was given. `None` where that one is the window's last day, and once `next` has answered `None`.
+    /// Returns the rest of the window: the days after the last item, or the whole window before the first item.
+    ///
+    /// `None` if the last item was on the window's last day, or if `next` has returned `None`. Listing the
+    /// anniversaries in the rest continues this list.
+    ///
+    /// # Examples
     ///
     /// ```
     /// let window = Window::try_new(RataDie::new(738521), RataDie::new(739616))?;

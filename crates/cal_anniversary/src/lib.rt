@@ -1,4 +1,6 @@
-//! Anniversaries: the days of a window of time that a month and a day of a calendar name, year after year.
+//! Anniversaries: the days in a window on which a month and a day of a calendar fall, year after year.
+//!
+//! Start with [`anniversaries`]: it returns an iterator over the days.
 #![tactic(auto)]
 
 mod errors;

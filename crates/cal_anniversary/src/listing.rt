@@ -1,9 +1,10 @@
-//! Anniversaries of a month and a day.
+//! The anniversaries of a month and a day.
 
 ghost use Rattle.std.specs.Prelude.{◌≡◌, IfOk, Some};
 ghost use Rattle.cal_types.specs.MonthParts.{month_parts};
 ghost use Rattle.cal_anniversary.specs.Asking.{anniversary_fault, fault_of};
 ghost use Rattle.cal_types.specs.Anniversary.{anniversaries_between};
+ghost use Rattle.cal_anniversary.specs.FallingOn.{AreAnniversaries};
 ghost use Rattle.cal_anniversary.specs.Listing.{days_left};
 
 use crate::errors::AnniversaryError;
@@ -12,22 +13,29 @@ use crate::yearly_day::YearlyDay;
 use cal_base::Calendar;
 use cal_types::{DateNewError, Leaping, Month, Window, YearInput};
 
-/// The days of a window that a month and a day of a calendar name, each once and in order: birthdays, memorial days and
-/// yearly feasts.
+/// Returns the days of a window on which a month and a day of a calendar fall: birthdays, memorial days, yearly feasts.
 ///
-/// Under [`Leaping::Exact`] these are the days whose dates have the month and the day; under [`Leaping::Constrain`]
-/// each year has one, with the month's stand-in or the month's last day where the year lacks them. So for February 29
-/// of the ISO calendar, `Month::new(2)` and 29, the list has leap years alone, or February 28 in the other years; and
-/// for a day of the Hebrew leap month, `Month::leap(5)`, it has leap years alone, or the same day of Adar.
+/// Each such day is listed once, in order. `leaping` says how to handle a year that lacks the month or the day:
 ///
-/// The list over what [`Anniversaries::rest`] answers after some items is the list of those that are left.
+/// - [`Leaping::Exact`] skips the year. It lists the days whose date has the month and the day.
+/// - [`Leaping::Constrain`] lists one day in each year (ECMAScript Temporal's overflow `constrain`). If the month
+///   doesn't occur in the year, the calendar's stand-in replaces it. If the month is shorter, its last day is listed.
 ///
-/// An item takes one look-up for each year that is passed; see [`Anniversaries`].
+/// For February 29 of the ISO calendar, `Month::new(2)` and 29, `Exact` lists leap years only. `Constrain` also lists
+/// February 28 of the other years. For a day of the Hebrew leap month, `Month::leap(5)`, `Exact` lists leap years only.
+/// `Constrain` also lists the same day of Adar in the other years.
+///
+/// After some items, the list over [`Anniversaries::rest`] is the list of the remaining days. See [`Anniversaries`] for
+/// the cost of an item.
 ///
 /// # Errors
 ///
-/// In this order: [`AnniversaryError::MonthNotInCalendar`] where no year of the calendar has the month, and
-/// [`AnniversaryError::InvalidDay`] where the day isn't from 1 to 31.
+/// The first that applies:
+///
+/// - [`AnniversaryError::MonthNotInCalendar`] if the month occurs in no year of the calendar.
+/// - [`AnniversaryError::InvalidDay`] if the day isn't from 1 to 31.
+///
+/// # Examples
 ///
 /// ```
 /// let window = Window::try_new(RataDie::new(738521), RataDie::new(739616))?;
@@ -47,6 +55,9 @@ pub fn anniversaries<C: Calendar>(
     ensures list { let list = (C.system calendar).list in let m = month_parts month in
         IfOk result (λ a. days_left (C.system a.calendar).list a.asked a.rest
         ≡ anniversaries_between list leaping m day window.first window.last) }
+    ensures meant { let list = (C.system calendar).list in let m = month_parts month in
+        IfOk result (λ a. AreAnniversaries list leaping m day window.first window.last
+        (days_left (C.system a.calendar).list a.asked a.rest)) }
     ensures rest { IfOk result (λ a. a.rest ≡ Some window) }
     ensures calendar { IfOk result (λ a. a.calendar ≡ calendar) }
     ensures asked { IfOk result (λ a. (a.asked.month ≡ month) × (a.asked.day ≡ day) × (a.asked.leaping ≡ leaping)) }
@@ -66,7 +77,7 @@ pub fn anniversaries<C: Calendar>(
     Ok(Anniversaries::new(calendar, asked, window))
 }
 
-/// Whether a year of the calendar has the month.
+/// Returns whether the month occurs in some year of the calendar.
 fn knows_month<C: Calendar>(calendar: &C, month: Month) -> bool
     ensures { result ≡ (C.system calendar.now).list.is_of_kind (month_parts month) }
 {

@@ -12,7 +12,7 @@ use cal_base::Calendar;
 use cal_days::RataDie;
 use cal_types::{DateFields, DateFromFieldsOptions, Leaping, Month, Overflow, Window};
 
-/// The day that a month and a day name in each year.
+/// A month and a day, and how to handle a year that lacks them.
 #[derive(Clone, Copy)]
 pub(crate) struct YearlyDay {
     pub(crate) month: Month,
@@ -20,7 +20,7 @@ pub(crate) struct YearlyDay {
     pub(crate) leaping: Leaping,
 }
 
-/// How a date of a year that lacks the month or the day is made from its fields.
+/// Returns the overflow under which a date with the month and the day is created.
 fn overflow_for(leaping: Leaping) -> Overflow
     ensures { result ≡ overflow_for leaping }
 {
@@ -30,7 +30,7 @@ fn overflow_for(leaping: Leaping) -> Overflow
     }
 }
 
-/// The anniversary of a year: `None` where the year is passed over, or its anniversary isn't a valid day.
+/// Returns the anniversary in a year. `None` if the year is skipped, or if its anniversary isn't a valid day.
 fn day_in_year<C: Calendar>(calendar: &C, asked: YearlyDay, year: i32) -> Option<RataDie>
     requires asked { IsAsked (C.system calendar.now).list (month_parts asked.month) asked.day }
     requires year { IsFieldYear year }
@@ -47,7 +47,7 @@ fn day_in_year<C: Calendar>(calendar: &C, asked: YearlyDay, year: i32) -> Option
     }
 }
 
-/// The anniversary of a year, where the window has it.
+/// Returns the anniversary in a year if it lies in the window.
 fn day_in_window<C: Calendar>(
     calendar: &C,
     asked: YearlyDay,
@@ -74,7 +74,7 @@ pub(crate) struct Found {
     pub(crate) year: i32,
 }
 
-/// The first anniversary in a window of the years from a first to a last one.
+/// Returns the first anniversary in a window, among the years from `first` to `last`.
 pub(crate) fn first_in_years<C: Calendar>(
     calendar: &C,
     asked: YearlyDay,

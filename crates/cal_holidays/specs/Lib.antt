@@ -9,5 +9,6 @@ pub mod KindMonths
 pub mod Listing
 pub mod Merging
 pub mod MonthDays
+pub mod NamedDays
 pub mod Naming
 pub mod Rules

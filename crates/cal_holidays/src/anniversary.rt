@@ -1,4 +1,4 @@
-//! The first anniversary of a window.
+//! The first anniversary in a window.
 
 ghost use Rattle.std.specs.Prelude.{◌≡◌, ◌&&◌, nat_le, true};
 ghost use Rattle.cal_types.specs.Anniversary.{is_anniversary};
@@ -10,7 +10,7 @@ use cal_base::Calendar;
 use cal_days::RataDie;
 use cal_types::{Leaping, Month, Window};
 
-/// The first day of a window that is the month and the day of a calendar.
+/// Returns the first day of a window on which a month and a day of a calendar fall.
 pub(crate) fn first_anniversary<C: Calendar>(
     calendar: C,
     month: Month,

@@ -1,4 +1,4 @@
-//! The holidays of a window, by the rules of a book.
+//! The holidays in a window, by the rules of a book.
 
 ghost use Rattle.std.specs.Prelude.{◌≡◌, Some};
 
@@ -9,12 +9,12 @@ use crate::rest::Rest;
 use cal_tables::Tables;
 use cal_types::Window;
 
-/// The holidays of a window, one after another, in order of their days, and on one day of the numbers of their rules.
+/// The holidays in a window: an iterator in order of the days, and on one day in order of the rules' numbers.
 ///
-/// It takes no memory, and keeps the first day of each of 64 groups of rules. An item costs a look at these, and for each
-/// rule of the item's own group, one in 64, the search for its next day.
+/// [`holidays()`] creates it. It takes no memory, and keeps the next day of each of 64 groups of rules. An item looks at
+/// these 64 days, and then searches the next day of each rule in the item's group, which is one rule in 64.
 ///
-/// [`Holidays::rest`](Merged::rest) tells what is left of the list.
+/// [`Holidays::rest`](Merged::rest) returns the rest of the list.
 pub type Holidays<'b, 't> = Merged<BookRules<'b, 't>>;
 
 ghost use Rattle.std.specs.Prelude.{length};
@@ -22,16 +22,18 @@ ghost use Rattle.cal_tables.specs.Kinds.{table_contents};
 ghost use Rattle.cal_holidays.specs.BookNames.{holidays_in, names_in_book};
 ghost use Rattle.cal_holidays.specs.Books.{named_rules};
 ghost use Rattle.cal_holidays.specs.Listing.{left_of};
+ghost use Rattle.cal_holidays.specs.NamedDays.{AreHolidays};
 
-/// The days of a window that the rules of a book name, each with the number of its rule.
+/// Returns the days of a window that the rules of a book name, each with the number of its rule.
 ///
-/// An item is a day of the window and a rule that names it. All such days and rules are given, each once, in order of the
-/// days, and on one day of the rules' numbers; on the window's first day the rules before `first_rule` are left out.
-/// `first_rule` is 0 for the whole window, and may be any number: one that isn't below [`Book::len`] leaves out the first
-/// day.
+/// An item is a day of the window and the number of a rule that names it. Each such pair is listed once, in order of the
+/// days, and on one day in order of the rules' numbers. [`HolidayRule`](crate::HolidayRule) says which days a rule names.
 ///
-/// The calendars of the rules are made over the tables; [`Tables::none`] computes all years. The list over what
-/// [`rest`](Merged::rest) answers after some items is the list of those that are left.
+/// On the window's first day, rules with a number below `first_rule` are left out. Pass 0 to list the whole window. A
+/// number that isn't below [`Book::len`] leaves out the first day.
+///
+/// The rules' calendars use the tables; with [`Tables::none`] all years are computed. After some items, the list over
+/// [`rest`](Merged::rest) is the list of the remaining items.
 ///
 /// ```text
 /// let year = Window::try_new(RataDie::new(738886), RataDie::new(739251))?;
@@ -48,6 +50,9 @@ pub fn holidays<'b, 't>(
     ensures list { let contents = table_contents result.rules.tables in let rules = named_rules result.rules.book.now in
         left_of (names_in_book contents rules) (length rules) result.rest
         ≡ holidays_in (table_contents tables.entry) (named_rules book.now) window.first window.last first_rule }
+    ensures meant { let b = result.rules in let rules = named_rules b.book.now in
+        AreHolidays (table_contents tables.entry) (named_rules book.now) window.first window.last first_rule
+        (left_of (names_in_book (table_contents b.tables) rules) (length rules) result.rest) }
     ensures rest { result.rest ≡ Some (record { window = window; first_rule = first_rule }) }
     ensures rules { result.rules ≡ record { book = book.entry; tables = tables.entry } }
 {

@@ -1,4 +1,4 @@
-//! The rules of a book, over tables.
+//! The rules of a book, in calendars over tables.
 
 ghost use Rattle.std.specs.Prelude.{◌≡◌, ◌&&◌, nat_le, true};
 ghost use Rattle.cal_days.specs.Day.{IsValidDay};
@@ -29,7 +29,7 @@ pub struct BookRules<'b, 't> {
     pub(crate) tables: Tables<'t>,
 }
 
-/// The first day from `first` to `last` that is a month and a day of the calendar of a kind.
+/// Returns the first day from `first` to `last` on which a month and a day of the calendar of a kind fall.
 fn first_fixed<'t>(
     tables: Tables<'t>,
     calendar: AnyCalendarKind,
@@ -56,7 +56,7 @@ fn first_fixed<'t>(
     )
 }
 
-/// The first day from `first` to `last` that is a weekday of a month of the calendar of a kind.
+/// Returns the first day from `first` to `last` that is the nth weekday of a month of the calendar of a kind.
 fn first_weekday<'t>(
     tables: Tables<'t>,
     calendar: AnyCalendarKind,
@@ -74,7 +74,7 @@ fn first_weekday<'t>(
     first_nth(&calendar, asked, first, last)
 }
 
-/// The first day from `first` to `last` that a rule names, in calendars over tables.
+/// Returns the first day from `first` to `last` that a rule names.
 fn first_named<'t>(
     tables: Tables<'t>,
     rule: HolidayRule,

@@ -1,4 +1,4 @@
-//! Days that are counted from Easter.
+//! Days counted from Easter.
 
 ghost use Rattle.std.specs.Prelude.{◌-ℤ◌, ◌+ℤ◌, ◌≤ℤ◌, ◌<ℤ◌, pos, neg_ℤ};
 ghost use Rattle.cal_days.specs.Day.{IsBetween, IsValidDay};
@@ -9,10 +9,10 @@ ghost use Rattle.cal_holidays.specs.Merging.{IsFirstDay};
 use crate::until::until;
 use cal_days::{RataDie, gregorian, julian};
 
-/// The years before and behind a day's own in which an Easter lies that is at most 400 days away.
+/// How many years before and after a day's year have to be searched for an Easter at most 400 days away.
 const YEARS_BESIDE: i32 = 2;
 
-/// The first day from `first` to `last` that lies so many days after Easter, or before it where the number is negative.
+/// Returns the first day from `first` to `last` that lies `offset` days after Easter, or before it if `offset` is negative.
 pub(crate) fn first_easter(
     julian: bool,
     offset: i32,
@@ -36,7 +36,7 @@ pub(crate) fn first_easter(
     None
 }
 
-/// The number of the day that lies so many days after Easter of a year.
+/// Returns the number of the day that lies `offset` days after Easter of a year.
 fn easter_and(julian: bool, year: i32, offset: i32) -> i64
     requires near { IsBetween (neg_ℤ (pos 400)) (pos 400) offset }
     ensures { IsSundayAfter (easter_moon julian year) (result -ℤ offset) }
@@ -44,7 +44,7 @@ fn easter_and(julian: bool, year: i32, offset: i32) -> i64
     easter(julian, year).to_i64_date() + i64::from(offset)
 }
 
-/// The year that contains a valid day.
+/// Returns the year that contains a valid day.
 fn year_containing(julian: bool, day: RataDie) -> i32
     requires { IsValidDay day }
     ensures first { year_start julian result ≤ℤ day }
@@ -58,7 +58,7 @@ fn year_containing(julian: bool, day: RataDie) -> i32
     }
 }
 
-/// The day of Easter.
+/// Returns the day of Easter of a year.
 fn easter(julian: bool, year: i32) -> RataDie
     ensures { IsSundayAfter (easter_moon julian year) result }
 {

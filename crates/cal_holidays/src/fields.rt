@@ -1,4 +1,4 @@
-//! The fields of a record of a book, and the rule that they say.
+//! The fields of a record, and the rule that they describe.
 
 ghost use Rattle.std.specs.Prelude.{◌≡◌, option_map, [], get_or, length, nat_le, int_le, pos, neg_ℤ, true, IfOk, IfSome, ◌&&◌};
 ghost use Rattle.std.specs.List.{list_all};
@@ -17,7 +17,7 @@ use cal_types::{Leaping, Month, Weekday};
 use csv::ByteRecord;
 use word_values::{read_int, read_month_code, read_number};
 
-/// How a rule names days.
+/// The kind of a rule.
 #[derive(Clone, Copy)]
 pub(crate) enum RuleKind {
     /// A month and a day.
@@ -39,7 +39,7 @@ pub(crate) struct Fields<'r> {
     pub last: &'r [u8],
 }
 
-/// A field by its place from 0, or nothing where there is no such field.
+/// Returns a field by its place from 0, or an empty text if there is no such field.
 fn field(row: &ByteRecord, place: usize) -> &[u8]
     ensures { result.now ≡ get_or (fields_of row.now) place [] }
 {
@@ -49,7 +49,7 @@ fn field(row: &ByteRecord, place: usize) -> &[u8]
 impl<'r> Fields<'r> {
     ghost use Rattle.cal_holidays.specs.Fields.{fields_said};
 
-    /// The fields of a record that has six.
+    /// Returns the fields of a record if there are six.
     #[tactic(auto, using(crate::proofs::FieldLemmas::six_fields_by_places))]
     pub(crate) fn of(row: &'r ByteRecord) -> Option<Fields<'r>>
         ensures { option_map fields_said result ≡ six_fields (fields_of row.now) }
@@ -67,7 +67,7 @@ impl<'r> Fields<'r> {
         })
     }
 
-    /// The rule of a kind, or the number of the first bad field behind the name.
+    /// Reads the rule of a kind. The error is the number of the first invalid field after the name.
     pub(crate) fn rule(&self, kind: RuleKind) -> Result<HolidayRule, u8>
         ensures value { result_map_both rule_said (λ number. number) result ≡ rule_read kind (fields_said self.now) }
         ensures proper { IfOk result (λ rule. is_proper (rule_said rule) ≡ true) }
@@ -129,14 +129,14 @@ impl<'r> Fields<'r> {
     }
 }
 
-/// Whether a text is a word: of its length, and with its bytes.
+/// Returns whether a text is a word.
 fn is_word(text: &[u8], word: &[u8]) -> bool
     ensures { result ≡ is_code text.now word.now }
 {
     text == word
 }
 
-/// The kind of rule that a word names.
+/// Returns the kind of rule that a word names.
 pub(crate) fn rule_kind(text: &[u8]) -> Option<RuleKind>
     ensures { result ≡ rule_kind text.now }
 {
@@ -153,21 +153,21 @@ pub(crate) fn rule_kind(text: &[u8]) -> Option<RuleKind>
     }
 }
 
-/// Whether a text is a name: one to 64 printable characters of ASCII.
+/// Returns whether a text is a name: 1 to 64 printable ASCII characters.
 pub(crate) fn is_name(text: &[u8]) -> bool
     ensures { result ≡ is_name text.now }
 {
     1 <= text.len() && text.len() <= 64 && is_printable(text)
 }
 
-/// Whether each byte is a printable character of ASCII.
+/// Returns whether every byte is a printable ASCII character.
 fn is_printable(text: &[u8]) -> bool
     ensures { result ≡ list_all (λ b. nat_le 32 b && nat_le b 126) text.now }
 {
     text.iter().all(|byte| 32 <= *byte && *byte <= 126)
 }
 
-/// The month of a month code that some year of a kind of calendar has.
+/// Returns the month of a month code if it occurs in some year of a kind of calendar.
 fn month_of(calendar: AnyCalendarKind, text: &[u8]) -> Option<Month>
     ensures value { option_map month_parts result ≡ month_of calendar text.now }
     ensures known { IfSome result (λ m. knows_month calendar (month_parts m) ≡ true) }
@@ -180,7 +180,7 @@ fn month_of(calendar: AnyCalendarKind, text: &[u8]) -> Option<Month>
     }
 }
 
-/// A day of a month, from 1 to 31, in one or two digits.
+/// Reads a day of a month: 1 to 31, in one or two digits.
 fn day(text: &[u8]) -> Option<u8>
     ensures value { result ≡ day_read text.now }
     ensures range { IfSome result (λ d. (nat_le 1 d && nat_le d 31) ≡ true) }
@@ -193,7 +193,7 @@ fn day(text: &[u8]) -> Option<u8>
     }
 }
 
-/// A number of days from -400 to 400.
+/// Reads a number of days: -400 to 400.
 fn offset(text: &[u8]) -> Option<i32>
     ensures value { result ≡ offset_read text.now }
     ensures range { IfSome result (λ d. (int_le (neg_ℤ (pos 400)) d && int_le d (pos 400)) ≡ true) }
@@ -206,7 +206,7 @@ fn offset(text: &[u8]) -> Option<i32>
     }
 }
 
-/// Whether the calendar that a word names is the Julian one, or None where it isn't the Gregorian one either.
+/// Returns whether a word names the Julian calendar or the Gregorian one. `None` if it names neither.
 fn is_julian(text: &[u8]) -> Option<bool>
     ensures { result ≡ is_julian text.now }
 {
@@ -220,7 +220,7 @@ fn is_julian(text: &[u8]) -> Option<bool>
     }
 }
 
-/// What becomes of a day that a year doesn't have, by its word.
+/// Returns the way to handle a day that doesn't exist in a year, from its word.
 fn leaping(text: &[u8]) -> Option<Leaping>
     ensures { result ≡ leaping_named text.now }
 {
@@ -234,7 +234,7 @@ fn leaping(text: &[u8]) -> Option<Leaping>
     }
 }
 
-/// Which weekday of a month: `1` to `5`, or `-1` for the last.
+/// Reads which weekday of a month is meant: `1` to `5`, or `-1` for the last.
 fn nth(text: &[u8]) -> Option<i8>
     ensures value { result ≡ nth_named text.now }
     ensures range { IfSome result (λ n. is_nth_number n ≡ true) }
@@ -261,7 +261,7 @@ const WEEKDAYS: [Weekday; 7] = [
     Weekday::Sunday,
 ];
 
-/// The word for a weekday.
+/// Returns the word for a weekday.
 fn weekday_word(day: Weekday) -> &'static [u8]
     ensures { result.now ≡ weekday_word day }
 {
@@ -276,7 +276,7 @@ fn weekday_word(day: Weekday) -> &'static [u8]
     }
 }
 
-/// The weekday that a word names.
+/// Returns the weekday that a word names.
 fn weekday(text: &[u8]) -> Option<Weekday>
     ensures { result ≡ weekday_named text.now }
 {

@@ -1,4 +1,7 @@
-//! Holidays from a book: a text of CSV, each record of which says the name of a holiday and the rule by which it comes.
+//! Holidays from a book: a CSV text with the name and the rule of one holiday in each record.
+//!
+//! [`Book::try_read`] reads a book, and [`holidays()`] lists the days of a window that its rules name. [`HolidayRule`]
+//! says which days a rule names.
 //!
 //! A book has no header. A record has six fields: the kind of its rule, the name of the holiday, the calendar, the month,
 //! a value, and a last field.
@@ -9,9 +12,9 @@
 //! | `easter` | a name | `gregorian` or `julian` | empty | days after Easter, -400 to 400 | empty |
 //! | `weekday` | a name | a calendar | a month | `1` to `5`, or `-1` for the last | `monday` to `sunday` |
 //!
-//! A name is 1 to 64 printable characters of ASCII. A calendar is one of the names that
-//! [`AnyCalendarKind::from_program_name`](cal_kinds::AnyCalendarKind::from_program_name) reads, as `iso` or `hebrew`. A
-//! month is the code of one that some year of the calendar has, as `M01` or `M05L`.
+//! A name is 1 to 64 printable ASCII characters. A calendar is a name that
+//! [`AnyCalendarKind::from_program_name`](cal_kinds::AnyCalendarKind::from_program_name) reads, such as `iso` or
+//! `hebrew`. A month is the code of a month that occurs in some year of the calendar, such as `M01` or `M05L`.
 //!
 //! ```text
 //! easter,Easter,gregorian,,0,
@@ -19,9 +22,6 @@
 //! weekday,Thanksgiving,gregorian,M11,4,thursday
 //! fixed,Purim,hebrew,M06,14,constrain
 //! ```
-//!
-//! [`Book::try_read`] reads a book, [`HolidayRule`] says what each rule names, and [`holidays()`] lists the days of a
-//! window that the rules name.
 #![tactic(auto)]
 
 mod anniversary;
@@ -38,6 +38,7 @@ mod merged;
 mod nth;
 mod rest;
 mod rules;
+mod unread;
 mod until;
 
 pub use book::{Book, BookError};

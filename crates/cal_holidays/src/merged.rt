@@ -1,4 +1,4 @@
-//! The days that rules name, in order.
+//! An iterator over the days that rules name.
 
 ghost use Rattle.std.specs.Prelude.{◌≡◌, Some, ⊤, option_map};
 
@@ -7,21 +7,21 @@ use crate::rest::Rest;
 use crate::rules::NumberedRules;
 use cal_days::RataDie;
 
-/// A holiday: a day, and the number of the rule that names it.
+/// A holiday: a day and the number of the rule that names it.
 #[derive(Clone, Copy, Debug, PartialEq, Eq)]
 pub struct Holiday {
-    /// The day.
+    /// The day number (rata die).
     pub day: RataDie,
-    /// The number of the rule, from 0: that of [`Book::rule`](crate::Book::rule) and [`Book::name`](crate::Book::name).
+    /// The number of the rule, from 0, as in [`Book::rule`](crate::Book::rule) and [`Book::name`](crate::Book::name).
     pub rule: usize,
 }
 
 ghost use Rattle.cal_holidays.specs.Kept.{AreFirsts, AreKept};
 
-/// The days that rules name, in order, and on one day by the number of the rule.
+/// An iterator over the days that rules name, in order, and on one day by the number of the rule.
 ///
-/// The first day that rules of each place name is kept, where the rules 64 apart have one place. So an item costs a
-/// look at 64 days, and for each rule of its own place the first day of that rule.
+/// Rules whose numbers are 64 apart share a place, and the first day of each place is kept. So an item looks at 64 days,
+/// and then searches the next day of each rule of its place.
 #[derive(Drop)]
 pub struct Merged<R: NumberedRules> {
     rules: R,
@@ -30,7 +30,7 @@ pub struct Merged<R: NumberedRules> {
     ghost kept: { AreKept (R.names rules) (R.count_of rules) rest firsts },
 }
 
-/// The first day of each place.
+/// Returns the first day of each place.
 fn firsts_of<R: NumberedRules>(rules: &R, rest: Rest) -> [Option<First>; 64]
     ensures { AreFirsts (R.names rules.now) (R.count_of rules.now) rest result 64 }
 {
@@ -45,7 +45,8 @@ impl<R: NumberedRules> Merged<R> {
     ghost use Rattle.cal_holidays.specs.Found.{pair_of, stretch_of};
     ghost use Rattle.cal_holidays.specs.Merging.{IsAny, IsFirst, behind};
 
-    /// The days of a window that rules name, without the rules before a first one on the window's first day.
+    /// Creates an iterator over the days of a window that rules name, without the rules before `rest.first_rule` on the
+    /// window's first day.
     pub fn new(rules: R, rest: Rest) -> Merged<R>
         ensures rules { result.rules ≡ rules }
         ensures rest { result.rest ≡ Some rest }
@@ -58,7 +59,7 @@ impl<R: NumberedRules> Merged<R> {
         }
     }
 
-    /// Goes on behind the first day that a rule names.
+    /// Moves past the first day that a rule names.
     fn go_behind(&mut self, rest: Rest, first: First)
         requires left { self.old.rest ≡ Some rest }
         requires first { let names = R.names self.old.rules in let count = R.count_of self.old.rules in
@@ -77,11 +78,13 @@ impl<R: NumberedRules> Merged<R> {
         }
     }
 
-    /// What is left of the list: the window and the first rule that were handed in, as long as no item was given.
+    /// Returns the rest of the list: before the first item, the window and first rule that were passed in.
     ///
-    /// Behind a holiday it is the window from the holiday's day on and the rule after the holiday's, where there is one,
-    /// and else the window from the next day on and rule 0. `None` exactly where the holiday that was given last is of
-    /// the window's last day and of the last rule, and once `next` has answered `None`.
+    /// After a holiday it is the window from the holiday's day and the next rule's number. After the last rule it is the
+    /// window from the next day, and rule 0. `None` exactly if the last holiday was on the window's last day and of the
+    /// last rule, or if `next` has returned `None`.
+    ///
+    /// # Examples
     ///
     /// ```
     /// let book = Book::try_read(alloc, b"weekday,Thanksgiving,gregorian,M11,4,thursday").ok()?;

@@ -15,18 +15,18 @@ use cal_base::Calendar;
 use cal_days::RataDie;
 use cal_types::{Month, Weekday};
 
-/// A weekday of a month of a calendar, each year.
+/// A weekday of a month of a calendar, in every year.
 #[derive(Clone, Copy)]
 pub(crate) struct NthWeekday {
     /// The month.
     pub(crate) month: Month,
-    /// Which one of the month: 1 to 5, or -1 for the last.
+    /// Which one in the month: 1 to 5, or -1 for the last.
     pub(crate) nth: i8,
     /// The weekday.
     pub(crate) weekday: Weekday,
 }
 
-/// The days of a month: the day before its first one, how many there are, and the month.
+/// The days of a month: the month, the day before its first day, and its length in days.
 #[derive(Clone, Copy)]
 struct MonthDays {
     month: Month,
@@ -34,7 +34,7 @@ struct MonthDays {
     length: u8,
 }
 
-/// The first day from `first` to `last` that is the weekday of the month. The months are looked at one after another.
+/// Returns the first day from `first` to `last` that is the weekday of the month. Looks at one month after another.
 pub(crate) fn first_nth<C: Calendar>(
     calendar: &C,
     asked: NthWeekday,
@@ -58,7 +58,7 @@ pub(crate) fn first_nth<C: Calendar>(
     None
 }
 
-/// The month that contains a valid day.
+/// Returns the days of the month that contains a valid day.
 fn month_on<C: Calendar>(calendar: &C, day: RataDie) -> MonthDays
     requires { IsValidDay day }
     ensures { IsMonthOn (C.system calendar.now).list day (month_parts result.month) result.before result.length }
@@ -71,7 +71,7 @@ fn month_on<C: Calendar>(calendar: &C, day: RataDie) -> MonthDays
     }
 }
 
-/// The day of a month that is the weekday, where it is the month that is asked for and the day isn't before one of its days.
+/// Returns the day of a month that is the weekday, if it is the requested month and the day isn't before `from`.
 fn nth_from(days: MonthDays, asked: NthWeekday, from: i64) -> Option<i64>
     requires nth { IsNthNumber asked.nth }
     requires near { IsNear days.before }
@@ -89,7 +89,7 @@ fn nth_from(days: MonthDays, asked: NthWeekday, from: i64) -> Option<i64>
     }
 }
 
-/// The rank of a month, which no other month has.
+/// Returns the rank of a month, which no other month has.
 fn rank(month: Month) -> u16
     ensures { result ≡ month_rank (month_parts month) }
 {
@@ -100,7 +100,7 @@ fn rank(month: Month) -> u16
     plain
 }
 
-/// Whether two months are the same.
+/// Returns whether two months are the same.
 fn is_same(a: Month, b: Month) -> bool
     ensures { result ≡ is_month (month_parts a) (month_parts b) }
 {
@@ -108,7 +108,7 @@ fn is_same(a: Month, b: Month) -> bool
 }
 
 impl MonthDays {
-    /// Whether a day is one of the month's and not before another one.
+    /// Returns whether a day is in the month and not before `from`.
     fn has_from(self, from: i64, day: i64) -> bool
         requires { IsNear self.before }
         ensures { IsTrue result ↔ (from ≤ℤ day) × (self.before <ℤ day) × (day ≤ℤ (self.before +ℤ pos self.length)) }
@@ -123,7 +123,7 @@ impl MonthDays {
     }
 }
 
-/// The number of the day that is the weekday in a month, which lies past the month where it has no such day.
+/// Returns the number of the day that is the nth of the weekday in a month. It lies past the month if there is none.
 fn nth_in(nth: i8, weekday: Weekday, before: i64, length: u8) -> i64
     requires nth { IsNthNumber nth }
     requires near { IsNear before }
@@ -137,7 +137,7 @@ fn nth_in(nth: i8, weekday: Weekday, before: i64, length: u8) -> i64
     }
 }
 
-/// The last day of a month that lies so many days after a Sunday.
+/// Returns the last day of a month that lies `sunday` days after a Sunday.
 fn last_in(sunday: i64, before: i64, length: u8) -> i64
     requires sunday { IsBetween (pos 0) (pos 6) sunday }
     requires near { IsNear before }
@@ -147,7 +147,7 @@ fn last_in(sunday: i64, before: i64, length: u8) -> i64
     last - (last - sunday).rem_euclid(7)
 }
 
-/// The first day of a month that lies so many days after a Sunday, or a day some weeks later.
+/// Returns the nth day of a month that lies `sunday` days after a Sunday.
 fn kth_in(sunday: i64, before: i64, nth: i8) -> i64
     requires sunday { IsBetween (pos 0) (pos 6) sunday }
     requires near { IsNear before }
@@ -159,7 +159,7 @@ fn kth_in(sunday: i64, before: i64, nth: i8) -> i64
     first + (sunday - first).rem_euclid(7) + 7 * (i64::from(nth) - 1)
 }
 
-/// How many days a weekday lies after Sunday.
+/// Returns how many days a weekday lies after Sunday.
 fn since_sunday(weekday: Weekday) -> i64
     ensures value { result ≡ pos (days_since_sunday weekday) }
     ensures bound { IsBetween (pos 0) (pos 6) result }

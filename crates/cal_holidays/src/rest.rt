@@ -1,4 +1,4 @@
-//! What is left of a list of holidays.
+//! The rest of a list of holidays.
 
 ghost use Rattle.std.specs.Prelude.{◌≡◌, ◌≤ℤ◌, option_map};
 ghost use Rattle.cal_days.specs.Day.{IsBetween};
@@ -7,20 +7,20 @@ ghost use Rattle.cal_holidays.specs.Merging.{BeginsAt, behind};
 use cal_days::RataDie;
 use cal_types::Window;
 
-/// What is left of a list of holidays: a window, and the first rule that is listed on its first day.
+/// The rest of a list of holidays: a window, and the first rule that is listed on its first day.
 ///
-/// [`holidays()`](crate::holidays()) over both goes on with the list.
+/// [`holidays()`](crate::holidays()) with both values continues the list.
 #[derive(Clone, Copy, Debug, PartialEq, Eq)]
 pub struct Rest {
-    /// The days that are left.
+    /// The remaining days.
     pub window: Window,
-    /// The number of the first rule that is listed on the first of them.
+    /// The number, from 0, of the first rule that is listed on the window's first day.
     pub first_rule: usize,
 }
 
 ghost use Rattle.cal_holidays.specs.Found.{IsWindowFrom, stretch_of};
 
-/// The days from one of a window's days on.
+/// Returns the days of a window from one of them on.
 fn window_from(window: Window, day: RataDie) -> Option<Window>
     requires { IsBetween window.first window.last day }
     ensures { IsWindowFrom window day result }
@@ -29,7 +29,7 @@ fn window_from(window: Window, day: RataDie) -> Option<Window>
 }
 
 impl Rest {
-    /// The first day on which a rule is listed.
+    /// Returns the first day on which a rule is listed.
     pub(crate) fn begin_of(self, rule: usize) -> i64
         ensures day { BeginsAt (stretch_of self) rule result }
         ensures low { self.window.first ≤ℤ result }
@@ -42,7 +42,7 @@ impl Rest {
         }
     }
 
-    /// What is left behind a day and a rule, where there are so many rules.
+    /// Returns the rest after a day and a rule, of `count` rules.
     pub(crate) fn behind(self, day: i64, rule: usize, count: usize) -> Option<Rest>
         requires { IsBetween self.window.first self.window.last day }
         ensures { option_map stretch_of result ≡ behind count (stretch_of self) day rule }

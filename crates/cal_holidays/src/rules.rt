@@ -1,4 +1,4 @@
-//! Rules that name days.
+//! Numbered rules that name days.
 
 ghost use Rattle.std.specs.Prelude.{◌≡◌, ◌<◌, ◌^◌, ℕ, ℤ, Bool};
 ghost use Rattle.cal_days.specs.Day.{IsValidDay};
@@ -6,7 +6,7 @@ ghost use Rattle.cal_holidays.specs.Merging.{IsFirstDay};
 
 use cal_days::RataDie;
 
-/// Rules that each name days, by their numbers from 0.
+/// Rules that name days, numbered from 0.
 pub trait NumberedRules: Copy {
     /// Which rule names which day.
     ghost names: { Self → ℕ → ℤ → Bool };
@@ -14,12 +14,12 @@ pub trait NumberedRules: Copy {
     /// How many rules there are.
     ghost count_of: { Self → ℕ };
 
-    /// How many rules there are.
+    /// Returns the number of rules.
     fn count(&self) -> usize
         ensures value { result ≡ count_of self.now }
         ensures bound { result < 2 ^ 63 };
 
-    /// The first day from `first` to `last` that a rule names.
+    /// Returns the first day from `first` to `last` that a rule names.
     fn first_day(&self, rule: usize, first: RataDie, last: RataDie) -> Option<RataDie>
         requires rule { rule < count_of self.now }
         requires from { IsValidDay first }

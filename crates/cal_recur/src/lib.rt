@@ -1,15 +1,15 @@
-//! Recurrences: the days that are a start with a number of years, months, weeks or days added.
+//! Recurrences: a start date, and that date with a number of years, months, weeks or days added again and again.
 //!
-//! A [`Rule`] is every so many of one unit. Occurrence k of a rule is the start with k times as much added, as
-//! ECMAScript Temporal's NonISODateAdd adds in the start's calendar. Each counts from the start and none from the
-//! one before it, so a day that one month lacks moves no later occurrence: with a month added to January 31 again
-//! and again come February 28, March 31 and April 30.
+//! A [`Rule`] is a unit and a number of it. Occurrence k of a rule is the start with k times that number added, in the
+//! start's calendar (ECMAScript Temporal, `NonISODateAdd`). Each occurrence counts from the start and not from the one
+//! before it, so a short month doesn't move the later ones. Monthly from January 31, the occurrences are February 28,
+//! March 31 and April 30.
 //!
-//! - [`recur`] lists the occurrences in a [`Window`](cal_types::Window), one after another.
-//! - [`occurrence_counted`] is one of them by its index.
-//! - [`first_index_counted`] is the index of the first one that isn't before a day.
+//! - [`recur`] lists the occurrences in a [`Window`](cal_types::Window). Start here.
+//! - [`occurrence_counted`] computes the day of one occurrence from its index.
+//! - [`first_index_counted`] finds the index of the first occurrence on or after a day.
 //!
-//! None of them takes memory. For the last days of the first four months of 2021:
+//! No call takes memory. The last days of January and February 2021:
 //!
 //! ```
 //! let window = Window::try_new(RataDie::new(737821), RataDie::new(737910))?;
@@ -22,12 +22,14 @@
 //!
 //! # The recurrence rules of iCalendar
 //!
-//! Of an RRULE of RFC 5545 without BY-parts, FREQ=YEARLY, MONTHLY, WEEKLY or DAILY is the unit and INTERVAL is
-//! `every`; UNTIL is the window's last day, and COUNT is to take so many items. RSCALE of RFC 7529 is the calendar.
-//! Its SKIP=OMIT, which is also what an RRULE without RSCALE does, is [`Missing::Skip`]. [`Missing::Constrain`] is
-//! SKIP=BACKWARD for a day that its month lacks; for a leap month that its year lacks it takes the month that stands
-//! in for it in the calendar: the plain month of its number, as SKIP=BACKWARD does, but in the Hebrew calendar Adar
-//! for Adar I, as SKIP=FORWARD does. The rest of SKIP=FORWARD and the BY-parts aren't here.
+//! An RRULE of RFC 5545 without BY-parts can be written as a [`Rule`]. FREQ=YEARLY, MONTHLY, WEEKLY or DAILY is the
+//! unit, and INTERVAL is `every`. UNTIL is the window's last day, and COUNT is the number of items to take. RSCALE of
+//! RFC 7529 is the calendar.
+//!
+//! SKIP=OMIT, the default of an RRULE without RSCALE, is [`Missing::Skip`]. [`Missing::Constrain`] is SKIP=BACKWARD if
+//! the month lacks the day. If the year lacks a leap month, it takes the calendar's stand-in: the regular month with
+//! the same number, as SKIP=BACKWARD does. In the Hebrew calendar the stand-in of Adar I is Adar, as under
+//! SKIP=FORWARD. SKIP=FORWARD is otherwise not supported, nor are the BY-parts.
 #![tactic(auto)]
 
 mod near;

@@ -1,4 +1,4 @@
-//! An index near the first occurrence that isn't before a day.
+//! An index near the first occurrence on or after a day.
 
 ghost use Rattle.std.specs.Prelude.{◌≡◌, ◌<◌, ◌+ℤ◌, ℕ, ℤ, pos, IsTrue, Some, ◌<ℤ◌, ◌≤ℤ◌};
 ghost use Rattle.cal_days.specs.Day.{IsValidDay};
@@ -11,8 +11,8 @@ use cal_base::Calendar;
 use cal_days::RataDie;
 use cal_types::{DateDifferenceOptions, DateDurationUnit};
 
-/// An index near the first occurrence that isn't before a day. The occurrences below it are before the day, and those
-/// above it are after it.
+/// Returns an index near the first occurrence on or after a day. Occurrences with a smaller index are before the day,
+/// and those with a greater index are after it.
 pub(crate) fn index_near<C: Calendar>(
     calendar: &C,
     start: &C::DateInner,
@@ -28,8 +28,8 @@ pub(crate) fn index_near<C: Calendar>(
     units_near(calendar, start, rule.unit(), day).div_ceil(rule.every())
 }
 
-/// How many of a unit lead near a day: fewer lead before it, and more lead after it. Weeks and days are counted from
-/// the start's day number on, so that they don't take the date of the day.
+/// Returns how many of a unit lead near a day: fewer lead before it, and more lead after it. Weeks and days are counted
+/// from the start's day number, so they don't need the date of the day.
 fn units_near<C: Calendar>(
     calendar: &C,
     start: &C::DateInner,
@@ -48,8 +48,8 @@ fn units_near<C: Calendar>(
     }
 }
 
-/// How many years lead near a day: as many as lead from the start's year to the day's, or 0 where that isn't later.
-/// They lead into the day's year, to a day that may come before it.
+/// Returns how many years lead near a day: the day's year minus the start's, or 0 if that is negative. They lead into
+/// the day's year, possibly to an earlier day.
 fn years_near<C: Calendar>(calendar: &C, start: &C::DateInner, day: RataDie) -> u32
     requires belongs { IsTrue (C.belongs calendar.now start.now) }
     requires valid { IsValidDay day }
@@ -64,8 +64,8 @@ fn years_near<C: Calendar>(calendar: &C, start: &C::DateInner, day: RataDie) -> 
     (last - first) as u32
 }
 
-/// How many months lead near a day: those of the difference from the start to the day, and one more where the
-/// difference has days, since its months alone then lead before the day.
+/// Returns how many months lead near a day: the months of the difference from the start to the day. If the difference
+/// has days, one more, since its months alone lead before the day.
 fn months_near<C: Calendar>(calendar: &C, start: &C::DateInner, day: RataDie) -> u32
     requires belongs { IsTrue (C.belongs calendar.now start.now) }
     requires valid { IsValidDay day }
@@ -85,7 +85,7 @@ fn months_near<C: Calendar>(calendar: &C, start: &C::DateInner, day: RataDie) ->
     difference.months + 1
 }
 
-/// How many days a day lies after a start: 0 where it isn't after it.
+/// Returns how many days a day lies after a start, or 0 if it isn't after it.
 fn days_ahead(start: RataDie, day: RataDie) -> u32
     requires from { IsValidDay start }
     requires to { IsValidDay day }

@@ -1,4 +1,4 @@
-//! The occurrences of a rule in a window, one after another.
+//! An iterator over the occurrences of a rule in a window.
 
 ghost use Rattle.std.specs.Prelude.{◌≡◌, IsTrue, Some};
 ghost use Rattle.std.specs.Option.{ForSome};
@@ -18,44 +18,46 @@ use search::first_within;
 /// An occurrence of a rule.
 #[derive(Clone, Copy, Debug, PartialEq)]
 pub struct Occurrence {
-    /// How many times the rule's units were added to the start: 0 is the start itself. At most 838240000, the most
-    /// days that adding takes.
+    /// How many times the rule's units were added to the start: 0 is the start itself. At most 838240000, the most days
+    /// that can be added.
     pub index: u32,
-    /// The day, from -365242499 to 365242134.
+    /// The day number (rata die), from -365242499 to 365242134.
     pub day: RataDie,
 }
 
-/// The occurrences of a rule in a window, which [`recur`] makes. It is an iterator; the indices of its items rise, and
-/// so do their days.
+/// The occurrences of a rule in a window: an iterator whose indices rise, and so do its days. [`recur`] creates it.
 #[derive(Drop)]
 pub struct Recurrence<C: Calendar> {
     calendar: C,
     start: C::DateInner,
     rule: Rule,
-    /// The days that are left.
+    /// The rest of the window.
     rest: Option<Window>,
-    /// The index that is looked at next.
+    /// The index to look at next.
     index: u32,
     ghost belongs: { IsTrue (C.belongs calendar start) },
     ghost before: { ForSome rest
         (λ w. AreBefore (C.system calendar) (C.date_of calendar start) rule w.first index) },
 }
 
-/// The occurrences of a rule in a window: the start with 0, 1, 2 and so on times the rule's units added (ECMAScript
-/// Temporal's NonISODateAdd), each counted from the start, where its day is in the window. There is none before the
-/// start. The start has to belong to the calendar, which [`Calendar::owns`] tests; each inner date in an answer of the
-/// calendar does.
+/// Returns the occurrences of a rule in a window, in order: the start with 0, 1, 2, .. times the rule's units added.
 ///
-/// What the rule skips, and what adding refuses as out of its range, is left out. From January 31, 2021 (day 737821),
-/// every month up to April 30 (737910) gives the indices 0, 1, 2 and 3 under [`Missing::Constrain`] (the last days of
-/// the months), and 0 and 2 under [`Missing::Skip`] (January 31 and March 31).
+/// Each occurrence counts from the start (ECMAScript Temporal, `NonISODateAdd`), and none is before it. Occurrences that
+/// the rule skips, or whose sum is out of range, are left out. The start has to belong to the calendar, which
+/// [`Calendar::owns`] tests. Every inner date that the calendar returns does.
 ///
-/// In months the first item takes one difference ([`Calendar::until`]), from the start to the window's first day. From
-/// there on each occurrence takes one sum ([`Calendar::add`]), or two where it is skipped, and at most one lies before
-/// the window. How far it lies from the start doesn't matter, and no memory is taken.
+/// Monthly from January 31, 2021 (day 737821) to April 30 (737910), the indices are 0, 1, 2 and 3 under
+/// [`Missing::Constrain`]: the last days of the months. Under [`Missing::Skip`] they are 0 and 2: January 31 and March
+/// 31.
+///
+/// Months take one difference ([`Calendar::until`]), from the start to the window's first day. Each occurrence
+/// takes one sum ([`Calendar::add`]), or two if it is skipped, and at most one occurrence before the window is computed.
+/// The cost doesn't depend on the distance from the start, and no memory is taken.
 ///
 /// [`Missing::Constrain`]: crate::Missing::Constrain
 /// [`Missing::Skip`]: crate::Missing::Skip
+///
+/// # Examples
 ///
 /// ```
 /// let window = Window::try_new(RataDie::new(737821), RataDie::new(737910))?;
@@ -92,11 +94,13 @@ pub fn recur<C: Calendar + Copy>(
 }
 
 impl<C: Calendar + Copy> Recurrence<C> {
-    /// The days that are left: the whole window before the first item, and after an item those from the next day on.
-    /// `None` where that item was on the window's last day, and once there was no further item.
+    /// Returns the rest of the window: the days after the last item, or the whole window before the first item.
     ///
-    /// A caller may stop after any item and go on later with a recurrence of the same start and rule in these days: it
-    /// gives the items that this one has left, with their indices.
+    /// `None` if the last item was on the window's last day, or if `next` has returned `None`. A caller may stop after
+    /// any item and continue later: [`recur`] with the same start and rule over the rest lists the remaining items, with
+    /// their indices.
+    ///
+    /// # Examples
     ///
     /// ```
     /// let window = Window::try_new(RataDie::new(737821), RataDie::new(737910))?;

@@ -1,5 +1,5 @@
 -- What the calls on dates answer.
-use Rattle.std.specs.Prelude.{◌≡◌, ℕ, ℤ, ◌<◌, ◌&&◌, List, ◌++◌, drop, length, Option, Some, None, Result, Ok, Err, MatchBool}
+use Rattle.std.specs.Prelude.{◌≡◌, ℕ, ℤ, ◌&&◌, Bool, true, false, List, length, Option, Some, None, Result, Ok, Err, MatchBool}
 use Rattle.cal_days.specs.Day.{is_valid_day}
 use Rattle.cal_types.specs.Bag.{Bag}
 use Rattle.cal_types.specs.declared.duration.DateDuration.{DateDuration}
@@ -17,6 +17,7 @@ use Rattle.date_calls.specs.Durations.{IsAdded, IsApart, duration_told}
 use Rattle.date_calls.specs.Eras.{IsEraOf}
 use Rattle.date_calls.specs.Fields.{IsResolved}
 use Rattle.date_calls.specs.Outcomes.{fields_fault, sum_fault}
+use Rattle.date_calls.specs.Rooms.{IsPut}
 use Rattle.date_calls.specs.declared.dates.CalendarDate.{CalendarDate}
 use Rattle.date_calls.specs.declared.durations.CalendarDuration.{CalendarDuration}
 use Rattle.date_calls.specs.declared.outcomes.Fault.{Fault}
@@ -95,13 +96,20 @@ DiffersIn s (Some unit) first second code before now =
     (IsLeft 4 code before now)
 DiffersIn s None first second code before now = IsLeft 3 code before now
 
--- the code of the era of a day's year stands first in the room; or the room is too short, and as it was
+-- the code says whether a text fits into its room
+abbrev pub put_code : Bool → ℕ
+put_code true = 0
+put_code false = 8
+
+-- the code of the era of a day's year stands first in the room, or the room is too short and as it was; the answer is
+-- 0 or 8 by that
 pub record TellsEra (s : CalendarSystem) (day : ℤ) (code : ℕ) (before now : List ℕ) (written : ℕ) : Type 0 where
   pub era : List ℕ
   pub is : IsEraOf s day era
   pub count : written ≡ length era
-  pub fits : code ≡ 0 → now ≡ era ++ drop (length era) before
-  pub longer : code ≡ 8 → (length before < length era) × (now ≡ before)
+  pub fits : Bool
+  pub put : IsPut fits era before now
+  pub told : code ≡ put_code fits
 
 abbrev pub ShowsEra : CalendarSystem → ℤ → ℕ → List ℕ → List ℕ → ℕ → Type 0
 ShowsEra s day code before now written =

@@ -1,4 +1,4 @@
-//! The calendar that two codes stand for, and what is asked of it in its own type.
+//! The calendar for two codes, and questions to it in its own type.
 
 ghost use Rattle.std.specs.Prelude.{◌≡◌};
 ghost use Rattle.cal_coptic.specs.EthiopianSystem.{ethiopian_system};
@@ -31,7 +31,7 @@ pub(crate) struct Chosen {
     tables: Tables<'static>,
 }
 
-/// The calendar that two codes stand for, or the code of the fault.
+/// The calendar for the codes of a kind and of a source of years, or the code of the error.
 pub(crate) fn choose(calendar: u8, years: u8) -> Result<Chosen, u8>
     ensures { chosen_system result ≡ calendar_of calendar years }
 {
@@ -44,14 +44,14 @@ pub(crate) fn choose(calendar: u8, years: u8) -> Result<Chosen, u8>
     Ok(Chosen { kind, tables })
 }
 
-/// What a question is answered in a Hijri calendar.
+/// Asks a Hijri calendar.
 fn ask_in_hijri<R: HijriRules, Q: Question>(question: &Q, calendar: Hijri<R>) -> Q::Answer
     ensures { Q.answers question.now (hijri_system (R.year_of calendar.0) (R.reference calendar.0)) result }
 {
     question.ask(&calendar)
 }
 
-/// What a question is answered in the tabular Hijri calendar with these leap years, from a day on.
+/// Asks the tabular Hijri calendar with these leap years and this epoch.
 fn ask_in_tabular<Q: Question>(
     question: &Q,
     leap_years: TabularAlgorithmLeapYears,
@@ -63,7 +63,7 @@ fn ask_in_tabular<Q: Question>(
     ask_in_hijri(question, Hijri::new_tabular(leap_years, epoch))
 }
 
-/// What a question is answered in the Chinese or the Korean calendar.
+/// Asks the Chinese or the Korean calendar.
 fn ask_in_east_asian<R: EastAsianRules, Q: Question>(
     question: &Q,
     calendar: EastAsianTraditional<R>,
@@ -74,21 +74,21 @@ fn ask_in_east_asian<R: EastAsianRules, Q: Question>(
     question.ask(&calendar)
 }
 
-/// What a question is answered in the Ethiopian calendar with the years of an era.
+/// Asks the Ethiopian calendar with an era style.
 fn ask_in_ethiopian<Q: Question>(question: &Q, style: EthiopianEraStyle) -> Q::Answer
     ensures { Q.answers question.now (ethiopian_system style) result }
 {
     question.ask(&Ethiopian::new_with_era_style(style))
 }
 
-/// What a question is answered in the Japanese calendar.
+/// Asks the Japanese calendar.
 fn ask_in_japanese<Q: Question>(question: &Q, tables: &Tables<'_>) -> Q::Answer
     ensures { Q.answers question.now (listed_system (table_contents tables.now).eras) result }
 {
     question.ask(&tables.japanese())
 }
 
-/// What a question is answered in the calendar of a kind over tables.
+/// Asks the calendar of a kind over tables.
 fn ask_kind<Q: Question>(question: &Q, kind: AnyCalendarKind, tables: &Tables<'_>) -> Q::Answer
     ensures { Q.answers question.now (kind_system (table_contents tables.now) kind) result }
 {
@@ -117,7 +117,7 @@ fn ask_kind<Q: Question>(question: &Q, kind: AnyCalendarKind, tables: &Tables<'_
     }
 }
 
-/// What a question is answered in the calendar that was chosen.
+/// Asks the chosen calendar.
 pub(crate) fn ask<Q: Question>(question: &Q, chosen: &Chosen) -> Q::Answer
     ensures { Q.answers question.now (choice_system chosen.now) result }
 {

@@ -1,4 +1,4 @@
-//! The calls on dates.
+//! The calls on dates, as `icu_calendar_c` and `icu_calendar_wasm` export them.
 
 ghost use Rattle.std.specs.Prelude.{◌≡◌, MatchResult};
 ghost use Rattle.cal_types.specs.Bag.{bag_of};
@@ -22,7 +22,7 @@ use crate::outcomes::{
 use crate::rooms::put;
 use cal_types::{DateAddOptions, DateDifferenceOptions, DateFields, DateFromFieldsOptions};
 
-/// The date of a day in a calendar.
+/// The date of a day number in a calendar.
 fn show_day(chosen: &Chosen, day: i64, date: &mut CalendarDate) -> u8
     ensures { ShowsDay (choice_system chosen.now) day result date.old date.new }
 {
@@ -33,11 +33,19 @@ fn show_day(chosen: &Chosen, day: i64, date: &mut CalendarDate) -> u8
     DONE
 }
 
-/// Puts into `date` what the date of a day says in a calendar.
+/// Converts a day number to a date of a calendar, in `date`.
 ///
-/// The calendar's code is one of `ICU_CALENDAR_ISO` and the like, and `years` says whether they are computed (0) or
-/// published (1). The answer is 0, or 1 to 4, in this order, for a code that is no calendar's, one that is none of
-/// years, and a day number that isn't from -365242499 to 365242134. Then `date` is as it was.
+/// `calendar` is a code such as `ICU_CALENDAR_ISO`; `years` is 0 for computed and 1 for published years; `day` is a day
+/// number (rata die).
+///
+/// # Errors
+///
+/// Every call returns a code; 0 means that `date` is filled in. Otherwise `date` is unchanged, and the code is the
+/// first of:
+///
+/// - 1 if no calendar has the code.
+/// - 2 if `years` is neither 0 nor 1.
+/// - 4 if `day` isn't from -365242499 to 365242134.
 pub fn date_of_day(calendar: u8, years: u8, day: i64, date: &mut CalendarDate) -> u8
     ensures { MatchResult (calendar_of calendar years) (λ s. ShowsDay s day result date.old date.new)
         (λ why. IsLeft why result date.old date.new) }
@@ -48,7 +56,7 @@ pub fn date_of_day(calendar: u8, years: u8, day: i64, date: &mut CalendarDate) -
     }
 }
 
-/// Tells a caller why there is no date.
+/// Reports why there is no date.
 fn refuse(fault: Fault, max: &mut u8) -> u8
     ensures code { result ≡ fault.code }
     ensures max { max.new ≡ fault.max }
@@ -57,7 +65,7 @@ fn refuse(fault: Fault, max: &mut u8) -> u8
     fault.code
 }
 
-/// The date that fields name in a calendar.
+/// The date of some fields in a calendar.
 fn name_date(
     chosen: &Chosen,
     fields: DateFields<'_>,
@@ -77,7 +85,7 @@ fn name_date(
     }
 }
 
-/// The same, with the codes of the options.
+/// Does what `name_date` does, from the codes of the options.
 fn name_with(
     chosen: &Chosen,
     fields: DateFields<'_>,
@@ -103,13 +111,18 @@ fn name_with(
     name_date(chosen, fields, options, date, max)
 }
 
-/// Puts into `date` what the date says that fields name in a calendar, or answers their first fault.
+/// Creates a date from fields, in `date`.
 ///
-/// An era or a month code without a byte isn't given. `overflow` is 0 or 2 where a month or a day that isn't there is
-/// refused, and 1 where it becomes the nearest; `missing` is 0 or 1 where missing fields are refused, and 2 where a
-/// missing year or day is supplied. The answer is 0, or 1 to 3 for codes that are none, or 10 to 20 for the first fault
-/// of the fields, with the greatest number that would do in `max` for 19 and 20, which is 0 otherwise. Where the answer
-/// isn't 0, `date` is as it was.
+/// An empty `era` or `month_code` counts as not given. `overflow` is 1 to constrain a month or day that doesn't exist,
+/// and 0 or 2 to reject it. `missing` is 2 to supply a missing year or day as ECMAScript Temporal does, and 0 or 1 to
+/// reject it.
+///
+/// # Errors
+///
+/// The code is 0 if `date` is filled in. Otherwise `date` is unchanged, and the code is the first of:
+///
+/// - 1, 2 or 3 for an unknown calendar, an unknown source of years or an unknown option.
+/// - 10 to 20 for the first invalid field. For 19 and 20 `max` is the greatest valid number; otherwise `max` is 0.
 pub fn date_of_fields(
     calendar: u8,
     years: u8,
@@ -136,7 +149,7 @@ pub fn date_of_fields(
     }
 }
 
-/// The date that a duration leads to from a day in a calendar.
+/// The date of a sum in a calendar.
 fn add_to(chosen: &Chosen, sum: &Sum, date: &mut CalendarDate, max: &mut u8) -> u8
     requires { max.old ≡ 0 }
     ensures { let overflow = add_overflow_of sum.now.options.overflow in
@@ -151,7 +164,7 @@ fn add_to(chosen: &Chosen, sum: &Sum, date: &mut CalendarDate, max: &mut u8) -> 
     }
 }
 
-/// The same, with the code of the option and the number of the day.
+/// Does what `add_to` does, from the code of the option and a day number.
 fn add_in(
     chosen: &Chosen,
     day: i64,
@@ -178,12 +191,17 @@ fn add_in(
     add_to(chosen, &sum, date, max)
 }
 
-/// Puts into `date` what the date says to which a duration leads from the date of a day in a calendar.
+/// Adds a duration to the date of a day number, in `date`.
 ///
-/// `overflow` is 2 where a month or a day that isn't there is refused, and 0 or 1 where it becomes the nearest. The
-/// answer is 0, or 1 to 4 for codes that are none and a day number that isn't valid, or 12, 17 or 20 where the sum is
-/// refused, with the greatest day that would do in `max` for 20, which is 0 otherwise. Where the answer isn't 0, `date`
-/// is as it was.
+/// `overflow` is 2 to reject a month or day that doesn't exist, and 0 or 1 to constrain it.
+///
+/// # Errors
+///
+/// The code is 0 if `date` is filled in. Otherwise `date` is unchanged, and the code is the first of:
+///
+/// - 1, 2 or 3 for an unknown calendar, an unknown source of years or an unknown option.
+/// - 4 if `day` isn't from -365242499 to 365242134.
+/// - 12, 17 or 20 if the sum fails. For 20 `max` is the month's length; otherwise `max` is 0.
 pub fn add(
     calendar: u8,
     years: u8,
@@ -204,7 +222,7 @@ pub fn add(
     }
 }
 
-/// How far a second day is from a first one in a calendar.
+/// The difference of two day numbers in a calendar.
 fn differ_in(
     chosen: &Chosen,
     first: i64,
@@ -232,11 +250,17 @@ fn differ_in(
     DONE
 }
 
-/// Puts into `duration` how far the date of a second day is from that of a first one in a calendar: the greatest
-/// duration that doesn't lead past the second. Added to the first with `overflow` 1, it gives the second.
+/// Computes the difference between the dates of two day numbers, in `duration`: the greatest duration that doesn't lead
+/// past the second. Adding it to the first date, with `overflow` 1, returns the second.
 ///
-/// The largest unit is years (1), months (2), weeks (3) or days (0 or 4). The answer is 0, or 1 to 4 for codes that are
-/// none and day numbers that aren't valid; then `duration` is as it was.
+/// The largest unit is years (1), months (2), weeks (3) or days (0 or 4).
+///
+/// # Errors
+///
+/// The code is 0 if `duration` is filled in. Otherwise `duration` is unchanged, and the code is the first of:
+///
+/// - 1, 2 or 3 for an unknown calendar, an unknown source of years or an unknown unit.
+/// - 4 if a day number isn't from -365242499 to 365242134.
 pub fn until(
     calendar: u8,
     years: u8,
@@ -271,9 +295,16 @@ fn show_era(chosen: &Chosen, day: i64, room: &mut [u8], written: &mut usize) -> 
     }
 }
 
-/// Puts the code of the era that a day's year is in at the start of `room`, and the count of its bytes, at most 16, into
-/// `written`: 0 for a year of a cycle. The answer is 0, or 1 to 4 as for `icu_calendar_date_of_day`, with 0 in
-/// `written`, or 8 where the room is too short. Where it isn't 0, `room` is as it was.
+/// Writes the code of the era of a day's year to the start of `room`, and its number of bytes, at most 16, to
+/// `written`. A year of a cycle has no era: `written` is 0.
+///
+/// # Errors
+///
+/// The code is 0 if the era is written. Otherwise `room` is unchanged, and the code is the first of:
+///
+/// - 1 or 2 for an unknown calendar or an unknown source of years, with 0 in `written`.
+/// - 4 if `day` isn't from -365242499 to 365242134, with 0 in `written`.
+/// - 8 if `room` is too short; `written` is the number of bytes needed.
 pub fn era_of_day(calendar: u8, years: u8, day: i64, room: &mut [u8], written: &mut usize) -> u8
     ensures { MatchResult (calendar_of calendar years) (λ s. ShowsEra s day result room.old room.new written.new)
         (λ why. IsLeftWith why result written.new room.old room.new) }

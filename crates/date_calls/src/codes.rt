@@ -1,4 +1,4 @@
-//! The codes that callers give: calendars, where their years come from, and options.
+//! The codes that callers pass: calendars, where their years come from, and options.
 
 ghost use Rattle.std.specs.Prelude.{◌≡◌};
 ghost use Rattle.std.specs.Option.{option_map};
@@ -9,7 +9,7 @@ use cal_kinds::AnyCalendarKind;
 use cal_tables::Tables;
 use cal_types::{DateDurationUnit, MissingFieldsStrategy, Overflow};
 
-/// The kind of calendar that a code stands for.
+/// The kind of calendar with a code.
 pub(crate) fn kind_of(code: u8) -> Option<AnyCalendarKind>
     ensures { result ≡ kind_of_code code }
 {
@@ -38,7 +38,7 @@ pub(crate) fn kind_of(code: u8) -> Option<AnyCalendarKind>
     }
 }
 
-/// The tables that a code stands for: without rows, or with the published years.
+/// Returns the tables for a code: 0 for computed years (no rows), 1 for published years, and `None` for any other code.
 pub fn tables_of(code: u8) -> Option<Tables<'static>>
     ensures { option_map table_contents result ≡ contents_of_code code }
 {
@@ -49,7 +49,7 @@ pub fn tables_of(code: u8) -> Option<Tables<'static>>
     }
 }
 
-/// The option `overflow` that a code stands for, which 0 leaves out.
+/// The option `overflow` for a code. 0 leaves it unset.
 pub(crate) fn overflow_of(code: u8) -> Option<Option<Overflow>>
     ensures { result ≡ overflow_of_code code }
 {
@@ -61,7 +61,7 @@ pub(crate) fn overflow_of(code: u8) -> Option<Option<Overflow>>
     }
 }
 
-/// The option for missing fields that a code stands for, which 0 leaves out.
+/// The option for missing fields for a code. 0 leaves it unset.
 pub(crate) fn strategy_of(code: u8) -> Option<Option<MissingFieldsStrategy>>
     ensures { result ≡ strategy_of_code code }
 {
@@ -73,7 +73,7 @@ pub(crate) fn strategy_of(code: u8) -> Option<Option<MissingFieldsStrategy>>
     }
 }
 
-/// The largest unit that a code stands for, which 0 leaves out.
+/// The largest unit for a code. 0 leaves it unset.
 pub(crate) fn unit_of(code: u8) -> Option<Option<DateDurationUnit>>
     ensures { result ≡ unit_of_code code }
 {

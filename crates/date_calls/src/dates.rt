@@ -1,4 +1,4 @@
-//! The date of a day, and what it says.
+//! The parts of a date, and the date of a day number.
 
 ghost use Rattle.std.specs.Prelude.{◌≡◌, IsTrue};
 ghost use Rattle.cal_types.specs.Year.{era_year_or_related_iso_of, extended_year_of};
@@ -9,21 +9,21 @@ use crate::questions::Question;
 use cal_base::Calendar;
 use cal_types::{IntoYearInfo, YearInfo};
 
-/// What a date says in its calendar.
+/// The parts of a date in its calendar.
 #[repr(C)]
 #[derive(Clone, Copy, Debug, PartialEq, Eq, Drop)]
 pub struct CalendarDate {
-    /// The number of the day: 1 is 0001-01-01 in the ISO calendar.
+    /// The day number (rata die): 1 is 0001-01-01 in the ISO calendar.
     pub day_number: i64,
     /// The extended year, which numbers a calendar's years without eras.
     pub extended_year: i32,
-    /// The year in its era, or the ISO year in which a year of the cycle of sixty begins.
+    /// The era year, or the ISO year in which a year of the cycle of sixty begins.
     pub era_year: i32,
-    /// The year in the cycle of sixty years, from 1; 0 where the year is in an era.
+    /// The year in the cycle of sixty years, from 1; 0 if the year is in an era.
     pub cyclic_year: u8,
-    /// The place of the month in its year, from 1.
+    /// The month's ordinal number in its year, from 1.
     pub ordinal_month: u8,
-    /// The month's number, which after a leap month isn't its place.
+    /// The month's number, as in its code. After a leap month it differs from the ordinal month.
     pub month_number: u8,
     /// 1 for a leap month, otherwise 0.
     pub month_is_leap: u8,
@@ -31,14 +31,14 @@ pub struct CalendarDate {
     pub day: u8,
 }
 
-/// 1 for what is so, 0 for what isn't.
+/// 1 if it holds, otherwise 0.
 fn flag(holds: bool) -> u8
     ensures { result ≡ flag holds }
 {
     u8::from(holds)
 }
 
-/// What a year is numbered by.
+/// The numbers of a year: extended, in its era, and in its cycle.
 #[derive(Clone, Copy)]
 struct YearNumbers {
     extended: i32,
@@ -66,7 +66,7 @@ fn numbers_of(year: YearInfo) -> YearNumbers
     }
 }
 
-/// What an inner date says.
+/// The parts of an inner date.
 pub(crate) fn parts_of<C: Calendar>(calendar: &C, date: &C::DateInner) -> CalendarDate
     requires { IsTrue (C.belongs calendar.now date.now) }
     ensures { AreParts (C.system calendar.now) (C.date_of calendar.now date.now) result }
@@ -86,7 +86,7 @@ pub(crate) fn parts_of<C: Calendar>(calendar: &C, date: &C::DateInner) -> Calend
     }
 }
 
-/// Which date a day is.
+/// The task of showing a day number.
 #[derive(Clone, Copy)]
 pub(crate) struct OfDay {
     pub(crate) day: ValidDay,

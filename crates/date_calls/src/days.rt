@@ -1,4 +1,4 @@
-//! Day numbers that are in the valid range.
+//! Day numbers in the valid range.
 
 ghost use Rattle.std.specs.Prelude.{◌≡◌, IfSome};
 ghost use Rattle.std.specs.Option.{is_some};
@@ -16,7 +16,7 @@ pub(crate) struct ValidDay {
 }
 
 impl ValidDay {
-    /// The day of a number, where it is in the range.
+    /// The day number, if it's in the range.
     pub(crate) fn of(number: i64) -> Option<ValidDay>
         ensures some { is_some result ≡ day.is_valid_day number }
         ensures day { IfSome result (λ d. d.day ≡ number) }
@@ -28,7 +28,7 @@ impl ValidDay {
         }
     }
 
-    /// The day.
+    /// The day number as a rata die.
     pub(crate) fn rata_die(self) -> RataDie
         ensures is { result ≡ self.day }
         ensures valid { IsValidDay result }

@@ -1,4 +1,4 @@
-//! What is added to dates, and how far apart they are.
+//! Sums and differences of dates.
 
 ghost use Rattle.std.specs.Prelude.{◌≡◌};
 ghost use Rattle.date_calls.specs.Durations.{duration_given, duration_told};
@@ -9,23 +9,23 @@ use crate::questions::Question;
 use cal_base::Calendar;
 use cal_types::{DateAddError, DateAddOptions, DateDifferenceOptions, DateDuration};
 
-/// A signed duration: the parts have no sign.
+/// A signed duration. Its parts have no sign.
 #[repr(C)]
 #[derive(Clone, Copy, Debug, PartialEq, Eq, Drop)]
 pub struct CalendarDuration {
-    /// The count of years.
+    /// The number of years.
     pub years: u32,
-    /// The count of months.
+    /// The number of months.
     pub months: u32,
-    /// The count of weeks.
+    /// The number of weeks.
     pub weeks: u32,
-    /// The count of days.
+    /// The number of days.
     pub days: u32,
-    /// Whether it goes back in time: 0 for no.
+    /// Not 0 if the duration leads back in time.
     pub is_negative: u8,
 }
 
-/// The duration that a caller gives.
+/// The duration that a caller passes.
 pub(crate) fn duration_of(given: &CalendarDuration) -> DateDuration
     ensures { result ≡ duration_given given.now }
 {
@@ -38,7 +38,7 @@ pub(crate) fn duration_of(given: &CalendarDuration) -> DateDuration
     }
 }
 
-/// What a caller is told of a duration.
+/// The duration that a caller receives.
 pub(crate) fn told(duration: DateDuration) -> CalendarDuration
     ensures { result ≡ duration_told duration }
 {
@@ -51,7 +51,7 @@ pub(crate) fn told(duration: DateDuration) -> CalendarDuration
     }
 }
 
-/// Which date a duration leads to from a day.
+/// The task of adding a duration to a day number.
 #[derive(Clone, Copy)]
 pub(crate) struct Sum {
     pub(crate) day: ValidDay,
@@ -79,7 +79,7 @@ impl Question for Sum {
     }
 }
 
-/// How far a second day is from a first one.
+/// The task of computing a difference.
 #[derive(Clone, Copy)]
 pub(crate) struct Difference {
     pub(crate) from: ValidDay,

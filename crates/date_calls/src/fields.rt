@@ -1,4 +1,4 @@
-//! The date that fields name.
+//! Dates from fields.
 
 ghost use Rattle.std.specs.Prelude.{◌≡◌};
 ghost use Rattle.std.specs.Option.{option_map};
@@ -11,7 +11,7 @@ use crate::questions::Question;
 use cal_base::Calendar;
 use cal_types::{DateFields, DateFromFieldsError, DateFromFieldsOptions, Month};
 
-/// Some of the fields of a date. Each is given where the field with `has_` isn't 0.
+/// Some fields of a date. A field counts as given if its `has_` field isn't 0.
 #[repr(C)]
 #[derive(Clone, Copy, Debug, PartialEq, Eq, Drop)]
 pub struct CalendarFields {
@@ -22,26 +22,26 @@ pub struct CalendarFields {
     pub has_era_year: u8,
     pub has_extended_year: u8,
     pub has_month: u8,
-    /// The month's number; one above 99 is taken as 99.
+    /// The month's number, as in its code. Numbers above 99 count as 99.
     pub month_number: u8,
-    /// Whether it is the leap month of this number: 0 for no.
+    /// Not 0 for the leap month of this number.
     pub month_is_leap: u8,
     pub has_ordinal_month: u8,
-    /// The place of the month in its year, from 1.
+    /// The month's ordinal number in its year, from 1.
     pub ordinal_month: u8,
     pub has_day: u8,
     /// The day of the month, from 1.
     pub day: u8,
 }
 
-/// A value that is given where a number isn't 0.
+/// The value, if `has` isn't 0.
 fn given_if<T: Copy>(has: u8, value: T) -> Option<T>
     ensures { result ≡ given_if has value }
 {
     if has == 0 { None } else { Some(value) }
 }
 
-/// The month of a number, which is a leap month where the second number isn't 0.
+/// The month of a number; a leap month if `leap` isn't 0.
 fn month_of(number: u8, leap: u8) -> Month
     ensures { month_parts result ≡ month_of number leap }
 {
@@ -52,7 +52,7 @@ fn month_of(number: u8, leap: u8) -> Month
     }
 }
 
-/// A month that is given where a number isn't 0.
+/// The month, if `has` isn't 0.
 fn month_if(has: u8, number: u8, leap: u8) -> Option<Month>
     ensures { option_map month_parts result ≡ given_if has (month_of number leap) }
 {
@@ -63,7 +63,7 @@ fn month_if(has: u8, number: u8, leap: u8) -> Option<Month>
     }
 }
 
-/// A text that is given where it has a byte.
+/// The text, if it isn't empty.
 fn text_if(text: &[u8]) -> Option<&[u8]>
     ensures { option_map (λ bytes. bytes.now) result ≡ text_given text.now }
 {
@@ -89,7 +89,7 @@ pub(crate) fn fields_of<'a>(
     }
 }
 
-/// Which date fields name.
+/// The task of creating a date from fields.
 #[derive(Clone, Copy)]
 pub(crate) struct OfFields<'a> {
     pub(crate) fields: DateFields<'a>,

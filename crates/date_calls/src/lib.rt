@@ -1,9 +1,9 @@
-//! Calls on dates by plain values, for callers in other languages: dates of calendars, what is added to them and how far
-//! apart they are.
+//! Calls on dates by plain values, for callers in other languages: conversion, fields, sums, differences, eras, weeks
+//! and Easter.
 //!
-//! A calendar is a code, a date is the number of its day, and what a date says comes in a plain struct. Nothing is kept
-//! between calls, and none takes memory. Each call tests all that it is given, and answers a code. The crates
-//! `icu_calendar_c` and `icu_calendar_wasm` export the calls.
+//! A calendar is a code, a date is a day number (rata die), and the parts of a date come in a plain struct. The calls
+//! keep nothing between them and take no memory. They check every argument and return a code; 0 means success. The
+//! crates `icu_calendar_c` and `icu_calendar_wasm` export them. Start with [`date_of_day`] and [`date_of_fields`].
 #![tactic(auto)]
 
 mod calendars;

@@ -1,29 +1,29 @@
-//! The codes that calls on dates answer.
+//! The codes that the calls return.
 
 ghost use Rattle.std.specs.Prelude.{◌≡◌};
 ghost use Rattle.date_calls.specs.Outcomes.{fields_fault, sum_fault};
 
 use cal_types::{DateAddError, DateFromFieldsError};
 
-/// There is an answer.
+/// The call succeeded.
 pub(crate) const DONE: u8 = 0;
 
-/// The code for a calendar is none.
+/// No calendar has the code.
 pub(crate) const UNKNOWN_CALENDAR: u8 = 1;
 
-/// The code for the years is none.
+/// No source of years has the code.
 pub const UNKNOWN_YEARS: u8 = 2;
 
-/// The code of an option is none.
+/// No option has the code.
 pub(crate) const UNKNOWN_OPTION: u8 = 3;
 
-/// The day number isn't in the valid range.
+/// The day number isn't from -365242499 to 365242134.
 pub(crate) const INVALID_DAY_NUMBER: u8 = 4;
 
-/// There is no room for the text.
+/// The room is too short for the text.
 pub const NO_ROOM: u8 = 8;
 
-/// Why there is no date: the code of the cause, and the greatest number that would do where the cause has one.
+/// Why there is no date: the code, and the greatest valid number if the code has one, otherwise 0.
 #[derive(Clone, Copy)]
 pub(crate) struct Fault {
     pub(crate) code: u8,
@@ -37,7 +37,7 @@ const fn why(code: u8, max: u8) -> Fault
     Fault { code, max }
 }
 
-/// The fault of fields that name no date.
+/// The code of an error of fields.
 pub(crate) fn fault_of_fields(cause: DateFromFieldsError) -> Fault
     ensures { result ≡ fields_fault cause }
 {
@@ -56,7 +56,7 @@ pub(crate) fn fault_of_fields(cause: DateFromFieldsError) -> Fault
     }
 }
 
-/// The fault of a duration that can't be added. The codes are those of fields.
+/// The code of an error of adding. The codes are the same as for fields.
 pub(crate) fn fault_of_sum(cause: DateAddError) -> Fault
     ensures { result ≡ sum_fault cause }
 {

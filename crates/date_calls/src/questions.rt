@@ -1,18 +1,18 @@
-//! What may be asked of a calendar.
+//! A task over any calendar, in its own type.
 
 ghost use Rattle.cal_types.specs.CalendarSystem.{CalendarSystem};
 
 use cal_base::Calendar;
 
-/// A question that each calendar answers, in its own type.
+/// A question that every calendar answers, in its own type.
 pub(crate) trait Question {
-    /// The answer's type.
+    /// The type of the answer.
     type Answer;
 
-    /// What the answer of a calendar says.
+    /// What holds of a calendar's answer.
     ghost answers: { Self → CalendarSystem → Self.Answer → Type 0 };
 
-    /// The answer of a calendar.
+    /// Asks a calendar.
     fn ask<C: Calendar>(&self, calendar: &C) -> Self::Answer
         ensures { answers self.now (C.system calendar.now) result };
 }

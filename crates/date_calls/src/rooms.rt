@@ -1,9 +1,10 @@
-//! Texts that are put where a caller wants them.
+//! Texts that are written to a caller's room.
 
 ghost use Rattle.std.specs.Prelude.{◌≡◌, length};
 ghost use Rattle.date_calls.specs.Rooms.{IsPut};
 
-/// Puts a text at the start of a room, and its length into `written`. Where the room is shorter, it is left as it is.
+/// Writes a text to the start of `room` and its length to `written`. Returns `false`, and leaves `room` unchanged, if
+/// the room is too short.
 pub fn put(text: &[u8], room: &mut [u8], written: &mut usize) -> bool
     ensures count { written.new ≡ length text.now }
     ensures put { IsPut result text.now room.old room.new }

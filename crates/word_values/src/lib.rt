@@ -1,4 +1,4 @@
-//! What one whole word says: a number, or a month by its code.
+//! The values of single words: numbers, and months by their code.
 #![tactic(auto)]
 
 mod months;

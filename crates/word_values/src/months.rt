@@ -1,4 +1,4 @@
-//! The months that words are the codes of.
+//! Months by their code.
 ghost use Rattle.std.specs.Prelude.{◌≡◌};
 ghost use Rattle.std.specs.Option.{option_map};
 ghost use Rattle.cal_types.specs.Month.{month_read};
@@ -6,7 +6,7 @@ ghost use Rattle.cal_types.specs.MonthParts.{month_parts};
 
 use cal_types::Month;
 
-/// The month whose code a word is: `M`, two digits, and `L` for a leap month. None exactly where the word isn't of that
+/// Returns the month of a month code: `M`, two digits, and `L` for a leap month. `None` exactly if the word isn't of that
 /// form.
 pub fn read_month_code(word: &[u8]) -> Option<Month>
     ensures { option_map month_parts result ≡ month_read word.now }

@@ -13,8 +13,8 @@ use cal_base::Calendar;
 use cal_days::RataDie;
 use cal_types::{Overflow, Window};
 
-/// The first occurrence in a window, of those whose index is at least `from`. The search ends at the first occurrence
-/// under [`Overflow::Constrain`] that is past the window or refused, also where the rule skips all before it.
+/// Returns the first occurrence in a window whose index is at least `from`. The search ends at the first occurrence under
+/// [`Overflow::Constrain`] that is past the window or out of range, even if the rule skips all before it.
 pub(crate) fn first_within<C: Calendar>(
     calendar: &C,
     start: &C::DateInner,
@@ -43,7 +43,7 @@ pub(crate) fn first_within<C: Calendar>(
     }
 }
 
-/// The day of an occurrence under [`Overflow::Constrain`], and whether the rule keeps it.
+/// Returns the day of an occurrence under [`Overflow::Constrain`], and whether the rule keeps it.
 fn constrained_at<C: Calendar>(
     calendar: &C,
     start: &C::DateInner,

@@ -1,0 +1,42 @@
+//! Why the reading of a text stops.
+
+ghost use Rattle.std.specs.Prelude.{◌≡◌};
+
+use crate::book::BookError;
+
+/// Why the reading of a text's records stops.
+#[derive(Drop)]
+pub(crate) enum Unread {
+    /// A record isn't one of a book.
+    Bad {
+        /// The number of the record, from 1.
+        number: usize,
+        /// The number of its first invalid field, from 1; 0 if it doesn't have six fields.
+        field: u8,
+    },
+    /// A record is one of a book, but there is no memory to keep it.
+    Unkept {
+        /// The number of the record, from 1.
+        number: usize,
+    },
+    /// `csv` can't read a record. Its error is never about the text: memory is lacking.
+    Unreadable {
+        /// The error.
+        error: csv::Error,
+    },
+}
+
+ghost use Rattle.cal_holidays.specs.Books.{book_error};
+
+impl Unread {
+    /// Returns the public error.
+    pub(crate) fn book_error(self) -> BookError
+        ensures { result ≡ book_error self }
+    {
+        match self {
+            Unread::Bad { number, field } => BookError::Record { number, field },
+            Unread::Unkept { .. } => BookError::Memory,
+            Unread::Unreadable { .. } => BookError::Memory,
+        }
+    }
+}
