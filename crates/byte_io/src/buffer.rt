@@ -1,10 +1,10 @@
-//! A prefix of a line.
+//! The buffer for one line.
 ghost use Rattle.std.specs.Prelude.{◌≡◌, ◌+◌, ◌≤◌, ◌++◌, length, IsTrue};
 ghost use Rattle.arrayvec.specs.ArrayVec.{array_vec_len};
 
 use arrayvec::ArrayVec;
 
-/// The first 512 bytes of a line, and whether it has more.
+/// The first 512 bytes of a line, and whether the line has more.
 #[derive(Drop)]
 pub struct LineBuffer {
     /// The line, or its first 512 bytes.
@@ -14,7 +14,7 @@ pub struct LineBuffer {
     ghost full: { IsTrue over → array_vec_len prefix ≡ 512 },
 }
 
-/// Appends bytes for which there is room.
+/// Appends bytes that fit.
 fn push_all(prefix: &mut ArrayVec<u8, 512>, bytes: &[u8])
     requires { array_vec_len prefix.old + length bytes.now ≤ 512 }
     ensures { prefix.new.items ≡ prefix.old.items ++ bytes.now }
@@ -26,7 +26,7 @@ impl LineBuffer {
     ghost use Rattle.std.specs.Prelude.{ℕ, List, [], ◌==◌};
     ghost use Rattle.byte_io.specs.Buffer.{Holds};
 
-    /// An empty line.
+    /// Creates an empty line.
     pub fn new() -> Self
         ensures { Holds result [] }
     {
@@ -44,7 +44,7 @@ impl LineBuffer {
         self.over = false;
     }
 
-    /// Goes on with the line by `bytes`.
+    /// Appends `bytes` to the line. Bytes after the first 512 of the line are only noted in `over`.
     pub fn extend(&mut self, bytes: &[u8])
         ensures { (line : List ℕ) → Holds self.old line → Holds self.new (line ++ bytes.now) }
     {
@@ -58,7 +58,7 @@ impl LineBuffer {
         }
     }
 
-    /// Whether the line is empty.
+    /// Returns whether the line is empty.
     pub fn is_empty(&self) -> bool
         ensures { (line : List ℕ) → Holds self.now line → result ≡ (length line == 0) }
     {

@@ -1,14 +1,14 @@
-//! Where a program's bytes come from and where they go, each with a count of its faults.
+//! Sources and sinks of bytes, and a reader of lines.
 //!
-//! A [`Source`] gives bytes and a [`Sink`] takes them, a piece at a time. Each counts its own
-//! faults, and an error comes only where that count rose. An object that knows its bytes tells
-//! them to contracts, as those in memory do, so that what a program reads and writes can be stated
-//! exactly. Over standard input and output the same contracts hold and no content is told.
+//! Start with [`Source`] and [`Sink`]. A source is read and a sink is written a piece at a time. Each counts its own
+//! faults, and a call fails only if that count rose. A source or a sink in memory shows its bytes to contracts, so that a
+//! contract can state exactly what a program reads and writes. Standard input and output have the same contracts, but
+//! show no content.
 //!
-//! A [`Reader`] reads the lines of any source, in chunks and without memory of its own. It holds one chunk of bytes and
-//! looks for the next LF in it, and a [`LineBuffer`] holds a prefix of the line that is read. Reading is a pull:
-//! [`Reader::next_line`] looks at the chunk alone, and [`Reader::fill`] reads the next chunk, so that a caller can do
-//! other work between the two.
+//! A [`Reader`] reads the lines of any source in chunks, without allocating. It holds one chunk of bytes and looks for the
+//! next LF in it; a [`LineBuffer`] holds the first bytes of the current line. [`Reader::next_line`] looks at the chunk
+//! only, and [`Reader::fill`] reads the next chunk, so that a caller can do other work between the two. [`read_all`] reads
+//! a whole source into memory.
 #![tactic(auto)]
 
 mod buffer;
@@ -31,42 +31,46 @@ pub use reader::{Filled, LIMIT, Next, Reader};
 pub use standard::{StdSink, StdSource};
 pub use whole::{ReadAllError, read_all};
 
-/// The answer of a source or a sink that has counted a fault in this call.
+/// The error of a source or a sink that counted a fault in this call.
 #[derive(Clone, Copy, Debug, PartialEq, Eq)]
 pub struct Failed;
 
-/// Where bytes come from.
+/// A source of bytes.
 pub trait Source {
-    /// The bytes that are still to come, where the object tells them.
+    /// The bytes that are still to come, or `None` if the source doesn't show them.
     ghost left: { Self → Option (List ℕ) };
 
-    /// How many faults it has counted. A count is a `u64`, begins at 0 and never falls.
+    /// The number of faults so far. It is a `u64`, starts at 0 and never falls.
     ghost faults: { Self → ℕ };
 
-    /// Reads bytes into a prefix of `buf`, and says how many.
+    /// Reads bytes into a prefix of `buf` and returns their number.
     ///
-    /// `Ok(0)` for a buffer that isn't empty is the end of the bytes: where they are told, none is
-    /// left then. `Failed` comes only where the count of faults rose, or stands at the greatest
-    /// `u64`; nothing is read then, and a later call may succeed.
+    /// `Ok(0)` for a buffer that isn't empty means the end of the bytes: if the source shows its bytes, none is left.
+    ///
+    /// # Errors
+    ///
+    /// - [`Failed`] if the count of faults rose, or is already the greatest `u64`. Nothing is read, and a later call may
+    ///   succeed.
     fn read(&mut self, buf: &mut [u8]) -> Result<usize, Failed>
         ensures bound { ReadsAtMost result buf.new }
         ensures bytes { ReadConsumes (left self.old) (left self.new) result buf.new }
         ensures cause { HasCause (faults self.old) (faults self.new) result };
 }
 
-/// Where bytes go.
+/// A sink for bytes.
 pub trait Sink {
-    /// The bytes that were taken so far, where the object tells them.
+    /// The bytes that were taken so far, or `None` if the sink doesn't show them.
     ghost taken: { Self → Option (List ℕ) };
 
-    /// How many faults it has counted. A count is a `u64`, begins at 0 and never falls.
+    /// The number of faults so far. It is a `u64`, starts at 0 and never falls.
     ghost faults: { Self → ℕ };
 
-    /// Takes the bytes of a prefix of `piece`, and says how many: at least one of a piece that
-    /// isn't empty.
+    /// Takes the bytes of a prefix of `piece` and returns their number, at least 1 unless `piece` is empty.
     ///
-    /// `Failed` comes only where the count of faults rose, or stands at the greatest `u64`; nothing
-    /// is taken then, and a later call may succeed.
+    /// # Errors
+    ///
+    /// - [`Failed`] if the count of faults rose, or is already the greatest `u64`. Nothing is taken, and a later call may
+    ///   succeed.
     fn write(&mut self, piece: &[u8]) -> Result<usize, Failed>
         ensures bound { WritesAtMost result piece.now }
         ensures bytes { WriteAppends (taken self.old) (taken self.new) result piece.now }

@@ -3,7 +3,7 @@ ghost use Rattle.std.specs.Prelude.{◌≡◌, Some, None};
 
 use crate::{Failed, Sink, Source};
 
-/// Bytes in memory, given as fast as they are asked for. It never fails.
+/// A source over bytes in memory that never fails and fills each buffer as far as it can.
 #[derive(Drop)]
 pub struct PlainSource<'a> {
     rest: &'a [u8],
@@ -12,7 +12,7 @@ pub struct PlainSource<'a> {
 impl<'a> PlainSource<'a> {
     ghost use Rattle.byte_io.specs.Plain.{plain_rest};
 
-    /// A source of `bytes`.
+    /// Creates a source over `bytes`.
     pub fn new(bytes: &'a [u8]) -> Self
         ensures { plain_rest result ≡ bytes.now }
     {
@@ -36,7 +36,7 @@ impl<'a> Source for PlainSource<'a> {
         ensures bytes { ReadConsumes (Some (plain_rest self.old)) (Some (plain_rest self.new)) result buf.new }
         ensures cause { HasCause 0 0 result }
 
-        // It never fails, and gives all that there is room for.
+        // It never fails, and reads as much as there is room for.
         ensures count { IsOkAnd result (λ n. n ≡ min (length (plain_rest self.old)) (length buf.new)) }
     {
         let count = self.rest.len().min(buf.len());
@@ -47,7 +47,7 @@ impl<'a> Source for PlainSource<'a> {
     }
 }
 
-/// Keeps how many bytes came, and no byte. It takes each piece whole, and never fails.
+/// A sink that counts bytes and keeps none. It takes each piece whole and never fails.
 #[derive(Drop)]
 pub struct PlainSink {
     count: u64,
@@ -56,14 +56,14 @@ pub struct PlainSink {
 impl PlainSink {
     ghost use Rattle.byte_io.specs.Plain.{plain_count};
 
-    /// A sink that has taken nothing.
+    /// Creates a sink that has taken nothing.
     pub fn new() -> Self
         ensures { plain_count result ≡ 0 }
     {
         PlainSink { count: 0 }
     }
 
-    /// How many bytes it has taken, or the greatest `u64` where they are more.
+    /// Returns the number of bytes taken, at most the greatest `u64`.
     pub fn count(&self) -> u64
         ensures { result ≡ plain_count self.now }
     {

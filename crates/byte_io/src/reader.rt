@@ -6,35 +6,34 @@ use crate::Source;
 use crate::buffer::LineBuffer;
 use memchr::memchr;
 
-/// The most bytes that are read: 16 MiB.
+/// The most bytes of a source that are read: 16777216, or 16 MiB.
 pub const LIMIT: usize = 16777216;
 
-/// What [`Reader::next_line`] found in the chunk.
+/// The result of [`Reader::next_line`].
 #[derive(Clone, Copy, Debug, PartialEq, Eq)]
 pub enum Next {
-    /// The rest of a line, and its LF.
+    /// The rest of a line and its LF were found.
     Line,
-    /// No further LF: all of the chunk was looked at, and the next one is to be read.
+    /// The chunk has no further LF. Read the next chunk by [`Reader::fill`].
     Spent,
-    /// No further LF, and more bytes came than are read.
+    /// The chunk has no further LF, and the source has more bytes than [`LIMIT`].
     TooLong,
 }
 
-/// What [`Reader::fill`] brought.
+/// The result of [`Reader::fill`].
 #[derive(Clone, Copy, Debug, PartialEq, Eq)]
 pub enum Filled {
-    /// At least one byte.
+    /// At least one byte was read.
     Some,
-    /// The end of the source.
+    /// The source is at its end.
     End,
-    /// A fault of the source.
+    /// The source counted a fault.
     Fault,
 }
 
-/// One chunk of bytes, and how far it was looked at.
+/// A reader of lines: one chunk of a source's bytes, and how far the reader has looked at it.
 ///
-/// At most 16777216 bytes are looked at. Where more came, the chunk ends at that limit, and
-/// `beyond` says so.
+/// At most [`LIMIT`] bytes of a source are looked at. If more come, the chunk ends at that limit and `beyond` is true.
 #[derive(Drop)]
 pub struct Reader {
     chunk: [u8; 4096],
@@ -49,7 +48,7 @@ pub struct Reader {
     ghost few: { lines + (end - at) ≤ total },
 }
 
-/// The search is set up at its call, which an empty line is spared.
+/// Returns the place of the first LF. An empty line is tested first, so that it doesn't pay for setting up the search.
 fn first_line_feed(bytes: &[u8]) -> Option<usize>
     ensures value { result ≡ position (λ b. b == 10) bytes.now }
     ensures within { IfSome result (λ i. i < length bytes.now) }
@@ -60,7 +59,7 @@ fn first_line_feed(bytes: &[u8]) -> Option<usize>
     memchr(b'\n', bytes)
 }
 
-/// Puts the bytes up to an LF into the line, and says how many they are with it, if one is there.
+/// Appends the bytes before the first LF to the line, and returns their number with the LF, or `None` without an LF.
 fn look(bytes: &[u8], line: &mut LineBuffer) -> Option<usize>
     ensures looks { Looks result bytes.now line.old line.new }
     ensures some { IfSome result (λ n. (0 < n) × (n ≤ length bytes.now)) }
@@ -84,7 +83,7 @@ impl Reader {
     ghost use Rattle.byte_io.specs.Buffer.{Holds};
     ghost use Rattle.byte_io.specs.Reader.{IsAt, IsSpent, Gives, lines_given, turns_left};
 
-    /// A reader that has read nothing.
+    /// Creates a reader that has read nothing.
     pub fn new() -> Self
         ensures at { IsAt result [] [] [] }
         ensures lines { lines_given result ≡ 0 }
@@ -99,7 +98,7 @@ impl Reader {
         }
     }
 
-    /// How many lines were given, which is the number of the last one, counted from 1.
+    /// Returns the number of lines so far, which is the number of the last line, counted from 1.
     pub fn lines(&self) -> u64
         ensures value { result ≡ lines_given self.now }
         ensures within { result ≤ 16777216 }
@@ -107,18 +106,17 @@ impl Reader {
         self.lines
     }
 
-    /// Looks for the next LF in the chunk, and puts the bytes before it behind those in `line`.
+    /// Looks for the next LF in the chunk, and appends the bytes before it to `line`.
     ///
-    /// After `Line` the line is whole: clear it before the next call. After `Spent` it is a prefix
-    /// of a line, and a call after [`Reader::fill`] goes on with it. After `TooLong` the bytes up to
-    /// the limit have no further LF.
+    /// After `Line` the line is whole; clear it before the next call. After `Spent` it is the start of a line, which the
+    /// call after [`Reader::fill`] continues. After `TooLong` the bytes up to the limit have no further LF.
     pub fn next_line(&mut self, line: &mut LineBuffer) -> Next
         ensures gives { (bytes : List ℕ) (lines : List (List ℕ)) (rest : List ℕ)
             → IsAt self.old bytes lines rest → Holds line.old rest
             → Gives result self.new line.new bytes lines }
         ensures spent { result ≡ Next.Spent → IsSpent self.new }
 
-        // Each line is counted, and lines and chunks come to an end.
+        // Each line is counted, and there are finitely many lines and chunks.
         ensures counts { result ≡ Next.Line → lines_given self.new ≡ lines_given self.old + 1 }
         ensures else_same { (result ≡ Next.Line → ⊥) → lines_given self.new ≡ lines_given self.old }
         ensures fewer { result ≡ Next.Line → turns_left self.new < turns_left self.old }
@@ -137,9 +135,9 @@ impl Reader {
         }
     }
 
-    /// Reads the next chunk, in one read of 4096 bytes, where all of the last was looked at.
+    /// Reads the next chunk, in one read of at most 4096 bytes. Call it after `Spent`.
     ///
-    /// After `End` and `Fault` the reader stands where it stood.
+    /// After `End` and `Fault` the reader is where it was.
     pub fn fill<S: Source>(&mut self, source: &mut S) -> Filled
         requires { IsSpent self.old }
         ensures some { result ≡ Filled.Some → (more : List ℕ) × Consumes (S.left source.old) (S.left source.new) more

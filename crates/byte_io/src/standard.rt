@@ -4,8 +4,8 @@ ghost use Rattle.std.specs.Prelude.{◌≡◌, None};
 use crate::{Failed, Sink, Source};
 use std::io::{Read, Write};
 
-/// A source over a reader of std, such as standard input. It tells no content, and counts a fault
-/// at each error of the reader.
+/// A source over a reader of std, such as standard input. It shows no content, and counts a fault at each error of the
+/// reader.
 #[derive(Drop)]
 pub struct StdSource<R> {
     inner: R,
@@ -15,7 +15,7 @@ pub struct StdSource<R> {
 impl<R: Read> StdSource<R> {
     ghost use Rattle.byte_io.specs.Standard.{std_source_faults, std_source_inner};
 
-    /// A source over `inner` that has counted no fault.
+    /// Creates a source over `inner` that has counted no fault.
     pub fn new(inner: R) -> Self
         ensures inner { std_source_inner result ≡ inner }
         ensures faults { std_source_faults result ≡ 0 }
@@ -54,8 +54,8 @@ impl<R: Read> Source for StdSource<R> {
     }
 }
 
-/// A sink over a writer of std, such as standard output. It tells no content, and counts a fault
-/// at each error of the writer, and where the writer takes nothing of a piece that isn't empty.
+/// A sink over a writer of std, such as standard output. It shows no content. It counts a fault at each error of the
+/// writer, and if the writer takes nothing of a piece that isn't empty.
 #[derive(Drop)]
 pub struct StdSink<W> {
     inner: W,
@@ -65,7 +65,7 @@ pub struct StdSink<W> {
 impl<W: Write> StdSink<W> {
     ghost use Rattle.byte_io.specs.Standard.{std_sink_faults, std_sink_inner};
 
-    /// A sink over `inner` that has counted no fault.
+    /// Creates a sink over `inner` that has counted no fault.
     pub fn new(inner: W) -> Self
         ensures inner { std_sink_inner result ≡ inner }
         ensures faults { std_sink_faults result ≡ 0 }

@@ -5,18 +5,18 @@ ghost use Rattle.byte_io.specs.Whole.{AreAll, StopsEarly};
 use crate::Source;
 use std::alloc::Global;
 
-/// Why [`read_all`] doesn't answer all bytes of a source.
+/// The error of [`read_all`].
 #[derive(Clone, Copy, Debug, PartialEq, Eq)]
 pub enum ReadAllError {
     /// The source counted a fault.
     Fault,
-    /// The source gave more bytes than the limit.
+    /// The source has more bytes than the limit.
     TooLong,
-    /// There isn't memory enough for the bytes.
+    /// There is not enough memory for the bytes.
     NoMemory,
 }
 
-/// All bytes that a source has left, at most `limit` of them, which are kept in memory. It reads 4096 bytes at a time.
+/// Reads a source to its end and returns its bytes, at most `limit` of them. It reads at most 4096 bytes a call.
 ///
 /// ```text
 /// let bytes = read_all(alloc, &mut PlainSource::new(b"some bytes"), 16)?;
@@ -24,8 +24,9 @@ pub enum ReadAllError {
 ///
 /// # Errors
 ///
-/// [`ReadAllError::Fault`] where the source counted a fault. [`ReadAllError::TooLong`] where it gave more bytes than
-/// `limit`. [`ReadAllError::NoMemory`] where there isn't memory enough, which comes only after a first byte came.
+/// - [`ReadAllError::Fault`] if the source counted a fault.
+/// - [`ReadAllError::TooLong`] if the source has more bytes than `limit`.
+/// - [`ReadAllError::NoMemory`] if there is not enough memory for the bytes, which are at least one and at most `limit`.
 pub fn read_all<S: Source>(
     alloc: Global,
     source: &mut S,

@@ -20,7 +20,7 @@ use Rattle.calspan_run.specs.declared.status.Status.{Status}
 use Rattle.calspan_run.specs.declared.status.Status.TheVariants.{Done, TableRefused}
 use Rattle.table_rows.specs.declared.table.RowFault.TheVariants.{Late}
 use Rattle.calspan_run.proofs.KindLimits.{kind_limits}
-use Rattle.table_rows.proofs.RowFirstLemmas.{row_lacks}
+use Rattle.table_rows.proofs.RowMemoryLemmas.{row_lacks}
 use Rattle.calspan_run.proofs.BehindRowsLemmas.{AlwaysWrites, WritesOnce, KeepsEnd, GrowsAtLine, over_exists, over_unique, behind_exists, behind_unique, behind_ends, behind_prefix}
 
 -- there is an answer to each request line

@@ -103,7 +103,3 @@ generator_lasts count = record {
   ends = λ bytes more whole text status ends says. says;
   lacks = λ bytes more lacks. absurd lacks;
 }
-
--- and no such run ends as one of other words
-pub not_words : (count : ℕ) (status : Status) (before now : Outside) → Serves (generator_rules count) status before now → status ≡ Words → ⊥
-not_words count status before now h e = subst (λ (s : Status). Serves (generator_rules count) s before now) e h

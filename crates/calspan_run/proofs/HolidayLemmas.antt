@@ -20,12 +20,11 @@ use Rattle.cal_holidays.specs.declared.book.BookError.TheVariants as book
 use Rattle.cal_holidays.specs.declared.merged.Holiday.{Holiday}
 use Rattle.cal_tables.specs.Kinds.{no_contents}
 use Rattle.calspan_run.specs.Asked.{HolidaysAsked}
-use Rattle.calspan_run.specs.Command.{Asked, Holidays}
 use Rattle.calspan_run.specs.DayLines.{is_refused, is_window, list_text}
 use Rattle.calspan_run.specs.Endings.{EndsWith, MayEnd}
 use Rattle.calspan_run.specs.HolidayEndings.{EndsHolidays}
 use Rattle.calspan_run.specs.HolidayLines.{book_read, holiday_line, holidays_answer, holidays_by, record_fault, with_record}
-use Rattle.calspan_run.specs.HolidayRuns.{AllRead, HolidayEnds, RunsHolidays}
+use Rattle.calspan_run.specs.HolidayRuns.{AllRead, HolidayEnds}
 use Rattle.calspan_run.specs.Laws.{AreLasting, EveryInputHas, IsUnique}
 use Rattle.calspan_run.specs.Refusals.{status_of}
 use Rattle.calspan_run.specs.Rules.{SaysHolidays, holiday_rules}
@@ -36,7 +35,6 @@ use Rattle.calspan_run.specs.declared.status.Status.{Status}
 use Rattle.calspan_run.specs.declared.status.Status.TheVariants.{Done, Refused, Words, ReadFault, WriteFault, NoMemory, TableRefused, TooLong}
 use Rattle.calspan_run.proofs.EndLemmas.{IsEnd, ends_serve}
 use Rattle.calspan_run.proofs.KnownLemmas.{appends_none}
-use Rattle.calspan_run.proofs.ServingLemmas.{headline}
 
 -- where each record is a holiday, these are the book
 book_is_read : (number : ℕ) (rows : List (List (List ℕ))) (rules : List NamedRule) → map record_read rows ≡ map Ok rules → book_read number rows ≡ Ok rules
@@ -127,7 +125,7 @@ empty_answer asked bytes none e =
     ∙ ap (λ (pairs : List (ℤ × ℕ)). Ok (lines_text (holiday_line []) pairs)) (no_holidays asked.first asked.last))
 
 -- what `holidays` says lasts, and there is one text and one status
-holidays_last : (asked : HolidaysAsked) → AreLasting (holiday_rules asked)
+pub holidays_last : (asked : HolidaysAsked) → AreLasting (holiday_rules asked)
 holidays_last asked = record {
   ends = λ bytes more whole text status e h. absurd e;
   lacks = λ bytes more h. omega (arith, h, length-append bytes more);
@@ -170,6 +168,7 @@ module _ (asked : HolidaysAsked) (left l t t2 : Option (List ℕ)) (reads reads2
         whole = true;
         exchanged = record { took = h.took; wrote = keeps_none t t2 kept };
         may = subst (λ (b : List ℕ). 0 < length b) (sym (take_all limit bytes h.within)) some;
+        within = λ keeps. h.within;
         at_end = λ e. (h.at_end, h.within);
       }
 
@@ -181,15 +180,9 @@ module _ (asked : HolidaysAsked) (left l t : Option (List ℕ)) (reads reads2 w 
     whole = false;
     exchanged = record { took = took; wrote = appends_none t };
     may = subst (λ (b : List ℕ). 0 < length b) (sym (take_all limit bytes within)) some;
+    within = λ keeps. within;
     at_end = λ e. cc;
   }
-
--- how a run ends is all that is said of it
-pub runs_holidays : (asked : HolidaysAsked) (status : Status) (l l2 t t2 : Option (List ℕ)) (r r2 w w2 : ℕ) → Serves (holiday_rules asked) status (outside l t r w) (outside l2 t2 r2 w2) → RunsHolidays asked status (outside l t r w) (outside l2 t2 r2 w2)
-runs_holidays asked status l l2 t t2 r r2 w w2 h = record {
-  serves = h;
-  writes = headline (holiday_rules asked) (holidays_last asked) status l l2 t t2 r r2 w w2 h;
-}
 
 -- the ends in plain terms
 module _ (asked : HolidaysAsked) (before now : Outside) where
@@ -231,10 +224,6 @@ module _ (asked : HolidaysAsked) (before now : Outside) where
   holiday_ends Words h = h
   holiday_ends ReadFault h = (h.bytes, h.rose, subst (λ (x : List ℕ). Exchanged before now h.bytes x) h.says.0 h.exchanged)
   holiday_ends WriteFault h = h
-  holiday_ends NoMemory h = (h.bytes, some_came limit h.bytes h.may, h.exchanged)
+  holiday_ends NoMemory h = (h.bytes, some_came limit h.bytes h.may, h.within tt, h.exchanged)
   holiday_ends TableRefused h = never_table h.bytes h.text h.whole h.at_line h.says
   holiday_ends TooLong h = (h.bytes, h.more, subst (λ (x : List ℕ). Exchanged before now h.bytes x) h.says.0 h.exchanged)
-
--- what is read of the words is what they ask for
-pub asked_holidays : (w a : HolidaysAsked) (o : Option Asked) → Some (Holidays w) ≡ o → o ≡ Some (Holidays a) → w ≡ a
-asked_holidays w a o e f = let same : ◌≡◌ {A = Option Asked} (Some (Holidays w)) (Some (Holidays a)) = e ∙ f in cc

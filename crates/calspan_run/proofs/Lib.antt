@@ -1,5 +1,6 @@
 mod AnswerLemmas
 mod BehindRowsLemmas
+mod CommandLemmas
 mod DayLineLemmas
 mod EndLemmas
 mod GeneratorLemmas
@@ -11,7 +12,9 @@ mod ListLemmas
 mod ListRunLemmas
 mod ListTextLemmas
 mod ListYieldLemmas
+mod ProgramLemmas
 mod ServingLemmas
 mod UnderwayLemmas
+mod WordLemmas
 mod WriterLemmas
 mod WritingLemmas

@@ -17,7 +17,7 @@ use Rattle.table_rows.specs.TableRows.{TableRows, contents_of}
 use Rattle.calspan_run.specs.declared.status.Status.{Status}
 use Rattle.calspan_run.specs.declared.status.Status.TheVariants.{Done, Refused, Words, ReadFault, WriteFault, NoMemory, TableRefused, TooLong}
 use Rattle.calspan_run.proofs.BehindRowsLemmas.{behind_exists, behind_unique, behind_ends}
-use Rattle.table_rows.proofs.RowFirstLemmas.{row_lacks}
+use Rattle.table_rows.proofs.RowMemoryLemmas.{row_lacks}
 
 refused_is_not : (c : Bool) (s : Status) → s ≡ status_of c → s ≡ TableRefused → ⊥
 refused_is_not true s e f = cc

@@ -45,6 +45,7 @@ module _ (Lists : TableContents → List ℕ → Bool → Type 0) (left l : Opti
     whole = whole;
     exchanged = record { took = took; wrote = appends_none t };
     may = may;
+    within = λ keeps. absurd keeps;
     at_end = at_end;
   }
   stops_serve stop.TooLong t faults more w (bytes, rows, size, took, are) = record {

@@ -1,4 +1,4 @@
--- The texts of lists: there is one over any tables, and one only; and what a run of a list holds to.
+-- The texts of lists: there is one over any tables, and one only.
 use Rattle.std.proofs.Common.{◌≡◌, ℕ, zero, suc, ◌*◌, ◌==◌, ℤ, Bool, true, false, cond, List, Option, Some, None, MatchBool, Result, Ok, Err, codes, refl, sym, ap, ◌∙◌, arith}
 use Rattle.std.proofs.lemmas.Bool.{false≢true}
 use Rattle.std.specs.Option.{option_and_then}
@@ -16,26 +16,11 @@ use Rattle.cal_types.specs.declared.duration.DateDurationUnit.{DateDurationUnit}
 use Rattle.cal_tables.specs.Kinds.{TableContents, kind_system}
 use Rattle.calspan_run.specs.Anniversaries.{anniversary_answer}
 use Rattle.calspan_run.specs.Asked.{AnniversaryAsked, RecurAsked}
-use Rattle.calspan_run.specs.Command.{Asked, Anniversary, Recur}
 use Rattle.calspan_run.specs.DayLines.{IsListText, is_refused, is_window, list_text, occurrence_line}
 use Rattle.calspan_run.specs.Laws.{IsList}
-use Rattle.calspan_run.specs.ListRuns.{RunsList}
 use Rattle.calspan_run.specs.ListTexts.{ListsAnniversaries, ListsOccurrences}
 use Rattle.calspan_run.specs.Recurrences.{IsAnswerByRule, answer_by_rule, no_options, occurrence_lines}
-use Rattle.calspan_run.specs.Rules.{list_rules}
-use Rattle.calspan_run.specs.Run.{outside}
-use Rattle.calspan_run.specs.Serving.{Serves}
 use Rattle.calspan_run.specs.TextSoFar.{lines_text}
-use Rattle.calspan_run.specs.declared.status.Status.{Status}
-use Rattle.calspan_run.proofs.ListLemmas.{list_lasts}
-use Rattle.calspan_run.proofs.ServingLemmas.{headline}
-
--- how a run of a list ends is all that is said of it
-pub runs_list : (Lists : TableContents → List ℕ → Bool → Type 0) (status : Status) (l l2 t t2 : Option (List ℕ)) (r r2 w w2 : ℕ) → Serves (list_rules Lists) status (outside l t r w) (outside l2 t2 r2 w2) → RunsList Lists status (outside l t r w) (outside l2 t2 r2 w2)
-runs_list Lists status l l2 t t2 r r2 w w2 h = record {
-  serves = h;
-  writes = headline (list_rules Lists) (list_lasts Lists) status l l2 t t2 r r2 w w2 h;
-}
 
 text_unique : (a b : Result (List ℕ) (List ℕ)) (x y : List ℕ) (p q : Bool) → a ≡ b → IsListText a x p → IsListText b y q → (x ≡ y) × (p ≡ q)
 text_unique a b x y p q same (e, f) (g, h) = (e ∙ (ap list_text same ∙ sym g), f ∙ (ap is_refused same ∙ sym h))
@@ -108,10 +93,3 @@ recur_list a = record {
       let (n, is2, texts2) = k in
       text_unique m n x y p q (answer_unique a tables (is_window a.header.first a.header.last) m n is is2) texts texts2;
 }
-
--- what is read of the words is what they ask for
-pub asked_days : (w a : AnniversaryAsked) (o : Option Asked) → Some (Anniversary w) ≡ o → o ≡ Some (Anniversary a) → w ≡ a
-asked_days w a o e f = let same : ◌≡◌ {A = Option Asked} (Some (Anniversary w)) (Some (Anniversary a)) = e ∙ f in cc
-
-pub asked_occurrences : (w a : RecurAsked) (o : Option Asked) → Some (Recur w) ≡ o → o ≡ Some (Recur a) → w ≡ a
-asked_occurrences w a o e f = let same : ◌≡◌ {A = Option Asked} (Some (Recur w)) (Some (Recur a)) = e ∙ f in cc

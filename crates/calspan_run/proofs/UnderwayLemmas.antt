@@ -368,6 +368,7 @@ span_stops left l t faults more w stop.NoMemory (bytes, whole, took, may, at_end
   whole = whole;
   exchanged = record { took = took; wrote = appends_none t };
   may = may;
+  within = λ keeps. absurd keeps;
   at_end = at_end;
 }
 span_stops left l t faults more w stop.TooLong (bytes, rows, size, took, are) = record {

@@ -1,22 +1,15 @@
 -- How a run of `holidays` ends.
-use Rattle.std.specs.Prelude.{◌≡◌, ◌≢◌, ℕ, ◌<◌, ◌≤◌, Bool, true, false, List, [], IfSome, length}
+use Rattle.std.specs.Prelude.{◌≡◌, ℕ, ◌<◌, ◌≤◌, Bool, true, false, List, [], length}
 use Rattle.std.specs.Io.KnownBytes.{IsAtEnd}
 use Rattle.byte_io.specs.Faults.{Rose}
 use Rattle.calspan_run.specs.Asked.{HolidaysAsked}
 use Rattle.calspan_run.specs.DayLines.{is_refused, list_text}
 use Rattle.calspan_run.specs.HolidayLines.{holidays_answer}
 use Rattle.calspan_run.specs.Rules.{holiday_rules}
-use Rattle.calspan_run.specs.Run.{Outside, Exchanged, NoFault, limit}
-use Rattle.calspan_run.specs.Serving.{IsAnswered, Serves, StoppedWriting}
+use Rattle.calspan_run.specs.Run.{Outside, Exchanged, limit}
+use Rattle.calspan_run.specs.Serving.{StoppedWriting}
 use Rattle.calspan_run.specs.declared.status.Status.{Status}
 use Rattle.calspan_run.specs.declared.status.Status.TheVariants.{Done, Refused, Words, ReadFault, WriteFault, NoMemory, TableRefused, TooLong}
-
--- how the run ended, and what it took and wrote; and over every input within the limit, with no fault and with memory,
--- all of the text is written
-pub record RunsHolidays (asked : HolidaysAsked) (status : Status) (old new : Outside) : Type 0 where
-  pub serves : Serves (holiday_rules asked) status old new
-  pub writes : IfSome old.left (λ input. length input ≤ limit → NoFault old new → (0 < length input → status ≢ NoMemory)
-      → IsAnswered (holiday_rules asked) old new status input)
 
 -- the source was read to its end, and the list is written, or the line that refuses it
 pub record AllRead (asked : HolidaysAsked) (old new : Outside) (refused : Bool) : Type 0 where
@@ -34,6 +27,7 @@ HolidayEnds asked Words old new = ⊥
 HolidayEnds asked ReadFault old new =
     (bytes : List ℕ) × Rose old.read_faults new.read_faults × Exchanged old new bytes []
 HolidayEnds asked WriteFault old new = StoppedWriting (holiday_rules asked) old new
-HolidayEnds asked NoMemory old new = (bytes : List ℕ) × (0 < length bytes) × Exchanged old new bytes []
+HolidayEnds asked NoMemory old new =
+    (bytes : List ℕ) × (0 < length bytes) × (length bytes ≤ limit) × Exchanged old new bytes []
 HolidayEnds asked TableRefused old new = ⊥
 HolidayEnds asked TooLong old new = (bytes : List ℕ) × (limit < length bytes) × Exchanged old new bytes []

@@ -1,9 +1,14 @@
 -- Laws of what commands write.
-use Rattle.std.specs.Prelude.{◌≡◌, ℕ, Bool, true, false, List, ◌++◌}
+use Rattle.std.specs.Prelude.{◌≡◌, ℕ, ◌≤ℤ◌, Bool, true, false, List, ◌++◌}
 use Rattle.byte_io.specs.Bytes.{IsPrefix}
-use Rattle.cal_tables.specs.Kinds.{TableContents}
+use Rattle.cal_anniversary.specs.FallingOn.{AreAnniversaries}
+use Rattle.cal_holidays.specs.BookNames.{holidays_in}
+use Rattle.cal_holidays.specs.NamedDays.{AreHolidays}
+use Rattle.cal_holidays.specs.Rules.{NamedRule}
+use Rattle.cal_tables.specs.Kinds.{TableContents, kind_system, no_contents}
+use Rattle.cal_types.specs.Anniversary.{anniversaries_between}
 use Rattle.calspan_run.specs.Generator.{IsGenerated}
-use Rattle.calspan_run.specs.Asked.{HolidaysAsked}
+use Rattle.calspan_run.specs.Asked.{AnniversaryAsked, HolidaysAsked}
 use Rattle.calspan_run.specs.HolidayRuns.{HolidayEnds}
 use Rattle.calspan_run.specs.ListEnds.{ListEnds}
 use Rattle.calspan_run.specs.Rules.{holiday_rules, list_rules}
@@ -60,6 +65,20 @@ abbrev pub EndsAsHolidays : HolidaysAsked → Type 0
 EndsAsHolidays asked =
     (status : Status) (before now : Outside) → Serves (holiday_rules asked) status before now
     → HolidayEnds asked status before now
+
+-- the days of `anniversary` are all days of the window that the month and the day fall on, each once and in order
+abbrev pub AnniversariesAreMeant : Type 0
+AnniversariesAreMeant =
+    (a : AnniversaryAsked) (tables : TableContents) → let list = (kind_system tables a.calendar).list in
+    AreAnniversaries list a.leaping a.month a.day a.first a.last
+    (anniversaries_between list a.leaping a.month a.day a.first a.last)
+
+-- the items of `holidays` are all days of the window that a rule of the book names, with its number, each once and in
+-- order
+abbrev pub HolidaysAreMeant : Type 0
+HolidaysAreMeant =
+    (a : HolidaysAsked) (rules : List NamedRule) → a.first ≤ℤ a.last
+    → AreHolidays no_contents rules a.first a.last 0 (holidays_in no_contents rules a.first a.last 0)
 
 -- to every number of requests there is a line, and only one
 abbrev pub EveryNumberHasOneLine : Type 0

@@ -3,6 +3,7 @@ pub mod Answers
 pub mod Asked
 pub mod BehindRows
 pub mod Command
+pub mod CommandRuns
 pub mod CommandSaid
 pub mod CommandWordsLeft
 pub mod DayLines
@@ -14,7 +15,6 @@ pub mod HolidayRuns
 pub mod Laws
 pub mod ListAnswers
 pub mod ListEnds
-pub mod ListRuns
 pub mod ListTexts
 pub mod Progress
 pub mod Recurrences
@@ -23,6 +23,7 @@ pub mod Replies
 pub mod Rules
 pub mod Run
 pub mod Serving
+pub mod SpacedWords
 pub mod Status
 pub mod TableTexts
 pub mod TextSoFar

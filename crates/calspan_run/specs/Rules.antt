@@ -9,7 +9,7 @@ use Rattle.calspan_run.specs.Generator.{IsGenerated}
 use Rattle.calspan_run.specs.HolidayLines.{holidays_answer}
 use Rattle.calspan_run.specs.ListAnswers.{list_behind}
 use Rattle.calspan_run.specs.Refusals.{status_of}
-use Rattle.table_rows.specs.RowLines.{RowComesFirst}
+use Rattle.table_rows.specs.RowLines.{RowTakesMemory}
 use Rattle.calspan_run.specs.Serving.{Rules}
 use Rattle.calspan_run.specs.Answers.{IsAnswers}
 use Rattle.calspan_run.specs.declared.status.Status.{Status}
@@ -20,7 +20,8 @@ abbrev pub span_rules : Rules
 span_rules = record {
   Says = IsAnswers;
   EndsAtLine = λ status. status ≡ TableRefused;
-  MayLack = λ bytes whole. RowComesFirst (lines_in bytes whole);
+  MayLack = λ bytes whole. RowTakesMemory (lines_in bytes whole);
+  KeepsInput = ⊥;
 }
 
 -- a list over the tables: any line that is no row line ends the run too
@@ -28,7 +29,8 @@ abbrev pub list_rules : (TableContents → List ℕ → Bool → Type 0) → Rul
 list_rules Lists = record {
   Says = SaysBehindRows (list_behind Lists);
   EndsAtLine = λ status. (status ≡ Refused) ⊎ (status ≡ TableRefused);
-  MayLack = λ bytes whole. RowComesFirst (lines_in bytes whole);
+  MayLack = λ bytes whole. RowTakesMemory (lines_in bytes whole);
+  KeepsInput = ⊥;
 }
 
 -- `gen`: the line of so many requests is written, whatever the input is
@@ -37,6 +39,7 @@ generator_rules count = record {
   Says = λ bytes whole text status. IsGenerated count text × (status ≡ Done);
   EndsAtLine = λ status. status ≡ Done;
   MayLack = λ bytes whole. ⊥;
+  KeepsInput = ⊥;
 }
 
 -- the text of `holidays`: nothing before the whole input was read, and then the list or the line that refuses it
@@ -51,4 +54,5 @@ holiday_rules asked = record {
   Says = SaysHolidays asked;
   EndsAtLine = λ status. ⊥;
   MayLack = λ bytes whole. 0 < length bytes;
+  KeepsInput = Unit {0};
 }

@@ -8,11 +8,13 @@ use Rattle.calspan_run.specs.declared.status.Status.{Status}
 use Rattle.calspan_run.specs.declared.status.Status.TheVariants.{Done, Refused, Words, ReadFault, WriteFault, NoMemory, TableRefused, TooLong}
 
 -- what a run of a command is held to: the text for an input, or for what has come of it, and how the run ends there;
--- the ends that it may come to at a line; and the inputs for which memory may be lacking
+-- the ends that it may come to at a line; the inputs for which memory may be lacking; and whether it keeps its input in
+-- memory, so that an input beyond the limit lacks none
 pub record Rules : Type 1 where
   pub Says : List ℕ → Bool → List ℕ → Status → Type 0
   pub EndsAtLine : Status → Type 0
   pub MayLack : List ℕ → Bool → Type 0
+  pub KeepsInput : Type 0
 
 -- the whole input was read, or a line ended the run, and the text is written
 pub record Answered (c : Rules) (old new : Outside) (status : Status) : Type 0 where
@@ -63,6 +65,7 @@ pub record WantedMemory (c : Rules) (old new : Outside) : Type 0 where
   pub whole : Bool
   pub exchanged : Exchanged old new bytes []
   pub may : c.MayLack (take limit bytes) whole
+  pub within : c.KeepsInput → length bytes ≤ limit
   pub at_end : whole ≡ true → IsAtEnd new.left × (length bytes ≤ limit)
 
 -- what is so where a run of a command ends with a status

@@ -2,7 +2,7 @@
 use Rattle.std.specs.Prelude.{ℕ, List, codes}
 use Rattle.cal_errors.specs.declared.errors.TableFault.{TableFault}
 use Rattle.cal_errors.specs.declared.errors.TablePart.{TablePart}
-use Rattle.cal_errors.specs.declared.errors.TablePart.TheVariants.{Year, Join, End, Leap, Rule}
+use Rattle.cal_errors.specs.declared.errors.TablePart.TheVariants as parts
 use Rattle.reply_texts.specs.Texts.{about_line}
 use Rattle.table_rows.specs.declared.table.RowFault.{RowFault}
 use Rattle.table_rows.specs.declared.table.RowFault.TheVariants.{Syntax, Range, Late}
@@ -19,11 +19,12 @@ abbrev pub row_refusal : ℕ → RowFault → List ℕ
 row_refusal n why = about_line (codes "table line ") n (row_fault_text why)
 
 abbrev pub part_text : TablePart → List ℕ
-part_text Year = codes "year"
-part_text Join = codes "join"
-part_text End = codes "end"
-part_text Leap = codes "leap"
-part_text Rule = codes "rule"
+part_text parts.Range = codes "range"
+part_text parts.Year = codes "year"
+part_text parts.Join = codes "join"
+part_text parts.End = codes "end"
+part_text parts.Leap = codes "leap"
+part_text parts.Rule = codes "rule"
 
 abbrev pub table_text : Table → List ℕ
 table_text China = codes "table china "

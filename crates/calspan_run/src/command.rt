@@ -1,9 +1,10 @@
-//! What the words of the command line ask for.
+//! The command of a command line.
 ghost use Rattle.std.specs.Prelude.{◌≡◌, ◌≤◌, IfSome, string_bytes, map};
 ghost use Rattle.std.specs.Option.{option_map};
 ghost use Rattle.request_lines.specs.Reading.{IsReading, next_word};
 ghost use Rattle.calspan_run.specs.Command.{anniversary_of, at_end, command_of, count_of, generate_of, holidays_of, is_command};
 ghost use Rattle.calspan_run.specs.CommandWordsLeft.{words_left};
+ghost use Rattle.calspan_run.specs.SpacedWords.{words_in};
 
 use crate::anniversary::words::{AnniversaryWords, read_anniversary};
 use crate::command_words::CommandWords;
@@ -11,27 +12,27 @@ use crate::holidays::words::{HolidayWords, read_holidays};
 use crate::recur::words::{RecurWords, read_recur};
 use word_values::read_number;
 
-/// The most requests that a number may ask for.
+/// The most requests of `gen`.
 const MOST_REQUESTS: u32 = 100_000;
 
-/// What the words of the command line ask for.
+/// A command with its arguments.
 #[derive(Clone, Copy, Debug)]
 pub enum Command<'a> {
-    /// To answer the lines of the input: the word `span` alone.
+    /// `span`: answer the lines of the input.
     Span,
-    /// To sum up the answers to so many requests, at most 100000: the word `gen` and a number of one to six digits.
+    /// `gen COUNT`: sum up the answers to so many requests, at most 100000.
     Generate(u32),
-    /// To list anniversaries: `anniversary CAL SHOWN exact|constrain CODE DAY FIRST LAST`.
+    /// `anniversary CAL SHOWN exact|constrain CODE DAY FIRST LAST`: list anniversaries.
     Anniversary(AnniversaryWords),
-    /// To list the occurrences of a rule: `recur CAL SHOWN UNIT EVERY skip|constrain FIRST LAST FIELDS`.
+    /// `recur CAL SHOWN UNIT EVERY skip|constrain FIRST LAST FIELDS`: list the occurrences of a rule.
     Recur(RecurWords<'a>),
-    /// To list the holidays of a book: `holidays FIRST LAST`.
+    /// `holidays FIRST LAST`: list the holidays of a book.
     Holidays(HolidayWords),
 }
 
 ghost use Rattle.calspan_run.specs.CommandSaid.{command_said};
 
-/// The number of requests that the next word spells by one to six digits, up to 100000.
+/// Returns the number of requests of the next word, one to six digits, up to 100000.
 fn next_count(words: &mut CommandWords) -> Option<u32>
     ensures read { IsReading (next_word count_of (words_left words.old)) result (words_left words.new) }
     ensures few { IfSome result (λ n. n ≤ 100000) }
@@ -44,7 +45,7 @@ fn next_count(words: &mut CommandWords) -> Option<u32>
     }
 }
 
-/// The command, where no word is left.
+/// Returns the command if no word is left.
 fn at_end<'a>(command: Command<'a>, words: &CommandWords) -> Option<Command<'a>>
     requires { is_command (command_said command) }
     ensures said { option_map command_said result ≡ at_end (command_said command.entry) (words_left words.now) }
@@ -53,7 +54,7 @@ fn at_end<'a>(command: Command<'a>, words: &CommandWords) -> Option<Command<'a>>
     if words.is_done() { Some(command) } else { None }
 }
 
-/// The command that the words behind `gen` make.
+/// Reads the arguments of `gen`.
 fn read_generate(mut words: CommandWords<'_>) -> Option<Command<'_>>
     ensures said { option_map command_said result ≡ generate_of (words_left words.entry) }
     ensures few { IfSome result (λ c. is_command (command_said c)) }
@@ -62,7 +63,7 @@ fn read_generate(mut words: CommandWords<'_>) -> Option<Command<'_>>
     at_end(Command::Generate(count), &words)
 }
 
-/// The command that the words behind `anniversary` make.
+/// Reads the arguments of `anniversary`, which are all remaining words.
 fn read_days(mut words: CommandWords<'_>) -> Option<Command<'_>>
     ensures said { option_map command_said result ≡ anniversary_of (words_left words.entry) }
     ensures few { IfSome result (λ c. is_command (command_said c)) }
@@ -71,7 +72,7 @@ fn read_days(mut words: CommandWords<'_>) -> Option<Command<'_>>
     at_end(Command::Anniversary(asked), &words)
 }
 
-/// The command that the words behind `holidays` make.
+/// Reads the arguments of `holidays`, which are all remaining words.
 fn read_window(mut words: CommandWords<'_>) -> Option<Command<'_>>
     ensures said { option_map command_said result ≡ holidays_of (words_left words.entry) }
     ensures few { IfSome result (λ c. is_command (command_said c)) }
@@ -80,12 +81,11 @@ fn read_window(mut words: CommandWords<'_>) -> Option<Command<'_>>
     at_end(Command::Holidays(asked), &words)
 }
 
-/// What the words ask for, if anything.
-pub fn read_command(words: &[String]) -> Option<Command<'_>>
-    ensures said { option_map command_said result ≡ command_of (map string_bytes words.now) }
+/// Reads a command from all words behind a cursor.
+fn read_words(mut words: CommandWords<'_>) -> Option<Command<'_>>
+    ensures said { option_map command_said result ≡ command_of (words_left words.entry) }
     ensures few { IfSome result (λ c. is_command (command_said c)) }
 {
-    let mut words = CommandWords::new(words);
     let name = words.next()?;
     if name == b"span".as_slice() {
         return at_end(Command::Span, &words);
@@ -104,4 +104,21 @@ pub fn read_command(words: &[String]) -> Option<Command<'_>>
     } else {
         None
     }
+}
+
+/// Reads a command from all words of a command line. `None` exactly if they name no command.
+pub fn read_command(words: &[String]) -> Option<Command<'_>>
+    ensures said { option_map command_said result ≡ command_of (map string_bytes words.now) }
+    ensures few { IfSome result (λ c. is_command (command_said c)) }
+{
+    read_words(CommandWords::new(words))
+}
+
+/// Reads a command from a command line in one text, with a single space between two words. `None` exactly if its words
+/// name no command.
+pub fn read_command_text(words: &str) -> Option<Command<'_>>
+    ensures said { option_map command_said result ≡ command_of (words_in words.now) }
+    ensures few { IfSome result (λ c. is_command (command_said c)) }
+{
+    read_words(CommandWords::of_text(words))
 }

@@ -1,17 +1,14 @@
-//! The program's run.
-ghost use Rattle.std.specs.Prelude.{◌≡◌, ◌≢◌, ◌≤◌, true, ℕ, Some, None, IfSome, ◌↔◌, length, map, string_bytes};
-ghost use Rattle.byte_io.specs.Lines.{lines_in};
-ghost use Rattle.calspan_run.specs.Asked.{AnniversaryAsked, HolidaysAsked, RecurAsked};
-ghost use Rattle.calspan_run.specs.Command.{Anniversary, Generate, Holidays, Recur, Span, command_of};
-ghost use Rattle.calspan_run.specs.HolidayRuns.{RunsHolidays};
-ghost use Rattle.calspan_run.specs.ListRuns.{RunsList};
-ghost use Rattle.calspan_run.specs.ListTexts.{ListsAnniversaries, ListsOccurrences};
-ghost use Rattle.calspan_run.specs.Rules.{generator_rules, span_rules};
-ghost use Rattle.calspan_run.specs.Run.{outside, NoFault, limit};
-ghost use Rattle.table_rows.specs.RowLines.{RowComesFirst};
-ghost use Rattle.calspan_run.specs.Serving.{IsAnswered, Serves};
+//! The run of a command.
+ghost use Rattle.std.specs.Prelude.{◌≡◌, ℕ, Option, Some, None, IfSome, ◌↔◌, map, string_bytes};
+ghost use Rattle.std.specs.Option.{option_map};
+ghost use Rattle.calspan_run.specs.Command.{Asked, Generate, command_of, is_command};
+ghost use Rattle.calspan_run.specs.CommandRuns.{Ends, rules_of};
+ghost use Rattle.calspan_run.specs.CommandSaid.{command_said};
+ghost use Rattle.calspan_run.specs.Run.{outside};
+ghost use Rattle.calspan_run.specs.Serving.{Serves};
+ghost use Rattle.calspan_run.specs.SpacedWords.{words_in};
 
-use crate::command::{Command, read_command};
+use crate::command::{Command, read_command, read_command_text};
 use crate::generated::generating::serve_totals;
 use crate::holidays::listing::serve_holidays;
 use crate::lists::serve_list;
@@ -20,45 +17,96 @@ use crate::status::Status;
 use byte_io::{Sink, Source};
 use std::alloc::Global;
 
-/// Does what the words of the command line ask for: with the word `span` alone, reads the source to
-/// its end, line by line, and writes the answer to each line to the sink, over the tables whose rows stand before the
-/// first request line; with the word `gen` and a number of one to
-/// six digits up to 100000, writes one line of counts and sums over the answers to so many requests, and reads
-/// nothing.
+/// Runs a command that was read.
+fn run_command<S: Source, K: Sink>(
+    alloc: Global,
+    command: Command<'_>,
+    source: &mut S,
+    sink: &mut K,
+) -> Status
+    requires { is_command (command_said command) }
+    ensures unread { (count : ℕ) → command_said command.entry ≡ Generate count → source.new ≡ source.old }
+    ensures ends { let old = outside (S.left source.old) (K.taken sink.old) (S.faults source.old) (K.faults sink.old) in
+        let new = outside (S.left source.new) (K.taken sink.new) (S.faults source.new) (K.faults sink.new) in
+        Serves (rules_of (command_said command.entry)) result old new }
+{
+    match command {
+        Command::Span => serve_span(alloc, source, sink),
+        Command::Generate(count) => serve_totals(count, sink),
+        Command::Anniversary(asked) => serve_list(alloc, &asked, source, sink),
+        Command::Recur(asked) => serve_list(alloc, &asked, source, sink),
+        Command::Holidays(asked) => serve_holidays(alloc, asked, source, sink),
+    }
+}
+
+/// Runs the command that was read, if there is one.
+fn run_read<S: Source, K: Sink>(
+    alloc: Global,
+    command: Option<Command<'_>>,
+    source: &mut S,
+    sink: &mut K,
+) -> Status
+    requires { IfSome command (λ c. is_command (command_said c)) }
+    ensures words { (asked : Option Asked) → option_map command_said command.entry ≡ asked
+        → (result ≡ Status.Words) ↔ (asked ≡ None) }
+    ensures untouched { result ≡ Status.Words → (source.new ≡ source.old) × (sink.new ≡ sink.old) }
+    ensures unread { (count : ℕ) → option_map command_said command.entry ≡ Some (Generate count)
+        → source.new ≡ source.old }
+    ensures ends { (asked : Option Asked) → option_map command_said command.entry ≡ asked →
+        let old = outside (S.left source.old) (K.taken sink.old) (S.faults source.old) (K.faults sink.old) in
+        let new = outside (S.left source.new) (K.taken sink.new) (S.faults source.new) (K.faults sink.new) in
+        Ends asked result old new }
+{
+    match command {
+        Some(command) => run_command(alloc, command, source, sink),
+        None => Status::Words,
+    }
+}
+
+/// Runs the command that `words` name, the words of the command line after the program's name.
 ///
-/// With `anniversary CAL SHOWN exact|constrain CODE DAY FIRST LAST` or `recur CAL SHOWN UNIT EVERY skip|constrain FIRST
-/// LAST FIELDS` it reads row lines to the end of the source, and writes a line for each day of a list: its date in the
-/// calendar CAL, and beside it in SHOWN, from the day number FIRST to LAST. The list is the anniversaries of the month of
-/// a code and a day, or the occurrences of every so many `years`, `months`, `weeks` or `days` from the date that the
-/// fields name, each behind its index. Such a list is refused by one line: `err InvalidWindow` where FIRST and LAST aren't
-/// valid days in order; then `err MonthNotInCalendar` and `err InvalidDay`, or `err Every` where EVERY is 0 and `err` with
-/// the first fault of the fields. A line of the source that is no row line is refused (`err line N syntax` or `long`), and
-/// ends the run at once.
+/// | Command | Reads | Writes | Ends, if no call fails |
+/// |---|---|---|---|
+/// | `span` | row lines, then request lines | an answer for each request line | `Done`, `Refused`, `TableRefused` |
+/// | `gen COUNT` | nothing | one line of counts and sums | `Done` |
+/// | `anniversary ..` | row lines | a line for each anniversary | `Done`, `Refused`, `TableRefused` |
+/// | `recur ..` | row lines | a line for each occurrence | `Done`, `Refused`, `TableRefused` |
+/// | `holidays FIRST LAST` | a book | a line for each holiday | `Done`, `Refused` |
 ///
-/// With `holidays FIRST LAST` it reads a book to the end of the source (the text that [`cal_holidays`] reads), and writes a
-/// line for each holiday from the day number FIRST to LAST, in order of their days and on one day of the book: its date in
-/// the ISO calendar, and its name. It is refused by `err InvalidWindow`, or by `err record R field F` for the first record
-/// that is none of a book and its first bad field, 0 where it hasn't six.
+/// - `span` answers the requests over the tables whose rows stand before the first request line.
+/// - `gen` sums up the answers to `COUNT` generated requests. `COUNT` is one to six digits, up to 100000.
+/// - `anniversary CAL SHOWN exact|constrain CODE DAY FIRST LAST` lists the anniversaries of a month code and a day in the
+///   calendar `CAL`. A line has the date in `CAL` and the date in `SHOWN`.
+/// - `recur CAL SHOWN UNIT EVERY skip|constrain FIRST LAST FIELDS` lists the occurrences of every so many `years`,
+///   `months`, `weeks` or `days` from the date that the fields name. A line has the index before the two dates.
+/// - `holidays` reads a book (see [`cal_holidays`]). A line has the date in the ISO calendar and the holiday's name. The
+///   lines are in order of their days, and on one day in order of the book.
 ///
-/// The status says how the run ended, and what was written then, in the case of `span`:
+/// A list covers the day numbers from `FIRST` to `LAST` (rata die). If its arguments or its book are invalid, one line
+/// stands in its place, for the first of these:
 ///
-/// - `Done` and `Refused`: all answers to the input; `Refused` where one of them is `err`. With `gen`, `Done` where the
-///   line was written.
-/// - `Words`: nothing, and nothing was read. This comes exactly where the words aren't of these forms.
-/// - `ReadFault`: the source counted a fault. The answers to all lines whose LF was read.
-/// - `WriteFault`: the sink counted a fault. A prefix of the answers to what was read; nothing is promised of how
-///   long it is.
-/// - `TooLong`: the source gave more than 16777216 bytes. The answers to all lines whose LF is among
-///   the first 16777216.
-/// - `TableRefused`: a row line is refused (`table line N syntax`, `range` or `late`), or a table
-///   (`table NAME ROW PART`). The answers before, and that line.
-/// - `NoMemory`: there was no memory for a row, which can be where the first line that gives anything is a row
-///   line, and nowhere else. Nothing.
+/// - `err InvalidWindow` if `FIRST` and `LAST` aren't valid days in order.
+/// - `anniversary`: `err MonthNotInCalendar`, then `err InvalidDay`.
+/// - `recur`: `err Every` if `EVERY` is 0, then `err` with the first invalid field.
+/// - `holidays`: `err record R field F` for the first invalid record and its first invalid field. `F` is 0 if the record
+///   hasn't six fields.
 ///
-/// In the case of a list, `Done` and `Refused` mean that the list or the line that refuses it was written, `TableRefused`
-/// that the line is one that refuses a row line or a table; after `ReadFault` and `TooLong` nothing was written, and after
-/// `WriteFault` a prefix of the text. With `holidays` there is no `TableRefused`, and `NoMemory` may come where the source
-/// gave a byte.
+/// With `anniversary` and `recur`, the first line that isn't a row line ends the run with `err line N syntax` or
+/// `err line N long`.
+///
+/// The status says how the run ended:
+///
+/// - `Done` and `Refused`: the whole text is written. `Refused` if one of its lines is `err`.
+/// - `Words`: the words name no command. Nothing was read or written.
+/// - `TableRefused`: a row line is invalid (`table line N syntax`, `range` or `late`), or a table (`table NAME ROW PART`).
+///   The answers before it and that line are written.
+/// - `ReadFault`: the source counted a fault. With `span`, the answers to all lines whose LF was read are written;
+///   otherwise nothing.
+/// - `WriteFault`: the sink counted a fault. A prefix of the text is written; its length isn't specified.
+/// - `TooLong`: the source gave more than 16777216 bytes. With `span`, the answers to all lines whose LF is among the
+///   first 16777216 are written; otherwise nothing.
+/// - `NoMemory`: there was no memory for a row of a year, or with `holidays` for the book. Nothing is written. A
+///   row line that is invalid or names an era needs no memory, and a book longer than 16777216 bytes is `TooLong`.
 pub fn run<S: Source, K: Sink>(
     alloc: Global,
     words: &[String],
@@ -67,50 +115,32 @@ pub fn run<S: Source, K: Sink>(
 ) -> Status
     ensures words { (result ≡ Status.Words) ↔ (command_of (map string_bytes words.now) ≡ None) }
     ensures untouched { result ≡ Status.Words → (source.new ≡ source.old) × (sink.new ≡ sink.old) }
+    ensures unread { (count : ℕ) → command_of (map string_bytes words.now) ≡ Some (Generate count)
+        → source.new ≡ source.old }
 
-    // How a run over the lines ends, and what it took and wrote.
-    ensures span { command_of (map string_bytes words.now) ≡ Some Span → Serves span_rules result
-        (outside (S.left source.old) (K.taken sink.old) (S.faults source.old) (K.faults sink.old))
-        (outside (S.left source.new) (K.taken sink.new) (S.faults source.new) (K.faults sink.new)) }
-
-    // With a number of requests nothing is read, and their line is written.
-    ensures generated { (count : ℕ) → command_of (map string_bytes words.now) ≡ Some (Generate count)
-        → (source.new ≡ source.old)
-        × Serves (generator_rules count) result
-        (outside (S.left source.old) (K.taken sink.old) (S.faults source.old) (K.faults sink.old))
-        (outside (S.left source.new) (K.taken sink.new) (S.faults source.new) (K.faults sink.new)) }
-
-    // Over every input within the limit, with no fault and with memory for its rows, all answers are written.
-    ensures headline { command_of (map string_bytes words.now) ≡ Some Span
-        → IfSome (S.left source.old) (λ input. length input ≤ limit → NoFault
-        (outside (S.left source.old) (K.taken sink.old) (S.faults source.old) (K.faults sink.old))
-        (outside (S.left source.new) (K.taken sink.new) (S.faults source.new) (K.faults sink.new))
-        → (RowComesFirst (lines_in input true) → result ≢ Status.NoMemory)
-        → IsAnswered span_rules
-        (outside (S.left source.old) (K.taken sink.old) (S.faults source.old) (K.faults sink.old))
-        (outside (S.left source.new) (K.taken sink.new) (S.faults source.new) (K.faults sink.new)) result input) }
-
-    // The lists, in the same way.
-    ensures anniversary { (asked : AnniversaryAsked)
-        → command_of (map string_bytes words.now) ≡ Some (Anniversary asked)
-        → RunsList (ListsAnniversaries asked) result
-        (outside (S.left source.old) (K.taken sink.old) (S.faults source.old) (K.faults sink.old))
-        (outside (S.left source.new) (K.taken sink.new) (S.faults source.new) (K.faults sink.new)) }
-    ensures recur { (asked : RecurAsked) → command_of (map string_bytes words.now) ≡ Some (Recur asked)
-        → RunsList (ListsOccurrences asked) result
-        (outside (S.left source.old) (K.taken sink.old) (S.faults source.old) (K.faults sink.old))
-        (outside (S.left source.new) (K.taken sink.new) (S.faults source.new) (K.faults sink.new)) }
-    ensures holidays { (asked : HolidaysAsked) → command_of (map string_bytes words.now) ≡ Some (Holidays asked)
-        → RunsHolidays asked result
-        (outside (S.left source.old) (K.taken sink.old) (S.faults source.old) (K.faults sink.old))
-        (outside (S.left source.new) (K.taken sink.new) (S.faults source.new) (K.faults sink.new)) }
+    // How the run of a command ended, and what it took and wrote. Over every input within the limit, with no fault and
+    // with memory, all of its text is written.
+    ensures ends { let old = outside (S.left source.old) (K.taken sink.old) (S.faults source.old) (K.faults sink.old) in
+        let new = outside (S.left source.new) (K.taken sink.new) (S.faults source.new) (K.faults sink.new) in
+        Ends (command_of (map string_bytes words.now)) result old new }
 {
-    match read_command(words) {
-        Some(Command::Span) => serve_span(alloc, source, sink),
-        Some(Command::Generate(count)) => serve_totals(count, sink),
-        Some(Command::Anniversary(asked)) => serve_list(alloc, &asked, source, sink),
-        Some(Command::Recur(asked)) => serve_list(alloc, &asked, source, sink),
-        Some(Command::Holidays(asked)) => serve_holidays(alloc, asked, source, sink),
-        None => Status::Words,
-    }
+    run_read(alloc, read_command(words), source, sink)
+}
+
+/// Does what [`run`] does for a command line in one text, with a single space between two words. Takes no memory for the
+/// words.
+pub fn run_text<S: Source, K: Sink>(
+    alloc: Global,
+    words: &str,
+    source: &mut S,
+    sink: &mut K,
+) -> Status
+    ensures words { (result ≡ Status.Words) ↔ (command_of (words_in words.now) ≡ None) }
+    ensures untouched { result ≡ Status.Words → (source.new ≡ source.old) × (sink.new ≡ sink.old) }
+    ensures unread { (count : ℕ) → command_of (words_in words.now) ≡ Some (Generate count) → source.new ≡ source.old }
+    ensures ends { let old = outside (S.left source.old) (K.taken sink.old) (S.faults source.old) (K.faults sink.old) in
+        let new = outside (S.left source.new) (K.taken sink.new) (S.faults source.new) (K.faults sink.new) in
+        Ends (command_of (words_in words.now)) result old new }
+{
+    run_read(alloc, read_command_text(words), source, sink)
 }

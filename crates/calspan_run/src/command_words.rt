@@ -1,4 +1,4 @@
-//! The words of the command line, read one after another.
+//! A cursor over the words of the command line.
 ghost use Rattle.std.specs.Prelude.{◌≡◌, [], ◌∷◌, MatchOption, IsTrue, ◌↔◌, map, string_bytes};
 ghost use Rattle.std.specs.Option.{option_map};
 ghost use Rattle.cal_kinds.specs.KindNames.{kind_named};
@@ -6,52 +6,105 @@ ghost use Rattle.cal_types.specs.Month.{month_read};
 ghost use Rattle.cal_types.specs.MonthParts.{month_parts};
 ghost use Rattle.request_lines.specs.Reading.{IsReading, next_word};
 ghost use Rattle.word_values.specs.Numbers.{byte_of, int_of};
-ghost use Rattle.calspan_run.specs.CommandWordsLeft.{words_left};
+ghost use Rattle.calspan_run.specs.SpacedWords.{words_in};
 
 use cal_kinds::AnyCalendarKind;
 use cal_types::Month;
 use word_values::{read_byte, read_int, read_month_code};
 
-/// The words that are still to be read.
+/// A cursor over the words of the command line, which are a list or one text with single spaces between words.
 #[derive(Clone, Copy)]
-pub(crate) struct CommandWords<'a> {
-    rest: &'a [String],
+pub(crate) enum CommandWords<'a> {
+    /// The words of a list.
+    Listed(&'a [String]),
+    /// The words of a text; `None` behind the last one.
+    Spaced(Option<&'a str>),
+}
+
+ghost use Rattle.calspan_run.specs.CommandWordsLeft.{words_behind, words_left};
+
+/// The first word of a list, and the words behind it.
+fn first_listed<'a>(words: &'a [String]) -> Option<(&'a [u8], &'a [String])>
+    ensures { MatchOption result (map string_bytes words.now ≡ [])
+        (λ p. map string_bytes words.now ≡ p.0.now ∷ map string_bytes p.1.now) }
+{
+    let (word, rest) = words.split_first()?;
+    Some((word.as_bytes(), rest))
+}
+
+/// The first word of a text, and the text behind the space that ends it.
+fn first_spaced<'a>(text: &'a str) -> (&'a [u8], Option<&'a str>)
+    ensures { words_in text.now ≡ result.0.now ∷ words_behind (option_map (λ rest. rest.now) result.1) }
+{
+    match text.split_once(' ') {
+        Some((word, rest)) => (word.as_bytes(), Some(rest)),
+        None => (text.as_bytes(), None),
+    }
+}
+
+/// Whether no word is left of a text.
+fn is_behind(text: Option<&str>) -> bool
+    ensures { IsTrue result ↔ (words_behind (option_map (λ rest. rest.now) text.entry) ≡ []) }
+{
+    match text {
+        Some(_) => false,
+        None => true,
+    }
 }
 
 impl<'a> CommandWords<'a> {
-    /// All of some words.
+    /// Creates a cursor before the first word of a list.
     pub(crate) fn new(words: &'a [String]) -> CommandWords<'a>
         ensures { words_left result ≡ map string_bytes words.now }
     {
-        CommandWords { rest: words }
+        CommandWords::Listed(words)
     }
 
-    /// The next word. None exactly behind the last.
+    /// Creates a cursor before the first word of a text.
+    pub(crate) fn of_text(text: &'a str) -> CommandWords<'a>
+        ensures { words_left result ≡ words_in text.now }
+    {
+        CommandWords::Spaced(Some(text))
+    }
+
+    /// Returns the next word. `None` exactly after the last.
     pub(crate) fn next(&mut self) -> Option<&'a [u8]>
         ensures { MatchOption result (words_left self.old ≡ [])
             (λ word. words_left self.old ≡ word.now ∷ words_left self.new) }
     {
-        let (word, rest) = self.rest.split_first()?;
-        self.rest = rest;
-        Some(word.as_bytes())
+        match *self {
+            CommandWords::Listed(words) => {
+                let (word, rest) = first_listed(words)?;
+                *self = CommandWords::Listed(rest);
+                Some(word)
+            }
+            CommandWords::Spaced(text) => {
+                let (word, rest) = first_spaced(text?);
+                *self = CommandWords::Spaced(rest);
+                Some(word)
+            }
+        }
     }
 
-    /// Whether no word is left.
+    /// Returns whether no word is left.
     pub(crate) fn is_done(&self) -> bool
         ensures { IsTrue result ↔ (words_left self.now ≡ []) }
     {
-        self.rest.is_empty()
+        match self {
+            CommandWords::Listed(words) => words.is_empty(),
+            CommandWords::Spaced(text) => is_behind(*text),
+        }
     }
 }
 
-/// The kind of calendar whose program name the next word is.
+/// Returns the kind of calendar that the next word names.
 pub(crate) fn next_kind(words: &mut CommandWords) -> Option<AnyCalendarKind>
     ensures { IsReading (next_word kind_named (words_left words.old)) result (words_left words.new) }
 {
     AnyCalendarKind::from_program_name(words.next()?)
 }
 
-/// The month whose code the next word is.
+/// Returns the month of the next word, a month code.
 pub(crate) fn next_month(words: &mut CommandWords) -> Option<Month>
     ensures { let reading = next_word month_read (words_left words.old) in
         IsReading reading (option_map month_parts result) (words_left words.new) }
@@ -59,14 +112,14 @@ pub(crate) fn next_month(words: &mut CommandWords) -> Option<Month>
     read_month_code(words.next()?)
 }
 
-/// The number up to 255 that the next word spells.
+/// Returns the number of the next word, up to 255.
 pub(crate) fn next_byte(words: &mut CommandWords) -> Option<u8>
     ensures { IsReading (next_word byte_of (words_left words.old)) result (words_left words.new) }
 {
     read_byte(words.next()?)
 }
 
-/// The number that the next word spells, with a sign or without one.
+/// Returns the number of the next word: an optional `-` and one to nine digits.
 pub(crate) fn next_int(words: &mut CommandWords) -> Option<i32>
     ensures { IsReading (next_word int_of (words_left words.old)) result (words_left words.new) }
 {

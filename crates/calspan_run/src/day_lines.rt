@@ -1,4 +1,4 @@
-//! The lines of days: the date of each in a calendar, and beside it in a second one.
+//! The lines of days: the date in one calendar and the date in a second one.
 ghost use Rattle.std.specs.Prelude.{◌≡◌, ◌+◌, ◌≤◌, ◌++◌};
 ghost use Rattle.arrayvec.specs.ArrayVec.{array_vec_len};
 ghost use Rattle.cal_days.specs.Day.{IsValidDay};
@@ -15,14 +15,14 @@ use cal_tables::Tables;
 use cal_types::Window;
 use reply_texts::{DayParts, Pending, push_all, push_day, show_in};
 
-/// How a day is written.
+/// The two calendars in which a day is written.
 #[derive(Clone, Copy)]
 pub(crate) struct DayForm<'t, C> {
-    /// The calendar of its date.
+    /// The calendar of the first date.
     pub(crate) calendar: C,
-    /// The calendar that it is shown in beside it.
+    /// The calendar of the second date.
     pub(crate) shown: AnyCalendarKind,
-    /// The tables of that one.
+    /// The tables of the second calendar.
     pub(crate) tables: Tables<'t>,
 }
 
@@ -47,7 +47,7 @@ ghost use Rattle.byte_io.specs.Faults.{HasCause};
 ghost use Rattle.calspan_run.specs.DayLines.{is_window, IsListText};
 ghost use Rattle.calspan_run.specs.Endings.{Listed};
 
-/// The window of two days. None exactly where they make none.
+/// Returns the window from a first to a last day. `None` exactly if they aren't valid days in order.
 pub(crate) fn window_of(first: i32, last: i32) -> Option<Window>
     ensures none { MatchOption result (is_window first last ≡ false)
         (λ w. (is_window first last ≡ true) × (w.first ≡ first) × (w.last ≡ last)) }
@@ -58,7 +58,7 @@ pub(crate) fn window_of(first: i32, last: i32) -> Option<Window>
     )
 }
 
-/// Refuses a list, for a reason of at most 100 bytes.
+/// Writes an `err` line in place of a list. The reason has at most 100 bytes.
 pub(crate) fn refuse_list<K: Sink>(why: &[u8], sink: &mut K) -> Result<bool, Failed>
     requires { length why.now ≤ 100 }
     ensures listed { Listed result (K.taken sink.old) (K.taken sink.new) (IsListText (Err why.now)) }

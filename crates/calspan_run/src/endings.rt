@@ -1,4 +1,4 @@
-//! The last text of a run, and the lines that refuse a row or a table.
+//! The last text of a run, and the lines for an invalid row or table.
 ghost use Rattle.calspan_run.specs.Endings.{EndsWith};
 ghost use Rattle.calspan_run.specs.TableTexts.{row_refusal, table_refusal};
 ghost use Rattle.calspan_run.specs.declared.status.Status.{Status};
@@ -10,7 +10,7 @@ use byte_io::Sink;
 use reply_texts::Pending;
 use table_rows::{RowFault, TableRefusal};
 
-/// Writes the last text of a run, which ends with this status.
+/// Writes the last text of a run and returns its status, or `WriteFault` if that fails.
 pub(crate) fn end_with<K: Sink>(text: &Pending, status: Status, sink: &mut K) -> Status
     ensures { EndsWith result status (K.taken sink.old) (K.taken sink.new) (K.faults sink.old) (K.faults sink.new)
         text.now.items }
@@ -21,7 +21,7 @@ pub(crate) fn end_with<K: Sink>(text: &Pending, status: Status, sink: &mut K) ->
     }
 }
 
-/// Refuses the row line of this number.
+/// Writes the line for an invalid row line.
 pub(crate) fn refuse_row<K: Sink>(number: u64, why: RowFault, sink: &mut K) -> Status
     ensures { EndsWith result Status.TableRefused (K.taken sink.old) (K.taken sink.new) (K.faults sink.old)
         (K.faults sink.new) (row_refusal number why) }
@@ -31,7 +31,7 @@ pub(crate) fn refuse_row<K: Sink>(number: u64, why: RowFault, sink: &mut K) -> S
     end_with(&text, Status::TableRefused, sink)
 }
 
-/// Refuses a table.
+/// Writes the line for an invalid table.
 pub(crate) fn refuse_table<K: Sink>(refusal: TableRefusal, sink: &mut K) -> Status
     ensures { EndsWith result Status.TableRefused (K.taken sink.old) (K.taken sink.new) (K.faults sink.old)
         (K.faults sink.new) (table_refusal refusal.table refusal.fault) }

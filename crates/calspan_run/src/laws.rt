@@ -1,49 +1,61 @@
-//! Laws of what the commands write, each proved as the contract of a function that does nothing.
+//! Laws of the texts of the commands. Each is the contract of a function that does nothing.
 ghost use Rattle.calspan_run.specs.Answers.{IsAnswers};
 ghost use Rattle.calspan_run.specs.Asked.{AnniversaryAsked, HolidaysAsked, RecurAsked};
-ghost use Rattle.calspan_run.specs.Laws.{EveryInputHas, IsUnique, PrefixesHavePrefixes, EveryNumberHasOneLine, EndsAsHolidays, EndsAsList};
+ghost use Rattle.calspan_run.specs.Laws.{AnniversariesAreMeant, HolidaysAreMeant, EveryInputHas, IsUnique, PrefixesHavePrefixes, EveryNumberHasOneLine, EndsAsHolidays, EndsAsList};
 ghost use Rattle.calspan_run.specs.ListTexts.{ListsAnniversaries, ListsOccurrences};
 ghost use Rattle.calspan_run.specs.Rules.{holiday_rules, list_rules};
 
-/// To every input, and to what has come of one, there are answers and a status.
+/// An input, and every part of one that has come, has a text and a status.
 pub fn every_input_has_answers()
     ensures { EveryInputHas IsAnswers }
 {}
 
-/// To every input there are no two texts, and no two statuses.
+/// No input has two texts or two statuses.
 pub fn answers_are_unique()
     ensures { IsUnique IsAnswers }
 {}
 
-/// The answers to what has come of an input are a prefix of the answers to what comes of it later.
+/// The text for the part of an input that has come is a prefix of every later text.
 pub fn answers_to_a_prefix_are_a_prefix()
     ensures { PrefixesHavePrefixes IsAnswers }
 {}
 
-/// To every number of requests there is a line, and only one.
+/// Every number of requests has exactly one line.
 pub fn every_number_has_one_line()
     ensures { EveryNumberHasOneLine }
 {}
 
-/// To all words of `anniversary` and every input there is a text and a status, and only one of each.
+/// All arguments of `anniversary` and every input have exactly one text and one status.
 pub fn anniversaries_have_one_text()
     ensures exists { (asked : AnniversaryAsked) → EveryInputHas (list_rules (ListsAnniversaries asked)).Says }
     ensures unique { (asked : AnniversaryAsked) → IsUnique (list_rules (ListsAnniversaries asked)).Says }
 {}
 
-/// To all words of `recur` and every input there is a text and a status, and only one of each.
+/// The list of `anniversary` has exactly the days of its window on which the month and the day fall, each once and in
+/// order.
+pub fn anniversaries_are_meant()
+    ensures { AnniversariesAreMeant }
+{}
+
+/// All arguments of `recur` and every input have exactly one text and one status.
 pub fn recurrences_have_one_text()
     ensures exists { (asked : RecurAsked) → EveryInputHas (list_rules (ListsOccurrences asked)).Says }
     ensures unique { (asked : RecurAsked) → IsUnique (list_rules (ListsOccurrences asked)).Says }
 {}
 
-/// To all words of `holidays` and every input there is a text and a status, and only one of each.
+/// All arguments of `holidays` and every input have exactly one text and one status.
 pub fn holidays_have_one_text()
     ensures exists { (asked : HolidaysAsked) → EveryInputHas (holiday_rules asked).Says }
     ensures unique { (asked : HolidaysAsked) → IsUnique (holiday_rules asked).Says }
 {}
 
-/// How a run of `anniversary`, `recur` or `holidays` ends with each status, by what was read and written.
+/// The list of `holidays` has exactly the days of its window that a rule of the book names, for each rule once and in
+/// order.
+pub fn holidays_are_meant()
+    ensures { HolidaysAreMeant }
+{}
+
+/// The bytes that a run of `anniversary`, `recur` or `holidays` has read and written, for each status.
 pub fn runs_of_lists_end()
     ensures anniversary { (asked : AnniversaryAsked) → EndsAsList (ListsAnniversaries asked) }
     ensures recur { (asked : RecurAsked) → EndsAsList (ListsOccurrences asked) }

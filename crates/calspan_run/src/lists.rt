@@ -1,4 +1,4 @@
-//! A run of a command that lists something over tables.
+//! A run of a command that writes a list over tables.
 ghost use Rattle.std.specs.Prelude.{◌+◌, ℕ, List, Bool, if◌then◌else◌, codes};
 ghost use Rattle.byte_io.specs.Faults.{HasCause};
 ghost use Rattle.cal_types.specs.CalendarSystem.{CalendarSystem};
@@ -22,24 +22,32 @@ use reply_texts::{Pending, push_about};
 use std::alloc::Global;
 use table_rows::{Gathered, TableRows, gather};
 
-/// What a command lists over tables.
+/// A list over tables.
 pub trait TableList {
-    /// The text over some tables: the lines of the list, or the one line that refuses it.
+    /// The text over some tables, and whether it is an `err` line in place of the list.
     ghost lists: { Self → TableContents → List ℕ → Bool → Type 0 };
 
-    /// Writes the list, or the line that refuses it, and answers whether it is refused.
+    /// Writes the list, or the `err` line in its place. Returns whether it is an `err` line.
+    ///
+    /// # Errors
+    ///
+    /// - [`Failed`] if the sink counted a fault. A prefix of the text is written.
     fn write<K: Sink>(&self, tables: &Tables<'_>, sink: &mut K) -> Result<bool, Failed>
         ensures listed { Listed result (K.taken sink.old) (K.taken sink.new)
             (lists self.now (table_contents tables.now)) }
         ensures cause { HasCause (K.faults sink.old) (K.faults sink.new) result };
 }
 
-/// What a command lists in one calendar, shown in others over tables.
+/// A list in one calendar, shown in others over tables.
 pub trait CalendarListing {
-    /// The text in a calendar and over some tables: the lines of the list, or the one line that refuses it.
+    /// The text in a calendar and over some tables, and whether it is an `err` line in place of the list.
     ghost lists_in: { Self → CalendarSystem → TableContents → List ℕ → Bool → Type 0 };
 
-    /// Writes the list in a calendar, or the line that refuses it, and answers whether it is refused.
+    /// Writes the list in a calendar, or the `err` line in its place. Returns whether it is an `err` line.
+    ///
+    /// # Errors
+    ///
+    /// - [`Failed`] if the sink counted a fault. A prefix of the text is written.
     fn write_in<C: Calendar + Copy, K: Sink>(
         &self,
         calendar: C,
@@ -51,7 +59,7 @@ pub trait CalendarListing {
         ensures cause { HasCause (K.faults sink.old) (K.faults sink.new) result };
 }
 
-/// Refuses the line of this number, which is no row line.
+/// Writes the `err` line for a line that isn't a row line.
 fn refuse_line<K: Sink>(number: u64, is_long: bool, sink: &mut K) -> Status
     ensures { EndsWith result Status.Refused (K.taken sink.old) (K.taken sink.new) (K.faults sink.old)
         (K.faults sink.new) (refusal number (if is_long then codes "long" else codes "syntax")) }
@@ -62,7 +70,7 @@ fn refuse_line<K: Sink>(number: u64, is_long: bool, sink: &mut K) -> Status
     end_with(&text, Status::Refused, sink)
 }
 
-/// Writes the list over the tables of these rows, where they are accepted.
+/// Writes the list over the tables of these rows, or the line for an invalid table.
 fn list_over<L: TableList, K: Sink>(rows: &TableRows, list: &L, sink: &mut K) -> Status
     ensures { (text : List ℕ) × (status : Status)
         × OverTables (list_end (L.lists list.now)) (rows_said rows.now) text status
@@ -79,8 +87,8 @@ fn list_over<L: TableList, K: Sink>(rows: &TableRows, list: &L, sink: &mut K) ->
     }
 }
 
-/// Reads row lines to the end of the source, and writes the list over their tables. Any other line is refused, and ends
-/// the run at once.
+/// Runs a command with a list: reads row lines to the end of the source, and writes the list over their tables. A line that
+/// isn't a row line ends the run with an `err` line.
 pub fn serve_list<L: TableList, S: Source, K: Sink>(
     alloc: Global,
     list: &L,

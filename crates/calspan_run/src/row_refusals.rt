@@ -1,4 +1,4 @@
-//! The lines that refuse rows and tables.
+//! The lines for invalid rows and tables.
 ghost use Rattle.std.specs.Prelude.{◌≡◌, ◌+◌, ◌≤◌, ◌++◌, length};
 ghost use Rattle.arrayvec.specs.ArrayVec.{array_vec_len};
 ghost use Rattle.calspan_run.specs.TableTexts.{part_text, row_fault_text, row_refusal, table_refusal, table_text};
@@ -7,7 +7,7 @@ use cal_types::TablePart;
 use reply_texts::{Pending, push_about};
 use table_rows::{RowFault, Table, TableRefusal};
 
-/// The word for a fault of a row line.
+/// Returns the word for a fault of a row line.
 fn row_fault_word(why: RowFault) -> &'static [u8]
     ensures word { result.now ≡ row_fault_text why }
     ensures short { length result.now ≤ 10 }
@@ -19,7 +19,7 @@ fn row_fault_word(why: RowFault) -> &'static [u8]
     }
 }
 
-/// The words before the row of a table's fault.
+/// Returns the words before the number of a table's row.
 fn table_words(table: Table) -> &'static [u8]
     ensures words { result.now ≡ table_text table }
     ensures short { length result.now ≤ 20 }
@@ -32,12 +32,13 @@ fn table_words(table: Table) -> &'static [u8]
     }
 }
 
-/// The word for a part of a row.
+/// Returns the word for a part of a row.
 fn part_word(part: TablePart) -> &'static [u8]
     ensures word { result.now ≡ part_text part }
     ensures short { length result.now ≤ 10 }
 {
     match part {
+        TablePart::Range => b"range",
         TablePart::Year => b"year",
         TablePart::Join => b"join",
         TablePart::End => b"end",
@@ -46,7 +47,7 @@ fn part_word(part: TablePart) -> &'static [u8]
     }
 }
 
-/// Appends the line that refuses the row line of this number.
+/// Appends the line for an invalid row line, such as `table line 3 syntax`.
 pub fn push_row_refusal(text: &mut Pending, number: u64, why: RowFault)
     requires { array_vec_len text.old + 50 ≤ 8192 }
     ensures { text.new.items ≡ text.old.items ++ row_refusal number why }
@@ -54,7 +55,7 @@ pub fn push_row_refusal(text: &mut Pending, number: u64, why: RowFault)
     push_about(text, b"table line ", number, row_fault_word(why));
 }
 
-/// Appends the line that refuses a table.
+/// Appends the line for an invalid table, such as `table hijri 1 end`.
 pub fn push_table_refusal(text: &mut Pending, refusal: TableRefusal)
     requires { array_vec_len text.old + 60 ≤ 8192 }
     ensures { text.new.items ≡ text.old.items ++ table_refusal refusal.table refusal.fault }

@@ -1,15 +1,15 @@
-//! How a run ends.
+//! The status of a run.
 
 use table_rows::Stop;
 
-/// How a run ends. Its exit code is [`code`].
+/// The status of a run. [`code`] returns its exit code.
 #[derive(Clone, Copy, Debug, PartialEq, Eq)]
 pub enum Status {
-    /// The input was read to its end, and no request was refused.
+    /// The input was read to its end, the whole text is written, and no line of it is `err`.
     Done,
-    /// The input was read to its end, and a request was answered `err`.
+    /// The whole text is written, and one of its lines is `err`.
     Refused,
-    /// The words of the command line ask for nothing that this program does.
+    /// The words of the command line name no command.
     Words,
     /// The source counted a fault.
     ReadFault,
@@ -17,23 +17,23 @@ pub enum Status {
     WriteFault,
     /// There was no memory.
     NoMemory,
-    /// A row line, or the table that the rows make, was refused.
+    /// A row line or a table is invalid.
     TableRefused,
-    /// The source gave more than 16777216 bytes.
+    /// The source has more than 16777216 bytes.
     TooLong,
 }
 
 ghost use Rattle.std.specs.Prelude.{◌≡◌};
 ghost use Rattle.calspan_run.specs.Status.{code_of, stop_status};
 
-/// The exit code of a status, from 0 for `Done` to 7 for `TooLong`.
+/// Returns the exit code of a status, from 0 for `Done` to 7 for `TooLong`.
 pub fn code(status: Status) -> u8
     ensures { result ≡ code_of status }
 {
     status as u8
 }
 
-/// How a run ends where reading its row lines stopped at no line.
+/// Returns the status if reading row lines stopped at no particular line.
 pub(crate) fn status_of_stop(stop: Stop) -> Status
     ensures { result ≡ stop_status stop }
 {

@@ -1,4 +1,4 @@
-//! A text that is written in pieces, however long it is, with about one write for each buffer.
+//! Writing a text of any length in pieces, with about one write for each buffer.
 ghost use Rattle.std.specs.Prelude.{◌≡◌, ◌+◌, ◌≤◌, ◌++◌, [], ℕ, List, Option, Some, length, OnOk};
 ghost use Rattle.std.specs.Iterator.{AlwaysYields, IsFinite};
 ghost use Rattle.arrayvec.specs.ArrayVec.{array_vec_len};
@@ -9,12 +9,12 @@ ghost use Rattle.calspan_run.specs.Written.{Wrote};
 use byte_io::{Failed, Sink};
 use reply_texts::{Pending, push_all};
 
-/// How the items of a list are written, a line each.
+/// A writer of items, a line each.
 pub trait ItemLines {
     /// An item of the list.
     type Item;
 
-    /// Which items can be written.
+    /// The condition on an item.
     ghost is_shown: { Self → Self.Item → Type 0 };
 
     /// The line of an item.
@@ -27,7 +27,11 @@ pub trait ItemLines {
         ensures { text.new.items ≡ text.old.items ++ line_of self.now item };
 }
 
-/// Writes all of a text, in as many pieces as the sink takes. Where that fails, a prefix of it was written.
+/// Writes all of a text, in as many pieces as the sink takes.
+///
+/// # Errors
+///
+/// - [`Failed`] if the sink counted a fault. A prefix of the text is written.
 pub fn write_all<K: Sink>(text: &[u8], sink: &mut K) -> Result<(), Failed>
     ensures wrote { Wrote result (K.taken sink.old) (K.taken sink.new) text.now }
     ensures cause { HasCause (K.faults sink.old) (K.faults sink.new) result }
@@ -39,7 +43,11 @@ pub fn write_all<K: Sink>(text: &[u8], sink: &mut K) -> Result<(), Failed>
     Ok(())
 }
 
-/// Writes what is pending. Where that fails, a prefix of it was written.
+/// Writes the pending text.
+///
+/// # Errors
+///
+/// - [`Failed`] if the sink counted a fault. A prefix of the text is written.
 pub fn flush<K: Sink>(pending: &mut Pending, sink: &mut K) -> Result<(), Failed>
     ensures text { (before : Option (List ℕ)) (text : List ℕ)
         → TextSoFar before (K.taken sink.old) pending.old.items text
@@ -52,7 +60,11 @@ pub fn flush<K: Sink>(pending: &mut Pending, sink: &mut K) -> Result<(), Failed>
     Ok(())
 }
 
-/// Writes what is pending where there might be no room for a line of 512 bytes.
+/// Writes the pending text if there might be no room for a line of 512 bytes.
+///
+/// # Errors
+///
+/// - [`Failed`] if the sink counted a fault. A prefix of the text is written.
 pub fn make_room<K: Sink>(pending: &mut Pending, sink: &mut K) -> Result<(), Failed>
     ensures text { (before : Option (List ℕ)) (text : List ℕ)
         → TextSoFar before (K.taken sink.old) pending.old.items text
@@ -66,7 +78,7 @@ pub fn make_room<K: Sink>(pending: &mut Pending, sink: &mut K) -> Result<(), Fai
     flush(pending, sink)
 }
 
-/// Writes what is pending, and then pushes a piece that didn't fit behind it.
+/// Writes the pending text, then pushes a piece that didn't fit after it.
 fn push_past<K: Sink>(pending: &mut Pending, piece: &[u8], sink: &mut K) -> Result<(), Failed>
     ensures text { (before : Option (List ℕ)) (text : List ℕ)
         → TextSoFar before (K.taken sink.old) pending.old.items text
@@ -81,7 +93,11 @@ fn push_past<K: Sink>(pending: &mut Pending, piece: &[u8], sink: &mut K) -> Resu
     Ok(())
 }
 
-/// Pushes a piece of any length. What is pending is written first where the piece doesn't fit behind it.
+/// Pushes a piece of any length. The pending text is written first if the piece doesn't fit after it.
+///
+/// # Errors
+///
+/// - [`Failed`] if the sink counted a fault. A prefix of the text with the piece is written.
 pub fn push<K: Sink>(pending: &mut Pending, piece: &[u8], sink: &mut K) -> Result<(), Failed>
     ensures text { (before : Option (List ℕ)) (text : List ℕ)
         → TextSoFar before (K.taken sink.old) pending.old.items text
@@ -95,7 +111,11 @@ pub fn push<K: Sink>(pending: &mut Pending, piece: &[u8], sink: &mut K) -> Resul
     Ok(())
 }
 
-/// Pushes a line for each item of a list. Where a write fails, a prefix of the whole text was written.
+/// Pushes a line for each item of a list.
+///
+/// # Errors
+///
+/// - [`Failed`] if the sink counted a fault. A prefix of the text with the lines is written.
 pub fn push_lines<L: ItemLines, I: Iterator<Item = L::Item> + Drop, K: Sink>(
     items: I,
     lines: &L,
@@ -119,7 +139,11 @@ where
     Ok(())
 }
 
-/// Writes a line for each item of a list. Where that fails, a prefix of the lines was written.
+/// Writes a line for each item of a list.
+///
+/// # Errors
+///
+/// - [`Failed`] if the sink counted a fault. A prefix of the lines is written.
 pub fn write_lines<L: ItemLines, I: Iterator<Item = L::Item> + Drop, K: Sink>(
     items: I,
     lines: &L,

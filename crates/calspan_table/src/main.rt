@@ -1,9 +1,13 @@
-//! The program again, over an input whose rows make no table: its stored run ends with another status than `calspan`'s.
+//! The program `calspan` again: its stored run has rows that make no table, and ends with another status.
 #![tactic(auto)]
 
-use calspan_run::{code, run_on_standard};
+use byte_io::{StdSink, StdSource};
+use calspan_run::run_program;
+use std::env;
 use std::process::ExitCode;
 
 fn main(rt: HostRuntime) -> ExitCode {
-    ExitCode::from(code(run_on_standard(&rt)))
+    let mut source = StdSource::new(rt.stdin());
+    let mut sink = StdSink::new(rt.stdout());
+    ExitCode::from(run_program(rt.alloc(), env::args(&rt), &mut source, &mut sink))
 }

@@ -1,4 +1,4 @@
-//! The texts of dates, durations and causes.
+//! The texts of dates, durations and errors.
 ghost use Rattle.std.specs.Prelude.{◌≡◌, ◌+◌, ◌≤◌, ◌<◌, ◌++◌, ◌∷◌, [], ◌↔◌, IsTrue, if◌then◌else◌};
 ghost use Rattle.arrayvec.specs.ArrayVec.{array_vec_len};
 ghost use Rattle.cal_types.specs.CalendarList.{Date};
@@ -12,7 +12,7 @@ use crate::day_parts::DayParts;
 use crate::text::{Pending, push_all, push_number, push_signed, push_two_digits};
 use cal_types::{BagSide, DateDuration, DateFromFieldsError, Month, SpanError, YearInfo};
 
-/// A year of an era, or of a cycle.
+/// Appends a year of an era or of a cycle.
 fn push_year(text: &mut Pending, year: &YearInfo)
     requires { array_vec_len text.old + 40 ≤ 8192 }
     ensures items { text.new.items ≡ text.old.items ++ year_text year.now }
@@ -31,7 +31,7 @@ fn push_year(text: &mut Pending, year: &YearInfo)
     }
 }
 
-/// A part of a duration, where it isn't 0.
+/// Appends a part of a duration unless it is 0.
 fn push_part(text: &mut Pending, count: u32, letter: u8)
     requires { array_vec_len text.old + 21 ≤ 8192 }
     ensures items { text.new.items ≡ text.old.items ++ part_text count letter }
@@ -43,7 +43,7 @@ fn push_part(text: &mut Pending, count: u32, letter: u8)
     }
 }
 
-/// The parts of a duration that aren't 0, in the order of their units.
+/// Appends the parts of a duration that aren't 0, in the order of their units.
 fn push_parts(text: &mut Pending, duration: &DateDuration)
     requires { array_vec_len text.old + 84 ≤ 8192 }
     ensures items { text.new.items ≡ text.old.items ++ parts_text duration.now }
@@ -55,14 +55,14 @@ fn push_parts(text: &mut Pending, duration: &DateDuration)
     push_part(text, duration.days, b'D');
 }
 
-/// Whether all parts of a duration are 0.
+/// Returns whether all parts of a duration are 0.
 fn is_zero(duration: &DateDuration) -> bool
     ensures { IsTrue result ↔ (parts_text duration.now ≡ []) }
 {
     duration.years == 0 && duration.months == 0 && duration.weeks == 0 && duration.days == 0
 }
 
-/// The sign of a duration.
+/// Appends the sign of a duration.
 fn push_sign(text: &mut Pending, is_negative: bool)
     requires { array_vec_len text.old + 1 ≤ 8192 }
     ensures items { text.new.items ≡ text.old.items ++ (if is_negative then 45 ∷ [] else []) }
@@ -88,7 +88,7 @@ pub fn push_duration(text: &mut Pending, duration: &DateDuration)
     push_parts(text, duration);
 }
 
-/// Appends why a bag names no date, which takes at most 50 bytes.
+/// Appends the error of a bag of fields, which takes at most 50 bytes.
 pub fn push_cause(text: &mut Pending, cause: DateFromFieldsError)
     requires { array_vec_len text.old + 50 ≤ 8192 }
     ensures items { text.new.items ≡ text.old.items ++ cause_text cause }
@@ -115,7 +115,7 @@ pub fn push_cause(text: &mut Pending, cause: DateFromFieldsError)
     }
 }
 
-/// Which bag is at fault.
+/// Appends the side of the invalid bag.
 fn push_side(text: &mut Pending, side: BagSide)
     requires { array_vec_len text.old + 4 ≤ 8192 }
     ensures items { text.new.items ≡ text.old.items ++ side_text side }
@@ -127,7 +127,7 @@ fn push_side(text: &mut Pending, side: BagSide)
     }
 }
 
-/// Appends the line that says which bag is at fault, and why.
+/// Appends the line for an invalid bag: its side and its error.
 pub fn push_error(text: &mut Pending, error: SpanError)
     requires { array_vec_len text.old + 60 ≤ 8192 }
     ensures { text.new.items ≡ text.old.items ++ error_text error }
@@ -139,7 +139,7 @@ pub fn push_error(text: &mut Pending, error: SpanError)
     text.push(b'\n');
 }
 
-/// A month's code.
+/// Appends a month code.
 fn push_month(text: &mut Pending, month: Month)
     requires { array_vec_len text.old + 4 ≤ 8192 }
     ensures items { text.new.items ≡ text.old.items ++ code_text (month_parts month) }
@@ -152,8 +152,8 @@ fn push_month(text: &mut Pending, month: Month)
     }
 }
 
-/// Appends a date, which takes at most 92 bytes: its extended year, the year that it is printed in, its month code, its day,
-/// and its day number.
+/// Appends a date, which takes at most 92 bytes: its extended year, its year of an era or cycle, its month code, its day of
+/// the month and its day number (rata die).
 pub fn push_date(text: &mut Pending, parts: &DayParts)
     requires room { array_vec_len text.old + 92 ≤ 8192 }
     requires day { parts.now.day < 100 }
@@ -172,7 +172,7 @@ pub fn push_date(text: &mut Pending, parts: &DayParts)
     push_signed(text, parts.rata_die.to_i64_date());
 }
 
-/// Appends a date, and the same day in a second calendar, which take at most 185 bytes.
+/// Appends a date and the same day in a second calendar, which take at most 185 bytes.
 pub fn push_day(text: &mut Pending, parts: &DayParts, shown: &DayParts)
     requires room { array_vec_len text.old + 185 ≤ 8192 }
     requires day { parts.now.day < 100 }

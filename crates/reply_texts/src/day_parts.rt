@@ -1,4 +1,4 @@
-//! What is printed of a date.
+//! The parts of a date that are printed.
 
 ghost use Rattle.std.specs.Prelude.{◌≡◌, IsTrue};
 ghost use Rattle.cal_types.specs.CalendarList.{day_number};
@@ -13,7 +13,7 @@ use cal_types::{CyclicYear, IntoYearInfo, Month, YearInfo};
 pub struct DayParts {
     /// The year, in its era or cycle.
     pub year: YearInfo,
-    /// The day number.
+    /// The day number (rata die).
     pub rata_die: RataDie,
     /// The month.
     pub month: Month,
@@ -22,8 +22,8 @@ pub struct DayParts {
 }
 
 impl DayParts {
-    /// The parts of a day before a calendar has filled them in: the first year of a cycle, its first month and that
-    /// one's first day.
+    /// Creates the parts of a day before a calendar fills them in: the first day of the first month of the first year of a
+    /// cycle.
     pub fn unnamed(rata_die: RataDie) -> DayParts
         ensures { result.rata_die ≡ rata_die }
     {
@@ -40,7 +40,7 @@ impl DayParts {
     }
 }
 
-/// The parts of an inner date of this day number.
+/// Returns the parts of an inner date with this day number.
 pub(crate) fn parts_of<C: Calendar>(
     calendar: &C,
     date: &C::DateInner,

@@ -1,4 +1,6 @@
-//! Replies: what commands ask of a calendar, in its own type, and the texts of what they answer.
+//! Questions to a calendar of any type, and the texts of the answers.
+//!
+//! Start with [`name_in`] and [`show_in`], which fill in the parts of dates, and [`push_date`], which appends their text.
 #![tactic(auto)]
 
 mod date_texts;

@@ -1,4 +1,4 @@
-//! The dates that two bags name, and the days of dates, in one calendar.
+//! The dates of two bags of fields, and the dates of days, in one calendar.
 
 ghost use Rattle.std.specs.Prelude.{IfOk, IfErr};
 ghost use Rattle.cal_days.specs.Day.{IsValidDay};
@@ -20,12 +20,12 @@ pub struct SpanParts {
     pub from: DayParts,
     /// The second date.
     pub to: DayParts,
-    /// The greatest duration, in the units asked for, that leads from the first date and does not surpass the second.
+    /// The greatest duration in the requested units from the first date that doesn't surpass the second.
     pub duration: DateDuration,
 }
 
 impl SpanParts {
-    /// The parts of a span before a calendar has filled them in: twice day 0, and no difference.
+    /// Creates the parts of a span before a calendar fills them in: day 0 twice, and no difference.
     pub fn unnamed() -> SpanParts {
         SpanParts {
             from: DayParts::unnamed(RataDie::new(0)),
@@ -35,12 +35,13 @@ impl SpanParts {
     }
 }
 
-/// Fills in the dates that two bags of fields name in a calendar, and the difference from the first to the second,
-/// which leads back: added to the first date under [`Overflow::Constrain`](cal_types::Overflow::Constrain), it gives
-/// the second.
+/// Fills in the dates of two bags of fields in a calendar, and the difference from the first date to the second. Adding the
+/// difference to the first date, with [`Overflow::Constrain`](cal_types::Overflow::Constrain), returns the second.
 ///
-/// Where a bag names no date, the error has its side and its first fault; the first bag comes first.
-// It is called, so that a branch over calendars to it stays small.
+/// # Errors
+///
+/// - [`SpanError`] with the side and the first invalid field of the first bag that names no date.
+// Kept out of line so that a branch over calendars stays small.
 #[inline(never)]
 pub fn name_in<C: Calendar>(
     parts: &mut SpanParts,
@@ -74,7 +75,7 @@ pub fn name_in<C: Calendar>(
     Ok(())
 }
 
-/// Fills in the parts of the date of a day in a calendar. The day number is in the valid range, -365242499 to 365242134.
+/// Fills in the date of a day in a calendar. The day number is in the valid range, -365242499 to 365242134.
 pub fn show_in<C: Calendar>(parts: &mut DayParts, calendar: &C)
     requires { IsValidDay parts.old.rata_die }
     ensures { IsShown (C.system calendar.now) parts.old.rata_die parts.new }
@@ -83,9 +84,8 @@ pub fn show_in<C: Calendar>(parts: &mut DayParts, calendar: &C)
     *parts = parts_of(calendar, &date, parts.rata_die);
 }
 
-/// Fills in the parts of the dates of two days in a calendar. The day numbers are in the valid range, -365242499 to
-/// 365242134.
-// It is called, as `name_in` is.
+/// Fills in the dates of two days in a calendar. The day numbers are in the valid range, -365242499 to 365242134.
+// Kept out of line, as `name_in` is.
 #[inline(never)]
 pub fn show_both_in<C: Calendar>(from: &mut DayParts, to: &mut DayParts, calendar: &C)
     requires from { IsValidDay from.old.rata_die }

@@ -1,4 +1,4 @@
-//! Texts, appended to the answers that are pending.
+//! Numbers and lines, appended to the pending text.
 ghost use Rattle.std.specs.Prelude.{◌≡◌, ◌+◌, ◌≤◌, ◌<◌, ◌++◌, length};
 ghost use Rattle.std.specs.Fmt.{decimal, signed_decimal};
 ghost use Rattle.arrayvec.specs.ArrayVec.{array_vec_len};
@@ -7,10 +7,10 @@ ghost use Rattle.reply_texts.specs.Texts.{two_digits, about_line};
 use arrayvec::ArrayVec;
 use itoa::Buffer;
 
-/// The answers that weren't written yet.
+/// The text that isn't written yet, at most 8192 bytes.
 pub type Pending = ArrayVec<u8, 8192>;
 
-/// The numbers below 100 in two digits each.
+/// The numbers below 100, in two digits each.
 static PAIRS: [u8; 200] =
     *b"00010203040506070809101112131415161718192021222324252627282930313233343536373839404142434445464748495051525354555657585960616263646566676869707172737475767778798081828384858687888990919293949596979899";
 
@@ -94,7 +94,7 @@ pub fn push_two_digits(text: &mut Pending, number: u8)
     text.push(ones);
 }
 
-/// Appends a line about the line of this number, as `err line 3 long`.
+/// Appends a line about an input line and its number, such as `err line 3 long`.
 pub fn push_about(text: &mut Pending, kind: &[u8], number: u64, what: &[u8])
     requires { array_vec_len text.old + length kind.now + length what.now + 22 ≤ 8192 }
     ensures { text.new.items ≡ text.old.items ++ about_line kind.now number what.now }

@@ -1,4 +1,4 @@
-//! The words of a bag of fields.
+//! Bags of fields, word after word.
 ghost use Rattle.std.specs.Prelude.{◌≡◌, Some, None, MatchOption};
 ghost use Rattle.std.specs.List.{list_all};
 ghost use Rattle.std.specs.Option.{option_map};
@@ -14,7 +14,7 @@ use crate::words::Words;
 use cal_types::{DateFields, Month};
 use word_values::read_month_code;
 
-/// A field of a bag, and its value.
+/// A field of a bag with its value.
 #[derive(Clone, Copy)]
 enum Field<'a> {
     Era(&'a [u8]),
@@ -28,7 +28,7 @@ enum Field<'a> {
 
 ghost use Rattle.request_lines.specs.FieldSaid.{field_said};
 
-/// Sets a field that isn't set. None where it is, since a key stands at most once in a bag.
+/// Sets a field. `None` if it is set already, since a key stands at most once in a bag.
 fn set_field<'a>(fields: &mut DateFields<'a>, field: Field<'a>) -> Option<()>
     ensures { let with = with_field (bag_of fields.old) (field_said field.entry) in
         MatchOption result (with ≡ None) (λ _. with ≡ Some (bag_of fields.new)) }
@@ -49,7 +49,8 @@ fn set_field<'a>(fields: &mut DateFields<'a>, field: Field<'a>) -> Option<()>
     }
     Some(())
 }
-/// The month whose code the next word is.
+
+/// Returns the month of the next word, a month code.
 fn next_month(words: &mut Words) -> Option<Month>
     ensures { let reading = next_word month_read (words_left words.old) in
         IsReading reading (option_map month_parts result) (words_left words.new) }
@@ -57,8 +58,8 @@ fn next_month(words: &mut Words) -> Option<Month>
     read_month_code(words.next()?)
 }
 
-/// Sets the field that the next word KEY=VALUE names, of those that name a date beside an extended year, a month
-/// and a day. What it needs is set up at the call, which the fields that are often given are spared.
+/// Sets the field of the next word, `KEY=VALUE` with one of the rarer keys. Kept out of line so that `year`, `month` and
+/// `day` don't pay for its stack frame.
 #[inline(never)]
 fn set_next_rarer_field<'a>(fields: &mut DateFields<'a>, words: &mut Words<'a>) -> Option<()>
     ensures { let reading = next_word (with_rarer_word (bag_of fields.old)) (words_left words.old) in
@@ -79,8 +80,8 @@ fn set_next_rarer_field<'a>(fields: &mut DateFields<'a>, words: &mut Words<'a>) 
     None
 }
 
-/// Sets the field that the next word KEY=VALUE names. None where the key isn't known, the value isn't one of it,
-/// or the field is set.
+/// Sets the field of the next word, `KEY=VALUE`. `None` if the key is unknown, its value is invalid, or the field is set
+/// already.
 #[inline(always)]
 fn set_next_field<'a>(fields: &mut DateFields<'a>, words: &mut Words<'a>) -> Option<()>
     ensures { let reading = next_word (with_word (bag_of fields.old)) (words_left words.old) in
@@ -98,8 +99,8 @@ fn set_next_field<'a>(fields: &mut DateFields<'a>, words: &mut Words<'a>) -> Opt
     set_next_rarer_field(fields, words)
 }
 
-/// Sets the fields that the words before `to` name; that word is taken too. None where there is no such word,
-/// a word before it isn't `KEY=VALUE` of a known key and a value of it, or a key is set twice.
+/// Sets the fields of the words before `to`, and takes the word `to`. `None` if there is no word `to`, or a word before it
+/// isn't `KEY=VALUE` with a known key and a valid value, or a key comes twice.
 pub fn read_bag_to<'a>(fields: &mut DateFields<'a>, words: &mut Words<'a>) -> Option<()>
     ensures { let reading = bag_before_to (Some (bag_of fields.old)) (words_left words.old) in
         IsReading reading (option_map (λ _. bag_of fields.new) result) (words_left words.new) }
@@ -110,8 +111,8 @@ pub fn read_bag_to<'a>(fields: &mut DateFields<'a>, words: &mut Words<'a>) -> Op
     Some(())
 }
 
-/// Sets the fields that all words that are left name. None where one of them isn't `KEY=VALUE` of a known key
-/// and a value of it, or a key is set twice.
+/// Sets the fields of all remaining words. `None` if one of them isn't `KEY=VALUE` with a known key and a valid value, or a
+/// key comes twice.
 pub fn read_bag<'a>(fields: &mut DateFields<'a>, words: &mut Words<'a>) -> Option<()>
     ensures { let read = bag_of_all (Some (bag_of fields.old)) (words_left words.old) in
         option_map (λ _. bag_of fields.new) result ≡ read }
@@ -122,15 +123,15 @@ pub fn read_bag<'a>(fields: &mut DateFields<'a>, words: &mut Words<'a>) -> Optio
     Some(())
 }
 
-/// Whether a word holds no space and no line feed.
+/// Returns whether a word has no space and no line feed.
 fn is_whole_word(word: &[u8]) -> bool
     ensures { result ≡ list_all is_word_byte word.now }
 {
     word.iter().all(|b| *b != b' ' && *b != b'\n')
 }
 
-/// Sets the field that a word names which stands by itself, as a word of a command line does. None where it isn't
-/// `KEY=VALUE` of a known key and a value of it, as in a request line, or the field is set.
+/// Sets the field of a single word, such as a word of a command line. `None` if the word isn't `KEY=VALUE` with a known key
+/// and a valid value, as in a request line, or the field is set already.
 pub fn read_field<'a>(fields: &mut DateFields<'a>, word: &'a [u8]) -> Option<()>
     ensures { option_map (λ _. bag_of fields.new) result ≡ with_whole_word (bag_of fields.old) word.now }
 {

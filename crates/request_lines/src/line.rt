@@ -1,4 +1,4 @@
-//! What a line says.
+//! Whole lines.
 ghost use Rattle.std.specs.Prelude.{◌≡◌, ℕ, List, false};
 ghost use Rattle.std.specs.Str.Lines.{strip_carriage_return};
 ghost use Rattle.cal_types.specs.Bag.{bag_of};
@@ -11,38 +11,38 @@ use crate::row::{Row, read_row};
 use byte_io::LineBuffer;
 use cal_types::DateFields;
 
-/// What a request line says.
+/// A request line.
 #[derive(Clone, Copy, Debug)]
 pub enum RequestLine {
-    /// It has more than 512 bytes.
+    /// The line has more than 512 bytes.
     Long,
-    /// It is a request for two bags of fields, of which this stands before them.
+    /// The line is a request, with this header before its two bags of fields.
     Asks(Header),
-    /// It is no request.
+    /// The line isn't a request.
     Malformed,
 }
 
-/// What a line says that isn't silent.
+/// A line that isn't ignored.
 #[derive(Clone, Copy, Debug)]
 pub enum Line<'a> {
-    /// It is a row line, with its row, if it says one.
+    /// A row line with its row, or `None` if it is malformed.
     GivesRow(Option<Row<'a>>),
-    /// It is a request line.
+    /// A request line.
     Requests(RequestLine),
 }
 
-/// Which kind of line a line is that isn't silent.
+/// The kind of a line that isn't ignored.
 #[derive(Clone, Copy, Debug)]
 pub enum LineKind<'a> {
-    /// It is a row line, with its row, if it says one.
+    /// A row line with its row, or `None` if it is malformed.
     GivesRow(Option<Row<'a>>),
-    /// It is a request line, of which nothing is read.
+    /// A request line, which isn't read yet.
     Requests,
 }
 
 ghost use Rattle.request_lines.specs.LineSaid.{line_said, IsKind};
 
-/// Without the one carriage return at its end.
+/// Returns a line without the one carriage return at its end.
 fn without_return(line: &[u8]) -> &[u8]
     ensures { result.now ≡ strip_carriage_return line.now }
 {
@@ -52,30 +52,31 @@ fn without_return(line: &[u8]) -> &[u8]
     }
 }
 
-/// Whether a line is a row line: `row`, alone or before a space.
+/// Returns whether a line is a row line: `row`, alone or before a space.
 fn is_row(text: &[u8]) -> bool
     ensures { result ≡ text_is_row text.now }
 {
     text == b"row".as_slice() || text.starts_with(b"row ")
 }
 
-/// Whether bytes, as a line, are ignored.
+/// Returns whether the bytes of a line are ignored.
 fn gives_nothing(line: &[u8]) -> bool
     ensures { result ≡ line_is_silent line.now }
 {
     without_return(line).is_empty() || line[0] == b'#'
 }
 
-/// Whether a line is ignored: without the carriage return at its end it is empty, or it begins with `#`.
+/// Returns whether a line is ignored: it begins with `#`, or is empty without the carriage return at its end.
 pub fn is_silent(line: &LineBuffer) -> bool
     ensures { (whole : List ℕ) → Holds line.now whole → result ≡ line_is_silent whole }
 {
     gives_nothing(&line.prefix)
 }
 
-/// What a line says that isn't silent, where the two bags of a request are read into bags that have no fields. One of
-/// more than 512 bytes, with a carriage return at its end, is too long; of the others, one that is `row` or begins with
-/// `row ` is a row line, and each other one is a request or malformed.
+/// Reads a line that isn't ignored. The two bags of a request are read into `from` and `to`, which have no fields before.
+///
+/// A line of more than 512 bytes, a carriage return at its end included, is too long. Of the others, a line that is `row` or
+/// begins with `row ` is a row line, and any other line is a request or malformed.
 pub fn read_line<'a>(
     line: &'a LineBuffer,
     from: &mut DateFields<'a>,
@@ -99,8 +100,8 @@ pub fn read_line<'a>(
     }
 }
 
-/// Whether a line that isn't silent is a row line or a request line, by the rules of [`read_line`]: a row line is read,
-/// and a request line is left as it is, to be read once it is known what stands before it.
+/// Returns whether a line that isn't ignored is a row line or a request line, by the rules of [`read_line`]. A row line is
+/// read. A request line isn't, since the rows before it must be tested first.
 pub fn line_kind(line: &LineBuffer) -> LineKind<'_>
     ensures { (whole : List ℕ) → Holds line.now whole → line_is_silent whole ≡ false
         → IsKind result (line_of whole) }

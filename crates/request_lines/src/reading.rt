@@ -1,4 +1,4 @@
-//! Words that are read one after another.
+//! Readers of the next word.
 ghost use Rattle.std.specs.Prelude.{◌≡◌, true};
 ghost use Rattle.std.specs.List.{list_all};
 ghost use Rattle.word_values.specs.Numbers.{byte_of, int_of};
@@ -9,7 +9,7 @@ ghost use Rattle.request_lines.specs.Requests.{fixed_word};
 
 use crate::words::Words;
 
-/// A fixed word of a form, as `from`: None where the next word isn't this one, which holds no space.
+/// Takes a fixed word, such as `from`, which has no space. `None` if the next word is another one.
 pub fn next_is(words: &mut Words, name: &[u8]) -> Option<()>
     requires { list_all is_no_space name.now ≡ true }
     ensures { IsReading (next_word (fixed_word name.now) (words_left words.old)) result (words_left words.new) }
@@ -17,7 +17,7 @@ pub fn next_is(words: &mut Words, name: &[u8]) -> Option<()>
     if words.take(name) { Some(()) } else { None }
 }
 
-/// The number that the next word spells, with a sign or without one.
+/// Returns the number of the next word: an optional `-` and one to nine digits.
 pub fn next_int(words: &mut Words) -> Option<i32>
     ensures { IsReading (next_word int_of (words_left words.old)) result (words_left words.new) }
 {
@@ -29,7 +29,7 @@ pub fn next_int(words: &mut Words) -> Option<i32>
     Some(size as i32)
 }
 
-/// The number up to 255 that the next word spells.
+/// Returns the number of the next word, up to 255.
 pub fn next_byte(words: &mut Words) -> Option<u8>
     ensures { IsReading (next_word byte_of (words_left words.old)) result (words_left words.new) }
 {

@@ -1,4 +1,4 @@
-//! What a request line asks.
+//! Requests.
 ghost use Rattle.std.specs.Prelude.{◌≡◌};
 ghost use Rattle.std.specs.Option.{option_map};
 ghost use Rattle.cal_kinds.specs.KindNames.{kind_named};
@@ -18,20 +18,20 @@ use cal_types::{
     MissingFieldsStrategy, Overflow,
 };
 
-/// What stands before a request's bags.
+/// The part of a request before its two bags of fields.
 #[derive(Clone, Copy, Debug)]
 pub struct Header {
     /// The calendar of both bags.
     pub calendar: AnyCalendarKind,
-    /// The calendar in which their days are shown.
+    /// The calendar in which the two dates are shown.
     pub shown: AnyCalendarKind,
     /// The largest unit of the difference.
     pub difference: DateDifferenceOptions,
-    /// How the bags name their dates.
+    /// The options for resolving the bags.
     pub options: DateFromFieldsOptions,
 }
 
-/// A request for two dates, the same days in a second calendar, and the difference.
+/// A request for two dates, the same days in a second calendar, and their difference.
 #[derive(Clone, Copy, Debug)]
 pub struct Request<'a> {
     /// The calendars, the largest unit and the options.
@@ -126,8 +126,8 @@ fn read_header(words: &mut Words) -> Option<Header>
     })
 }
 
-/// Reads a request from a line's words into two bags that have no fields, and answers what stands before them. None
-/// exactly where the words say no request, as [`read_request`] has it.
+/// Reads a request from a line's words into two bags that have no fields, and returns its header. `None` exactly if the
+/// words are no request, as in [`read_request`].
 #[tactic(auto, unfolding(crate::specs::Requests::request_read))]
 pub fn read_into<'a>(
     from: &mut DateFields<'a>,
@@ -146,11 +146,15 @@ pub fn read_into<'a>(
     Some(header)
 }
 
-/// The request that a line's words say, all of them. None exactly where they say no request:
-/// `span CAL SHOWN UNIT OVERFLOW MISSING from FIELDS to FIELDS`, with CAL and SHOWN names of calendars,
-/// UNIT `years`, `months`, `weeks`, `days` or `none`, OVERFLOW `constrain`, `reject` or `none`, MISSING
-/// `reject`, `ecma` or `none`, and FIELDS zero or more words, each key at most once and in any order:
-/// `era=BYTES era-year=INT year=INT month=CODE month-code=BYTES ordinal=BYTE day=BYTE`.
+/// Reads a request from all words of a line. `None` exactly if they don't have the form
+/// `span CAL SHOWN UNIT OVERFLOW MISSING from FIELDS to FIELDS`:
+///
+/// - `CAL` and `SHOWN` are names of calendars.
+/// - `UNIT` is `years`, `months`, `weeks`, `days` or `none`.
+/// - `OVERFLOW` is `constrain`, `reject` or `none`.
+/// - `MISSING` is `reject`, `ecma` or `none`.
+/// - `FIELDS` are zero or more words, each key at most once and in any order: `era=BYTES`, `era-year=INT`, `year=INT`,
+///   `month=CODE`, `month-code=BYTES`, `ordinal=BYTE` and `day=BYTE`.
 pub fn read_request<'a>(line: &'a [u8]) -> Option<Request<'a>>
     ensures { option_map request_said result ≡ request_read (words_of line.now) }
 {

@@ -1,4 +1,4 @@
-//! What a row line says.
+//! Rows of tables.
 ghost use Rattle.std.specs.Prelude.{◌≡◌, true, IfSome};
 ghost use Rattle.std.specs.List.{list_all};
 ghost use Rattle.std.specs.Option.{option_map};
@@ -12,7 +12,7 @@ use crate::reading::{next_byte, next_int, next_is};
 use crate::words::Words;
 use word_values::read_byte;
 
-/// Which table a row is of.
+/// The table that a row belongs to.
 #[derive(Clone, Copy, Debug)]
 pub enum RowKind {
     /// Chinese years.
@@ -27,20 +27,20 @@ pub enum RowKind {
     Era,
 }
 
-/// A row of a table of years.
+/// A row of a table of years. It isn't validated: the year may not exist.
 #[derive(Clone, Copy, Debug)]
 pub struct YearRow<'a> {
     /// The number of the year.
     pub year: i32,
-    /// The rata die of its first day.
+    /// The day number of its first day (rata die).
     pub start: i32,
-    /// A letter for each month: `l` for 30 days, and `s` for 29.
+    /// A letter for each month: `l` for 30 days and `s` for 29.
     pub lengths: &'a [u8],
-    /// The place of the leap month, or 0 without one.
+    /// The ordinal of the leap month, or 0 if the year has none.
     pub leap: u8,
 }
 
-/// What a row line says.
+/// The row of a row line.
 #[derive(Clone, Copy, Debug)]
 pub enum Row<'a> {
     /// A Chinese year.
@@ -79,21 +79,21 @@ fn next_kind(words: &mut Words) -> Option<RowKind>
     }
 }
 
-/// Whether each letter is `l` or `s`.
+/// Returns whether each letter is `l` or `s`.
 fn all_lengths(word: &[u8]) -> bool
     ensures { result ≡ list_all is_length word.now }
 {
     word.iter().all(|letter| *letter == b'l' || *letter == b's')
 }
 
-/// Whether a word has 12 to `most` letters, each `l` or `s`.
+/// Returns whether a word has 12 to `most` letters, each `l` or `s`.
 fn are_month_lengths(word: &[u8], most: usize) -> bool
     ensures { result ≡ are_lengths most word.now }
 {
     12 <= word.len() && word.len() <= most && all_lengths(word)
 }
 
-/// The lengths of 12 to `most` months, which are the next word.
+/// Returns the next word if it has the lengths of 12 to `most` months.
 fn next_lengths<'a>(words: &mut Words<'a>, most: usize) -> Option<&'a [u8]>
     ensures { let reading = next_word (lengths_of most) (words_left words.old) in
         IsReading reading (option_map (λ l. l.now) result) (words_left words.new) }
@@ -106,7 +106,7 @@ fn next_lengths<'a>(words: &mut Words<'a>, most: usize) -> Option<&'a [u8]>
     }
 }
 
-/// The place of the leap month that the next word spells: above 0 where there are 13 lengths, and 0 where there are 12.
+/// Returns the ordinal of the leap month from the next word: above 0 if there are 13 lengths, and 0 if there are 12.
 fn next_leap(words: &mut Words, lengths: &[u8]) -> Option<u8>
     ensures { IsReading (next_word (leap_of lengths.now) (words_left words.old)) result (words_left words.new) }
 {
@@ -119,21 +119,21 @@ fn next_leap(words: &mut Words, lengths: &[u8]) -> Option<u8>
     }
 }
 
-/// Whether each letter is from `a` to `z`.
+/// Returns whether each letter is from `a` to `z`.
 fn all_code_letters(word: &[u8]) -> bool
     ensures { result ≡ list_all is_code_letter word.now }
 {
     word.iter().all(|letter| b'a' <= *letter && *letter <= b'z')
 }
 
-/// Whether a word is one to eight letters `a` to `z`.
+/// Returns whether a word is one to eight letters `a` to `z`.
 fn is_code(word: &[u8]) -> bool
     ensures { result ≡ is_era_code word.now }
 {
     !word.is_empty() && word.len() <= 8 && all_code_letters(word)
 }
 
-/// The code of an era that the next word is.
+/// Returns the next word if it is an era code.
 fn next_code<'a>(words: &mut Words<'a>) -> Option<&'a [u8]>
     ensures value { let reading = next_word code_of (words_left words.old) in
         IsReading reading (option_map (λ c. c.now) result) (words_left words.new) }
@@ -193,7 +193,7 @@ fn read_era<'a>(words: &mut Words<'a>) -> Option<EraRow<'a>>
     })
 }
 
-/// What stands behind the word for the kind.
+/// Reads the words after the name of the table.
 fn read_parts<'a>(kind: RowKind, words: &mut Words<'a>) -> Option<Row<'a>>
     ensures { let reading = parts_read kind (words_left words.old) in
         IsReading reading (option_map row_said result) (words_left words.new) }
@@ -222,12 +222,15 @@ fn read_parts<'a>(kind: RowKind, words: &mut Words<'a>) -> Option<Row<'a>>
     }
 }
 
-/// The row that a row line's words say, all of them, `row` among them. None exactly where they say no row:
-/// `row china YEAR START LENGTHS LEAP`, the same with `korea`, `row hijri YEAR START LENGTHS`,
-/// `row persian YEAR`, or `row era YEAR MONTH DAY CODE INDEX`, with YEAR and START one to nine digits behind
-/// an optional `-`, LEAP, MONTH, DAY and INDEX numbers of one to three digits up to 255, LENGTHS letters `l`
-/// and `s`, 12 of them, or 13 where LEAP is above 0, and CODE one to eight letters `a` to `z`.
-// What it needs is set up at the call, which a request line is spared.
+/// Reads a row from all words of a row line, the first of which is `row`. `None` exactly if they have none of the forms
+/// `row china YEAR START LENGTHS LEAP`, the same with `korea`, `row hijri YEAR START LENGTHS`, `row persian YEAR` and
+/// `row era YEAR MONTH DAY CODE INDEX`:
+///
+/// - `YEAR` and `START` are one to nine digits after an optional `-`.
+/// - `LEAP`, `MONTH`, `DAY` and `INDEX` are numbers of one to three digits, up to 255.
+/// - `LENGTHS` are letters `l` and `s`, 12 of them, or 13 if `LEAP` is above 0.
+/// - `CODE` is one to eight letters `a` to `z`.
+// Kept out of line so that a request line doesn't pay for its stack frame.
 #[inline(never)]
 #[tactic(auto, unfolding(crate::specs::Rows::row_read))]
 pub fn read_row<'a>(text: &'a [u8]) -> Option<Row<'a>>

@@ -1,4 +1,4 @@
-//! The words of a line.
+//! A cursor over the words of a line.
 ghost use Rattle.std.specs.Prelude.{◌≡◌, ◌≤◌, ◌<◌, ◌==◌, IfSome, position, length, take, ◌∷◌};
 ghost use Rattle.request_lines.specs.WordsLeft.{words_from};
 ghost use Rattle.word_values.specs.Numbers.{number_of};
@@ -13,7 +13,7 @@ fn first_space(text: &[u8]) -> Option<usize>
     text.iter().position(|b| *b == b' ')
 }
 
-/// The first word, and the text of the others, if there are others.
+/// Returns the first word, and the text of the other words if there are any.
 fn cut(text: &[u8]) -> (&[u8], Option<&[u8]>)
     ensures { words_of text.now ≡ result.0.now ∷ words_from result.1 }
 {
@@ -23,7 +23,7 @@ fn cut(text: &[u8]) -> (&[u8], Option<&[u8]>)
     }
 }
 
-/// The first bytes of a text, `most` of them where there are as many.
+/// Returns the first `most` bytes of a text, or all of a shorter text.
 fn first_bytes(text: &[u8], most: usize) -> &[u8]
     ensures { result.now ≡ take most text.now }
 {
@@ -34,8 +34,8 @@ fn first_bytes(text: &[u8], most: usize) -> &[u8]
     }
 }
 
-/// The words of a line that are still to come. Words are parted by one space, so that between two
-/// spaces, and at a line's end behind a space, stands an empty word; an empty line is one empty word.
+/// A cursor over the words of a line. One space separates two words, so there is an empty word between two spaces and after
+/// a space at the line's end. An empty line is one empty word.
 #[derive(Drop)]
 pub struct Words<'a> {
     rest: Option<&'a [u8]>,
@@ -48,14 +48,14 @@ impl<'a> Words<'a> {
     ghost use Rattle.request_lines.specs.Reading.{IsReading, next_word};
     ghost use Rattle.request_lines.specs.Taking.{is_no_space, after_key, after_word, IsTaken};
 
-    /// The words of a line.
+    /// Creates a cursor before the first word of a line.
     pub fn new(line: &'a [u8]) -> Self
         ensures { words_left result ≡ words_of line.now }
     {
         Words { rest: Some(line) }
     }
 
-    /// The next word. None exactly behind the last.
+    /// Returns the next word. `None` exactly after the last.
     pub fn next(&mut self) -> Option<&'a [u8]>
         ensures { MatchOption result (words_left self.old ≡ [])
             (λ word. words_left self.old ≡ word.now ∷ words_left self.new) }
@@ -65,7 +65,7 @@ impl<'a> Words<'a> {
         Some(word)
     }
 
-    /// The number that the next word spells by one to `most` digits. None where it isn't of that form.
+    /// Returns the number of the next word, one to `most` digits. `None` if it isn't of that form.
     pub fn next_number(&mut self, most: usize) -> Option<u32>
         requires { most ≤ 9 }
         ensures value { let reading = next_word (number_of most) (words_left self.old) in
@@ -92,14 +92,14 @@ impl<'a> Words<'a> {
         }
     }
 
-    /// Whether no word is left.
+    /// Returns whether no word is left.
     pub fn is_done(&self) -> bool
         ensures { IsTrue result ↔ (words_left self.now ≡ []) }
     {
         self.rest.is_none()
     }
 
-    /// Whether the next word begins with this key, which holds no space. It is taken off the word then.
+    /// Takes a key, which has no space, off the start of the next word. Returns whether the word begins with it.
     pub fn take_key(&mut self, key: &[u8]) -> bool
         requires { list_all is_no_space key.now ≡ true }
         ensures { let old = words_left self.old in
@@ -117,7 +117,7 @@ impl<'a> Words<'a> {
         }
     }
 
-    /// Whether the next word is this one, which holds no space. It is taken then.
+    /// Takes the next word if it is this one, which has no space. Returns whether it is.
     pub fn take(&mut self, word: &[u8]) -> bool
         requires { list_all is_no_space word.now ≡ true }
         ensures { let old = words_left self.old in

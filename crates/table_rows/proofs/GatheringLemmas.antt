@@ -12,7 +12,7 @@ use Rattle.byte_io.proofs.PrefixLemmas.{given_within}
 use Rattle.request_lines.specs.Lines.{Line, Nothing, GivesRow, Requests, RequestLine, IsLine, line_of}
 use Rattle.request_lines.specs.Rows.{Row}
 use Rattle.request_lines.proofs.LineLemmas.{line_is, line_says}
-use Rattle.table_rows.specs.RowLines.{Kept, Faulty, TakesRow, KeepsLine, AddRows, AreRows, EndBefore, RowComesFirst}
+use Rattle.table_rows.specs.RowLines.{Kept, Faulty, TakesMemory, TakesRow, LineTakesMemory, RowTakesMemory, KeepsLine, AddRows, AreRows, EndBefore}
 use Rattle.table_rows.specs.Gathering.{with_open_line, IsGathered, IsGathering, IsSaidGathered, MetRequest, MetLast, MetEnd, MetFaulty, MetOther, Stops}
 use Rattle.table_rows.specs.TableRows.{TableRows, no_rows}
 use Rattle.table_rows.specs.declared.gathering.LineGathered.{LineGathered}
@@ -26,12 +26,6 @@ use Rattle.std.proofs.KnownBytes.{Consumes-kept, Consumes-trans}
 add_push : (lines : List (List ℕ)) (line : List ℕ) (from rows next : TableRows) → AddRows lines from rows → KeepsLine line rows next → AddRows (lines ++ line ∷ []) from next
 add_push [] line from rows next e keeps = (next, subst (λ (r : TableRows). KeepsLine line r next) e keeps, refl)
 add_push (first ∷ lines) line from rows next (mid, keeps, are) last = (mid, keeps, add_push lines line mid rows next are last)
-
--- a row line behind row lines is the first line that gives anything, or another one is
-add_first : (lines others : List (List ℕ)) (from rows : TableRows) (line : List ℕ) (row : Option Row) → AddRows lines from rows → IsLine line (GivesRow row) → RowComesFirst (lines ++ line ∷ others)
-add_first [] others from rows line row are says = inl (row, says)
-add_first (first ∷ lines) others from rows line row (next, inl (silent, e), are) says = inr (silent, add_first lines others next rows line row are says)
-add_first (first ∷ lines) others from rows line row (next, inr (r, gives, takes), are) says = inl (r, gives)
 
 -- what follows the last LF is no row line or request line where it is empty
 nothing_said : (last : List ℕ) (line : Line) → last ≡ [] → IsLine last line → line ≡ Nothing
@@ -62,6 +56,17 @@ open_line_is lines last line some says = by (open_or_none lines last)
 -- the row lines end at the line that comes next
 ends_at : (all lines : List (List ℕ)) (line : List ℕ) (others : List (List ℕ)) (rows : TableRows) (n : ℕ) → all ≡ lines ++ line ∷ others → n ≡ length lines + 1 → AreRows lines rows → EndBefore all rows n line others
 ends_at all lines line others rows n e number are = record { before = lines; are_rows = are; number = number; all = e }
+
+-- a row that takes memory behind row lines
+takes_at : (all lines : List (List ℕ)) (line : List ℕ) (others : List (List ℕ)) (rows : TableRows) → all ≡ lines ++ line ∷ others → AreRows lines rows → LineTakesMemory line → RowTakesMemory all
+takes_at all lines line others rows e are takes = record {
+  rows = rows;
+  number = length lines + 1;
+  line = line;
+  more = others;
+  before = ends_at all lines line others rows (length lines + 1) e refl are;
+  takes = takes;
+}
 
 append_push : (lines : List (List ℕ)) (line : List ℕ) (others : List (List ℕ)) → (lines ++ line ∷ []) ++ others ≡ lines ++ line ∷ others
 append_push lines line others = append_assoc lines (line ∷ []) others
@@ -109,10 +114,10 @@ module _ (left l : Option (List ℕ)) (reader : Reader) (line : LineBuffer) (row
           ends = (f.line, others, ends_at _ h.lines f.line others rows n (all ∙ append_push h.lines f.line others) (is ∙ number) h.are_rows, row, says, takes);
         }
 
-    pub line_wanted_memory : (row : Option Row) × IsLine f.line (GivesRow row) → (faults more : ℕ) → Stops NoMemory left l faults more
-    line_wanted_memory (row, says) faults more =
+    pub line_wanted_memory : LineTakesMemory f.line → (faults more : ℕ) → Stops NoMemory left l faults more
+    line_wanted_memory takes faults more =
         let (others, all) = given_within q h.bytes (h.lines ++ f.line ∷ []) [] f.at in
-        (h.bytes, false, h.took, subst RowComesFirst (sym (all ∙ append_push h.lines f.line others)) (add_first h.lines others no_rows rows f.line row h.are_rows says), λ no. cc)
+        (h.bytes, false, h.took, takes_at _ h.lines f.line others rows (all ∙ append_push h.lines f.line others) h.are_rows takes, λ no. cc)
 
   module _ (mid : Reader) (buffer : LineBuffer) (f : GivesAll mid buffer h.bytes h.lines) where
     pub chunk_gathered : (l2 : Option (List ℕ)) (q : Reader) (x : List ℕ) → lines_given mid ≡ lines_given reader → lines_given q ≡ lines_given mid → Consumes l l2 x → IsAt q (h.bytes ++ x) h.lines (open_line h.bytes) → IsGathering left l2 q buffer rows
@@ -176,10 +181,10 @@ module _ (left l : Option (List ℕ)) (reader : Reader) (line : LineBuffer) (row
             ends = (open_line h.bytes, [], ends_at _ h.lines (open_line h.bytes) [] rows n all (is ∙ ap (λ k. k + 1) h.counted) h.are_rows, row, says, takes);
           }
 
-      pub last_wanted_memory : (row : Option Row) × IsLine (open_line h.bytes) (GivesRow row) → (faults more : ℕ) → Stops NoMemory left l2 faults more
-      last_wanted_memory (row, says) faults more =
+      pub last_wanted_memory : LineTakesMemory (open_line h.bytes) → (faults more : ℕ) → Stops NoMemory left l2 faults more
+      last_wanted_memory (row, says, takes) faults more =
           let all = within_lines ∙ open_line_is h.lines (open_line h.bytes) (GivesRow row) (not_row row) says in
-          (h.bytes, true, took_all, subst RowComesFirst (sym all) (add_first h.lines [] no_rows rows (open_line h.bytes) row h.are_rows says), λ _. (end, f.size))
+          (h.bytes, true, took_all, takes_at _ h.lines (open_line h.bytes) [] rows all h.are_rows (row, says, takes), λ _. (end, f.size))
 
   pub took_too_many : GivesTooLong h.bytes h.lines → (faults more : ℕ) → Stops TooLong left l faults more
   took_too_many f faults more = (h.bytes, rows, f.size, h.took, subst (λ (y : List (List ℕ)). AreRows y rows) (sym f.all) h.are_rows)
@@ -224,8 +229,8 @@ line_kept whole row rows next e takes = (row, says whole (GivesRow row) e, takes
 pub line_faulty : (whole : List ℕ) (row : Option Row) (rows : TableRows) (why : RowFault) → GivesRow row ≡ line_of whole → TakesRow rows row (Faulty why) → (r : Option Row) × IsLine whole (GivesRow r) × TakesRow rows r (Faulty why)
 line_faulty whole row rows why e takes = (row, says whole (GivesRow row) e, takes)
 
-pub line_gives : (whole : List ℕ) (row : Option Row) → GivesRow row ≡ line_of whole → (r : Option Row) × IsLine whole (GivesRow r)
-line_gives whole row e = (row, says whole (GivesRow row) e)
+pub line_takes : (whole : List ℕ) (row : Option Row) → GivesRow row ≡ line_of whole → TakesMemory row → LineTakesMemory whole
+line_takes whole row e takes = (row, says whole (GivesRow row) e, takes)
 
 pub line_requests : (whole : List ℕ) (request : RequestLine) → Requests request ≡ line_of whole → (r : RequestLine) × IsLine whole (Requests r)
 line_requests whole request e = (request, says whole (Requests request) e)

@@ -1,8 +1,9 @@
 pub mod GatheringLemmas
 pub mod InputLemmas
 pub mod ReadingLemmas
-pub mod RowFirstLemmas
+pub mod RowMemoryLemmas
 pub mod RowLineLemmas
+mod NamedRowLemmas
 mod RowTakingLemmas
 pub mod RowUniqueLemmas
 mod RowYearLemmas

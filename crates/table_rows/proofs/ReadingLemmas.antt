@@ -1,6 +1,7 @@
 -- Rows of a caller's own: a line of them, and a whole text.
-use Rattle.std.proofs.Common.{◌≡◌, ℕ, ◌+◌, ◌<◌, ◌≤◌, Bool, true, false, cond, nat_lt, List, [], ◌++◌, length, take, drop, Option, Some, Result, Ok, Err, ◌↔◌, inl, inr, refl, arith, ◌∙◌, sym, ap, subst}
-use Rattle.std.proofs.lemmas.List.{append-nil, append_assoc, take_all, take-append-drop, take-append-le, length-append}
+use Rattle.std.proofs.Common.{◌≡◌, ℕ, zero, suc, ◌+◌, ◌<◌, ◌≤◌, Bool, true, false, cond, nat_le, nat_lt, List, [], ◌∷◌, ◌++◌, length, take, Option, Some, Result, Ok, Err, ◌↔◌, inl, inr, refl, arith, ◌∙◌, sym, ap, ap₂, subst}
+use Rattle.std.proofs.lemmas.Bool.{le-leb}
+use Rattle.std.proofs.lemmas.List.{append-nil, take_all, take-append-le, length-append}
 use Rattle.std.specs.Prelude.{IsOk}
 use Rattle.byte_io.specs.Buffer.{Holds}
 use Rattle.byte_io.specs.Lines.{lines_in}
@@ -9,8 +10,8 @@ use Rattle.byte_io.specs.declared.buffer.LineBuffer.{LineBuffer}
 use Rattle.request_lines.specs.Lines.{Nothing, GivesRow, Requests, RequestLine, Long, Asks, Malformed, IsLine, SaysAs}
 use Rattle.request_lines.specs.Rows.{Row}
 use Rattle.table_rows.specs.Gathering.{MetEnd, MetFaulty, MetOther, Stops}
-use Rattle.table_rows.specs.Reading.{is_long, EndsAtOther, IsLineTaken, IsOtherLine, IsRowText, IsTextRead}
-use Rattle.table_rows.specs.RowLines.{RowComesFirst, AreRows, WithLines, AtFaultyRow, AtRequest, EndRows}
+use Rattle.table_rows.specs.Reading.{is_long, lines_read, EndsAtOther, IsLineTaken, IsOtherLine, IsRowText, IsTextRead}
+use Rattle.table_rows.specs.RowLines.{RowTakesMemory, AreRows, WithLines, AtFaultyRow, AtRequest, EndRows}
 use Rattle.table_rows.specs.TableRows as rows
 use Rattle.table_rows.specs.RowsSaid.{rows_said}
 use Rattle.table_rows.specs.declared.errors.RowError.TheVariants as line
@@ -20,7 +21,7 @@ use Rattle.table_rows.specs.declared.gathering.Stop.TheVariants.{NoMemory, TooLo
 use Rattle.table_rows.specs.declared.rows.TableRows.{TableRows}
 use Rattle.table_rows.specs.declared.table.RowFault.{RowFault}
 use Rattle.table_rows.proofs.InputLemmas.{lines_in-prefix}
-use Rattle.table_rows.proofs.RowFirstLemmas.{row_first}
+use Rattle.table_rows.proofs.RowMemoryLemmas.{memory_more}
 use Rattle.table_rows.proofs.RowLineLemmas.{end_before}
 use Rattle.table_rows.proofs.RowUniqueLemmas.{rows_end-unique}
 
@@ -58,20 +59,36 @@ other_taken whole false old new other same = (other, same)
 all_came : (whole rest bytes : List ℕ) → whole ≡ bytes ++ rest → rest ≡ [] → whole ≡ bytes
 all_came whole rest bytes e none = e ∙ (ap (λ r. bytes ++ r) none ∙ append-nil bytes)
 
-pub text_rows : (whole rest : List ℕ) (kept : rows.TableRows) → MetEnd (Some whole) (Some rest) kept → AreRows (lines_in whole true) kept
-text_rows whole rest kept h = subst (λ (b : List ℕ). AreRows (lines_in b true) kept) (sym (all_came whole rest h.bytes h.took h.at_end)) h.are_rows
+pub text_rows : (whole rest : List ℕ) (kept : rows.TableRows) → MetEnd (Some whole) (Some rest) kept → AreRows (lines_in whole true) kept × (length whole ≤ limit)
+text_rows whole rest kept h =
+    let all = sym (all_came whole rest h.bytes h.took h.at_end) in
+    (subst (λ (b : List ℕ). AreRows (lines_in b true) kept) all h.are_rows, subst (λ (b : List ℕ). length b ≤ limit) all h.within)
 
--- the lines of a text begin with those of what came of it within the limit
+-- a text within the limit is read as a whole
+read_whole : (whole : List ℕ) → length whole ≤ limit → lines_read whole ≡ lines_in whole true
+read_whole whole size = ap₂ lines_in (take_all limit whole size) (le-leb (length whole) limit size)
+
+-- the first bytes of what came within the limit begin those of the text within it
+take_more : (n : ℕ) (bytes rest : List ℕ) → (more : List ℕ) × (take n (bytes ++ rest) ≡ take n bytes ++ more)
+take_more zero [] rest = ([], refl)
+take_more zero (b ∷ bytes) rest = ([], refl)
+take_more (suc n) [] rest = (take (suc n) rest, refl)
+take_more (suc n) (b ∷ bytes) rest = let (more, e) = take_more n bytes rest in (more, ap (λ t. b ∷ t) e)
+
+-- the lines of a text as far as it is read begin with those of what came of it within the limit
 lines_of_text : (whole rest bytes : List ℕ) (ended : Bool) → whole ≡ bytes ++ rest → (ended ≡ true → (rest ≡ []) × (length bytes ≤ limit))
-    → (others : List (List ℕ)) × (lines_in whole true ≡ lines_in (take limit bytes) ended ++ others)
+    → (others : List (List ℕ)) × (lines_read whole ≡ lines_in (take limit bytes) ended ++ others)
 lines_of_text whole rest bytes true e end =
     let (none, size) = end refl in
-    ([], ap (λ b. lines_in b true) (all_came whole rest bytes e none ∙ sym (take_all limit bytes size)) ∙ sym (append-nil _))
+    let all = all_came whole rest bytes e none in
+    let within : length whole ≤ limit = subst (λ (b : List ℕ). length b ≤ limit) (sym all) size in
+    ([], read_whole whole within ∙ (ap (λ b. lines_in b true) (all ∙ sym (take_all limit bytes size)) ∙ sym (append-nil _)))
 lines_of_text whole rest bytes false e end =
-    let (others, lines) = lines_in-prefix (take limit bytes) (drop limit bytes ++ rest) true in
-    (others, ap (λ b. lines_in b true) (e ∙ (ap (λ b. b ++ rest) (sym (take-append-drop limit bytes)) ∙ append_assoc (take limit bytes) (drop limit bytes) rest)) ∙ lines)
+    let (more, first) = take_more limit bytes rest in
+    let (others, lines) = lines_in-prefix (take limit bytes) more (nat_le (length whole) limit) in
+    (others, ap (λ b. lines_in b (nat_le (length whole) limit)) (ap (take limit) e ∙ first) ∙ lines)
 
-pub text_faulty : (whole rest : List ℕ) (n : ℕ) (why : RowFault) → MetFaulty (Some whole) (Some rest) n why → (kept : rows.TableRows) × EndRows (AtFaultyRow n why) (lines_in whole true) kept
+pub text_faulty : (whole rest : List ℕ) (n : ℕ) (why : RowFault) → MetFaulty (Some whole) (Some rest) n why → (kept : rows.TableRows) × EndRows (AtFaultyRow n why) (lines_read whole) kept
 text_faulty whole rest n why h =
     let (others, lines) = lines_of_text whole rest h.bytes h.whole h.took h.at_end in
     let (at, more, before, row, says, takes) = h.ends in
@@ -98,10 +115,10 @@ pub text_ends : (whole rest : List ℕ) (n : ℕ) (request : RequestLine) (kept 
     → IsTextRead (Err (cond buffer.over (text.LongLine n) (text.NoRow n))) whole
 text_ends whole rest n request kept at buffer h says holds = other_read whole n buffer.over (text_other whole rest n request kept buffer.over h (long_is at buffer request says holds))
 
-pub text_lacks : (whole rest : List ℕ) (faults more : ℕ) → Stops NoMemory (Some whole) (Some rest) faults more → RowComesFirst (lines_in whole true)
-text_lacks whole rest faults more (bytes, ended, took, first, at_end) =
+pub text_lacks : (whole rest : List ℕ) (faults more : ℕ) → Stops NoMemory (Some whole) (Some rest) faults more → RowTakesMemory (lines_read whole)
+text_lacks whole rest faults more (bytes, ended, took, takes, at_end) =
     let (others, lines) = lines_of_text whole rest bytes ended took at_end in
-    subst RowComesFirst (sym lines) (row_first (lines_in (take limit bytes) ended) others first)
+    subst RowTakesMemory (sym lines) (memory_more (lines_in (take limit bytes) ended) others takes)
 
 pub text_too_long : (whole rest : List ℕ) (faults more : ℕ) → Stops TooLong (Some whole) (Some rest) faults more → (kept : rows.TableRows) × (limit < length whole) × AreRows (lines_in (take limit whole) false) kept
 text_too_long whole rest faults more (bytes, kept, size, took, are) =
@@ -110,22 +127,24 @@ text_too_long whole rest faults more (bytes, kept, size, took, are) =
     (kept, omega (arith, size, count), subst (λ (b : List ℕ). AreRows (lines_in b false) kept) (sym within) are)
 
 -- rows are read exactly where each line gives nothing or a row that is kept
-not_faulty : (whole : List ℕ) (kept : rows.TableRows) (n : ℕ) (why : RowFault) → EndRows (AtFaultyRow n why) (lines_in whole true) kept → IsRowText whole → ⊥
-not_faulty whole kept n why at (all, are) = differ (rows_end-unique (lines_in whole true) WithLines (AtFaultyRow n why) all kept are at).0
+not_faulty : (whole : List ℕ) (kept : rows.TableRows) (n : ℕ) (why : RowFault) → length whole ≤ limit → EndRows (AtFaultyRow n why) (lines_read whole) kept → IsRowText whole → ⊥
+not_faulty whole kept n why size at (all, are) =
+    differ (rows_end-unique (lines_in whole true) WithLines (AtFaultyRow n why) all kept are (subst (λ (y : List (List ℕ)). EndRows (AtFaultyRow n why) y kept) (read_whole whole size) at)).0
   where
     differ : WithLines ≡ AtFaultyRow n why → ⊥
     differ e = cc
 
-not_other : (whole : List ℕ) (n : ℕ) (long : Bool) → EndsAtOther whole n long → IsRowText whole → ⊥
-not_other whole n long (kept, request, others, at, is) (all, are) = differ (rows_end-unique (lines_in whole true) WithLines (AtRequest n request others) all kept are at).0
+not_other : (whole : List ℕ) (n : ℕ) (long : Bool) → length whole ≤ limit → EndsAtOther whole n long → IsRowText whole → ⊥
+not_other whole n long size (kept, request, others, at, is) (all, are) =
+    differ (rows_end-unique (lines_in whole true) WithLines (AtRequest n request others) all kept are (subst (λ (y : List (List ℕ)). EndRows (AtRequest n request others) y kept) (read_whole whole size) at)).0
   where
     differ : WithLines ≡ AtRequest n request others → ⊥
     differ e = cc
 
 pub read_exact : (r : Result TableRows RowsError) (whole : List ℕ) → IsTextRead r whole → length whole ≤ limit → (r ≡ Err text.NoMemory → ⊥) → IsOk r ↔ IsRowText whole
-read_exact (Ok r) whole reads size lacks = (λ _. (rows_said r, reads), λ _. refl)
-read_exact (Err (text.Row n why)) whole (kept, at) size lacks = (λ e. cc, λ is. absurd (not_faulty whole kept n why at is))
-read_exact (Err (text.NoRow n)) whole at size lacks = (λ e. cc, λ is. absurd (not_other whole n false at is))
-read_exact (Err (text.LongLine n)) whole at size lacks = (λ e. cc, λ is. absurd (not_other whole n true at is))
+read_exact (Ok r) whole (reads, within) size lacks = (λ _. (rows_said r, reads), λ _. refl)
+read_exact (Err (text.Row n why)) whole (kept, at) size lacks = (λ e. cc, λ is. absurd (not_faulty whole kept n why size at is))
+read_exact (Err (text.NoRow n)) whole at size lacks = (λ e. cc, λ is. absurd (not_other whole n false size at is))
+read_exact (Err (text.LongLine n)) whole at size lacks = (λ e. cc, λ is. absurd (not_other whole n true size at is))
 read_exact (Err text.NoMemory) whole reads size lacks = absurd (lacks refl)
 read_exact (Err text.TooLong) whole (kept, more, are) size lacks = absurd (omega (arith, more, size))

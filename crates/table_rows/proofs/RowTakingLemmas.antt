@@ -23,12 +23,12 @@ module _ {Y : Type 0} (IsYear : Y → Type 0) (set : List Y → TableRows) (old 
   abbrev YearTaken : Taken → List Y → Type 0
   YearTaken Kept items = TakesYear IsYear keep (outcome.Kept (set items))
   YearTaken (Refused why) items = TakesYear IsYear keep (outcome.Faulty why) × (items ≡ old)
-  YearTaken NoMemory items = items ≡ old
+  YearTaken NoMemory items = ((y : Y) × IsYear y) × (items ≡ old)
 
   kept : (t : Taken) (y : Y) (items : List Y) → IsYear y → IsKept t old y items → YearTaken t items
   kept Kept y items is e = inl (y, is, ap (λ (x : List Y). outcome.Kept (set x)) e)
   kept (Refused why) y items is e = absurd e
-  kept NoMemory y items is e = e
+  kept NoMemory y items is e = ((y, is), e)
 
   year_taken : (t : Taken) (year : Option Y) (items : List Y) → MatchOption year ((y : Y) → IsYear y → ⊥) IsYear → IsYearKept t year old items → YearTaken t items
   year_taken t None items none (e, same) = subst (λ (x : Taken). YearTaken x items) (sym e) (inr (none, refl), same)
@@ -65,17 +65,17 @@ module _ (rows : TableRows) (r : YearRow) where
   pub china_taken : (t : Taken) (year : Option EastAsianTraditionalYear) (items : List EastAsianTraditionalYear) → MatchOption year ((y : EastAsianTraditionalYear) → IsEastAsianYear r y → ⊥) (IsEastAsianYear r) → IsYearKept t year rows.china items → IsTaken t rows (Some (China r)) (set_china rows items)
   china_taken Kept year items is e = year_taken (IsEastAsianYear r) (set_china rows) rows.china Kept year items is e
   china_taken (Refused why) year items is e = let (takes, same) = year_taken (IsEastAsianYear r) (set_china rows) rows.china (Refused why) year items is e in (takes, ap (set_china rows) same)
-  china_taken NoMemory year items is e = ap (set_china rows) (year_taken (IsEastAsianYear r) (set_china rows) rows.china NoMemory year items is e)
+  china_taken NoMemory year items is e = let (some, same) = year_taken (IsEastAsianYear r) (set_china rows) rows.china NoMemory year items is e in (some, ap (set_china rows) same)
 
   pub korea_taken : (t : Taken) (year : Option EastAsianTraditionalYear) (items : List EastAsianTraditionalYear) → MatchOption year ((y : EastAsianTraditionalYear) → IsEastAsianYear r y → ⊥) (IsEastAsianYear r) → IsYearKept t year rows.korea items → IsTaken t rows (Some (Korea r)) (set_korea rows items)
   korea_taken Kept year items is e = year_taken (IsEastAsianYear r) (set_korea rows) rows.korea Kept year items is e
   korea_taken (Refused why) year items is e = let (takes, same) = year_taken (IsEastAsianYear r) (set_korea rows) rows.korea (Refused why) year items is e in (takes, ap (set_korea rows) same)
-  korea_taken NoMemory year items is e = ap (set_korea rows) (year_taken (IsEastAsianYear r) (set_korea rows) rows.korea NoMemory year items is e)
+  korea_taken NoMemory year items is e = let (some, same) = year_taken (IsEastAsianYear r) (set_korea rows) rows.korea NoMemory year items is e in (some, ap (set_korea rows) same)
 
   pub hijri_taken : (t : Taken) (year : Option HijriYear) (items : List HijriYear) → MatchOption year ((y : HijriYear) → IsHijriYear r y → ⊥) (IsHijriYear r) → IsYearKept t year rows.hijri items → IsTaken t rows (Some (Hijri r)) (set_hijri rows items)
   hijri_taken Kept year items is e = year_taken (IsHijriYear r) (set_hijri rows) rows.hijri Kept year items is e
   hijri_taken (Refused why) year items is e = let (takes, same) = year_taken (IsHijriYear r) (set_hijri rows) rows.hijri (Refused why) year items is e in (takes, ap (set_hijri rows) same)
-  hijri_taken NoMemory year items is e = ap (set_hijri rows) (year_taken (IsHijriYear r) (set_hijri rows) rows.hijri NoMemory year items is e)
+  hijri_taken NoMemory year items is e = let (some, same) = year_taken (IsHijriYear r) (set_hijri rows) rows.hijri NoMemory year items is e in (some, ap (set_hijri rows) same)
 
 -- the eras of a row
 module _ (rows : TableRows) where

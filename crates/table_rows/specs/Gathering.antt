@@ -9,7 +9,7 @@ use Rattle.byte_io.specs.declared.buffer.LineBuffer.{LineBuffer}
 use Rattle.byte_io.specs.declared.reader.Reader.{Reader}
 use Rattle.request_lines.specs.Lines.{GivesRow, RequestLine, Requests, IsLine}
 use Rattle.request_lines.specs.Rows.{Row}
-use Rattle.table_rows.specs.RowLines.{Kept, Faulty, TakesRow, KeepsLine, AreRows, AtFaultyRow, AtRequest, EndRows, RowComesFirst}
+use Rattle.table_rows.specs.RowLines.{Kept, Faulty, TakesRow, LineTakesMemory, RowTakesMemory, KeepsLine, AreRows, AtFaultyRow, AtRequest, EndRows}
 use Rattle.table_rows.specs.TableRows.{TableRows}
 use Rattle.table_rows.specs.declared.gathering.Gathered.{Gathered}
 use Rattle.table_rows.specs.declared.gathering.Gathered.TheVariants as gathered
@@ -30,7 +30,7 @@ IsSaidGathered line.GoesOn whole old new =
 IsSaidGathered line.Request whole old new = ((request : RequestLine) × IsLine whole (Requests request)) × (new ≡ old)
 IsSaidGathered (line.Refused why) whole old new =
     ((row : Option Row) × IsLine whole (GivesRow row) × TakesRow old row (Faulty why)) × (new ≡ old)
-IsSaidGathered line.NoMemory whole old new = ((row : Option Row) × IsLine whole (GivesRow row)) × (new ≡ old)
+IsSaidGathered line.NoMemory whole old new = LineTakesMemory whole × (new ≡ old)
 
 -- what a line did, over the rows before it and those behind it
 abbrev pub IsGathered : LineGathered → List ℕ → TableRows → TableRows → Type 0
@@ -38,7 +38,7 @@ IsGathered line.GoesOn whole old new = KeepsLine whole old new
 IsGathered line.Request whole old new = ((request : RequestLine) × IsLine whole (Requests request)) × (new ≡ old)
 IsGathered (line.Refused why) whole old new =
     (row : Option Row) × IsLine whole (GivesRow row) × TakesRow old row (Faulty why)
-IsGathered line.NoMemory whole old new = (row : Option Row) × IsLine whole (GivesRow row)
+IsGathered line.NoMemory whole old new = LineTakesMemory whole
 
 -- row lines came: these bytes were taken, and these lines came
 pub record IsGathering (left now : Option (List ℕ)) (r : Reader) (line : LineBuffer) (rows : TableRows) : Type 0 where
@@ -104,7 +104,7 @@ pub record MetOther (left now : Option (List ℕ)) (n : ℕ) (request : RequestL
   pub at_end : whole ≡ true → IsAtEnd now × (length bytes ≤ limit)
   pub ends : EndRows (AtRequest n request others) (lines_in (take limit bytes) whole) rows
 
--- the source failed or gave too much, or there was no memory for a row
+-- the source failed or gave too much, or a row takes memory and none was left
 abbrev pub Stops : Stop → Option (List ℕ) → Option (List ℕ) → ℕ → ℕ → Type 0
 Stops ReadFault left now faults more =
     (bytes : List ℕ) × (rows : TableRows) × Rose faults more × Consumes left now bytes
@@ -113,7 +113,7 @@ Stops TooLong left now faults more =
     (bytes : List ℕ) × (rows : TableRows) × (limit < length bytes) × Consumes left now bytes
     × AreRows (lines_in (take limit bytes) false) rows
 Stops NoMemory left now faults more =
-    (bytes : List ℕ) × (whole : Bool) × Consumes left now bytes × RowComesFirst (lines_in (take limit bytes) whole)
+    (bytes : List ℕ) × (whole : Bool) × Consumes left now bytes × RowTakesMemory (lines_in (take limit bytes) whole)
     × (whole ≡ true → IsAtEnd now × (length bytes ≤ limit))
 
 -- where the row lines came to an end

@@ -1,6 +1,8 @@
 -- The row lines at the head of an input, and where they end.
 use Rattle.std.specs.Prelude.{◌≡◌, ℕ, ◌+◌, List, [], ◌∷◌, ◌++◌, ◌⊎◌, length, Option, Some, None}
+use Rattle.cal_east_asian.specs.declared.east_asian_traditional_year.EastAsianTraditionalYear.{EastAsianTraditionalYear}
 use Rattle.cal_gregory.specs.JapaneseEraList.{ListedEra}
+use Rattle.cal_hijri.specs.declared.hijri_year.HijriYear.{HijriYear}
 use Rattle.request_lines.specs.Lines.{Nothing, GivesRow, Requests, RequestLine, IsLine}
 use Rattle.request_lines.specs.Rows.{Row, China, Korea, Hijri, Persian, Era}
 use Rattle.table_rows.specs.RowYears.{IsHijriYear, IsEastAsianYear}
@@ -33,6 +35,19 @@ TakesRow rows (Some (Hijri r)) outcome = TakesYear (IsHijriYear r) (with_hijri r
 TakesRow rows (Some (Persian y)) outcome = outcome ≡ Kept (with_persian rows y)
 TakesRow rows (Some (Era r)) outcome = TakesEras rows rows.eras (eras_of_row r) outcome
 
+-- the row is one of a year, which a table keeps in memory: a malformed row, a row without a year and an era take none
+abbrev pub TakesMemory : Option Row → Type 0
+TakesMemory None = ⊥
+TakesMemory (Some (China r)) = (y : EastAsianTraditionalYear) × IsEastAsianYear r y
+TakesMemory (Some (Korea r)) = (y : EastAsianTraditionalYear) × IsEastAsianYear r y
+TakesMemory (Some (Hijri r)) = (y : HijriYear) × IsHijriYear r y
+TakesMemory (Some (Persian y)) = Unit {0}
+TakesMemory (Some (Era r)) = ⊥
+
+-- the line is a row line whose row takes memory
+abbrev pub LineTakesMemory : List ℕ → Type 0
+LineTakesMemory line = (row : Option Row) × IsLine line (GivesRow row) × TakesMemory row
+
 -- the line gives nothing, or a row that is kept
 abbrev pub KeepsLine : List ℕ → TableRows → TableRows → Type 0
 KeepsLine line rows next =
@@ -48,12 +63,6 @@ AddRows (line ∷ more) rows end = (next : TableRows) × KeepsLine line rows nex
 abbrev pub AreRows : List (List ℕ) → TableRows → Type 0
 AreRows lines rows = AddRows lines no_rows rows
 
--- the first line that gives anything is a row line
-abbrev pub RowComesFirst : List (List ℕ) → Type 0
-RowComesFirst [] = ⊥
-RowComesFirst (line ∷ more) =
-    ((row : Option Row) × IsLine line (GivesRow row)) ⊎ (IsLine line Nothing × RowComesFirst more)
-
 -- the row lines end behind the first lines, at this one, which has this number
 pub record EndBefore (lines : List (List ℕ)) (rows : TableRows) (n : ℕ) (line : List ℕ)
     (more : List (List ℕ)) : Type 0 where
@@ -61,6 +70,15 @@ pub record EndBefore (lines : List (List ℕ)) (rows : TableRows) (n : ℕ) (lin
   pub are_rows : AreRows before rows
   pub number : n ≡ length before + 1
   pub all : lines ≡ before ++ line ∷ more
+
+-- behind row lines whose rows are kept comes one whose row takes memory
+pub record RowTakesMemory (lines : List (List ℕ)) : Type 0 where
+  pub rows : TableRows
+  pub number : ℕ
+  pub line : List ℕ
+  pub more : List (List ℕ)
+  pub before : EndBefore lines rows number line more
+  pub takes : LineTakesMemory line
 
 -- where the row lines of an input end: with its lines; at a row line, of this number, which is refused; or at another
 -- line, of this number, with what it says and the lines from it on

@@ -4,7 +4,7 @@ use Rattle.std.specs.Option.{option_map}
 use Rattle.cal_east_asian.specs.EastAsianRows as lunisolar
 use Rattle.cal_gregory.specs.JapaneseEraList.{ListedEra}
 use Rattle.cal_gregory.specs.JapaneseEras.{listed_eras}
-use Rattle.table_rows.specs.RowLines.{TakesRow}
+use Rattle.table_rows.specs.RowLines.{TakesMemory, TakesRow}
 use Rattle.table_rows.specs.RowLines as outcome
 use Rattle.cal_hijri.specs.HijriRows as hijri
 use Rattle.request_lines.specs.Rows.{Row}
@@ -41,8 +41,9 @@ AreErasKept taken (Some before) read new = (taken ≡ Refused Syntax) × (new �
 AreErasKept taken None None new = (taken ≡ Refused Range) × (new ≡ None)
 AreErasKept taken None (Some eras) new = (taken ≡ Kept) × (new ≡ Some eras)
 
--- a row line was taken: its row is kept; or nothing changes, since it is refused or there was no memory for it
+-- a row line was taken: its row is kept; or nothing changes, since it is refused, or its row takes memory and none was
+-- left
 abbrev pub IsTaken : Taken → rows.TableRows → Option Row → rows.TableRows → Type 0
 IsTaken Kept old row new = TakesRow old row (outcome.Kept new)
 IsTaken (Refused why) old row new = TakesRow old row (outcome.Faulty why) × (new ≡ old)
-IsTaken NoMemory old row new = new ≡ old
+IsTaken NoMemory old row new = TakesMemory row × (new ≡ old)

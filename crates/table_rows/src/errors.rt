@@ -1,52 +1,80 @@
-//! Why a line or a text isn't taken.
+//! The errors of lines and of texts.
+
+ghost use Rattle.std.specs.Prelude.{◌≡◌, ◌++◌, codes};
+ghost use Rattle.table_rows.specs.TableWords.{fault_word};
 
 use crate::table::RowFault;
+use std::fmt;
 use thiserror::Error;
 
-/// Why a line isn't taken.
+/// The error of [`TableRows::take_line`](crate::TableRows::take_line).
 #[derive(Clone, Copy, Debug, PartialEq, Eq, Error)]
 pub enum RowError {
-    /// It is a row line that is refused.
-    #[error("table line {0}")]
+    /// A row line is invalid.
     Row(RowFault),
-    /// It isn't silent, and no row line.
-    #[error("err line syntax")]
+    /// The line is neither ignored nor a row line.
     NoRow,
-    /// It isn't silent, and has more than 512 bytes.
-    #[error("err line long")]
+    /// The line isn't ignored and has more than 512 bytes.
     LongLine,
-    /// There is no memory for its row.
-    #[error("no memory for rows")]
+    /// The row has a year, and there is no memory for it.
     NoMemory,
 }
 
-/// Why no rows are read from a text: its first line that isn't taken, by its number from 1, or the text as a whole.
+/// The text for an invalid row line.
+fn fault_text(why: RowFault) -> &'static str
+    ensures { result.now ≡ codes "table line " ++ fault_word why }
+{
+    match why {
+        RowFault::Syntax => "table line syntax",
+        RowFault::Range => "table line range",
+        RowFault::Late => "table line late",
+    }
+}
+
+/// Writes what the program writes for the line, without its number.
+impl fmt::Display for RowError {
+    ghost use Rattle.std.specs.Prelude.{Some};
+    ghost use Rattle.table_rows.specs.TableWords.{row_error_text};
+
+    ghost output = { λ e. Some (row_error_text e) };
+
+    fn fmt<W: fmt::Write>(&self, f: &mut fmt::Formatter<W>) -> fmt::Result {
+        f.write_str(match self {
+            RowError::Row(why) => fault_text(*why),
+            RowError::NoRow => "err line syntax",
+            RowError::LongLine => "err line long",
+            RowError::NoMemory => "no memory for rows",
+        })
+    }
+}
+
+/// The error of [`TableRows::try_read`](crate::TableRows::try_read). Lines are counted from 1.
 #[derive(Clone, Copy, Debug, PartialEq, Eq, Error)]
 pub enum RowsError {
-    /// A row line is refused.
+    /// A row line is invalid.
     #[error("table line {line} {why}")]
     Row {
         /// The number of the line.
         line: u64,
-        /// Why it is refused.
+        /// What is wrong with it.
         why: RowFault,
     },
-    /// A line isn't silent, and no row line.
+    /// A line is neither ignored nor a row line.
     #[error("err line {line} syntax")]
     NoRow {
         /// The number of the line.
         line: u64,
     },
-    /// A line isn't silent, and has more than 512 bytes.
+    /// A line isn't ignored and has more than 512 bytes.
     #[error("err line {line} long")]
     LongLine {
         /// The number of the line.
         line: u64,
     },
-    /// There is no memory for a row.
+    /// A row has a year, and there is no memory for it.
     #[error("no memory for rows")]
     NoMemory,
-    /// The text has more than 16777216 bytes, and all lines within them are taken.
+    /// The text has more than 16777216 bytes, and all lines that end within them are taken.
     #[error("text too long")]
     TooLong,
 }

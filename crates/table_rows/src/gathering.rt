@@ -14,48 +14,48 @@ use crate::table::RowFault;
 use byte_io::{Filled, LineBuffer, Next, Reader, Source};
 use request_lines::{LineKind, is_silent, line_kind};
 
-/// Why reading row lines stopped at no line.
+/// Why reading row lines stopped at no particular line.
 #[derive(Clone, Copy, Debug, PartialEq, Eq)]
 pub enum Stop {
     /// The source counted a fault.
     ReadFault,
-    /// The source gave more than 16777216 bytes.
+    /// The source has more than 16777216 bytes.
     TooLong,
-    /// There is no memory for a row.
+    /// A row has a year, and there is no memory for it.
     NoMemory,
 }
 
-/// Where the row lines came to an end.
+/// The end of the row lines at the head of an input.
 #[derive(Clone, Copy, Debug, PartialEq, Eq)]
 pub enum Gathered {
-    /// Another line came, which the buffer holds.
+    /// A line came that isn't a row line. The buffer holds it.
     Request,
-    /// It is the last line of the input, without an LF.
+    /// The last line of the input, which has no LF, isn't a row line. The buffer holds it.
     LastRequest,
-    /// The input came to its end.
+    /// The input ended.
     End,
-    /// The row line of this number is refused.
+    /// The row line of this number is invalid.
     Refused(u64, RowFault),
-    /// At no line.
+    /// Reading stopped at no particular line.
     Stopped(Stop),
 }
 
-/// What a line did among the row lines.
+/// The effect of a line among the row lines.
 #[derive(Clone, Copy)]
 pub(crate) enum LineGathered {
-    // It is ignored, or gives a row that is kept.
+    // The line is ignored, or its row is kept.
     GoesOn,
-    // It is another line.
+    // The line isn't a row line.
     Request,
-    // It is a row line that is refused.
+    // The row line is invalid.
     Refused(RowFault),
-    // There is no memory for its row.
+    // The row has a year, and there is no memory for it.
     NoMemory,
 }
 
 ghost use Rattle.table_rows.specs.Gathering.{Gathers, IsGathered, IsSaidGathered};
 
-/// What a line did that isn't silent. What its row needs is set up at the call, which a silent line is spared.
+/// Takes a line that isn't ignored. Kept out of line so that ignored lines don't pay for its stack frame.
 #[inline(never)]
 pub(crate) fn gather_said(rows: &mut TableRows, line: &LineBuffer) -> LineGathered
     ensures { (whole : List ℕ) → Holds line.now whole → line_is_silent whole ≡ false
@@ -71,6 +71,7 @@ pub(crate) fn gather_said(rows: &mut TableRows, line: &LineBuffer) -> LineGather
     }
 }
 
+/// Takes a line.
 fn gather_line(rows: &mut TableRows, line: &LineBuffer) -> LineGathered
     ensures { (whole : List ℕ) → Holds line.now whole
         → IsGathered result whole (rows_said rows.old) (rows_said rows.new) }
@@ -82,7 +83,7 @@ fn gather_line(rows: &mut TableRows, line: &LineBuffer) -> LineGathered
     }
 }
 
-/// What follows the last LF, behind this many lines, at the end of the source.
+/// Takes what follows the last LF, after this many lines, at the end of the source.
 fn gather_last(rows: &mut TableRows, lines: u64, line: &LineBuffer) -> Gathered
     requires { lines ≤ 16777216 }
     ensures { (left l l2 : Option (List ℕ)) (faults more : ℕ) (reader mid q : Reader) (before : LineBuffer)
@@ -98,7 +99,7 @@ fn gather_last(rows: &mut TableRows, lines: u64, line: &LineBuffer) -> Gathered
     }
 }
 
-/// Reads lines and keeps their rows, until another line comes, a row is refused, or the source ends or fails.
+/// Reads lines and keeps their rows, until a line isn't a row line, a row is invalid, or the source ends or fails.
 pub fn gather<S: Source>(
     rows: &mut TableRows,
     reader: &mut Reader,

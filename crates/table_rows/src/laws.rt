@@ -1,17 +1,17 @@
-//! Laws of row lines, each proved as the contract of a function that does nothing.
+//! Laws of row lines. Each is the contract of a function that does nothing.
 ghost use Rattle.table_rows.specs.Laws.{EveryTextEnds, EndsAreUnique, TablesAreDecided};
 
-/// The row lines of every text end somewhere, and give rows up to there.
+/// Every text has an end of its row lines, and rows up to there.
 pub fn every_text_ends()
     ensures { EveryTextEnds }
 {}
 
-/// They end at one place, and give the same rows.
+/// The end of the row lines and the rows are unique.
 pub fn ends_are_unique()
     ensures { EndsAreUnique }
 {}
 
-/// The tables of any rows are accepted, or a first one isn't by a first fault, and never both, nor two.
+/// The tables of any rows are all accepted, or there is exactly one first invalid table with one first fault, never both.
 pub fn tables_are_decided()
     ensures { TablesAreDecided }
 {}

@@ -1,20 +1,23 @@
-//! Rows of tables of one's own: lines of text, each of which gives a year of a table.
+//! Rows of a caller's own tables: lines of text, one year or era a line.
 //!
-//! | Line | What it gives |
+//! | Line | Its row |
 //! |---|---|
 //! | `row china YEAR START LENGTHS LEAP` | a Chinese year, from 1912 on |
 //! | `row korea YEAR START LENGTHS LEAP` | a Korean year, from 1912 on |
 //! | `row hijri YEAR START LENGTHS` | a year of Umm al-Qura |
-//! | `row persian YEAR` | a leap year of the Persian rule of 33 years that is common, and the next one a leap year |
+//! | `row persian YEAR` | a leap year of the Persian 33-year rule that is common; the next year is the leap year |
 //! | `row era YEAR MONTH DAY CODE INDEX` | an era of Japan after Reiwa, once |
 //!
-//! `YEAR` and `START`, the day number of the year's first day, are an optional `-` and 1 to 9 digits. `LENGTHS` has a
-//! letter for each month, `s` for 29 days and `l` for 30: 12 of them, or for China and Korea 13 with the place of the
-//! leap month as `LEAP`, which is 0 otherwise. `MONTH`, `DAY` and `INDEX` are numbers up to 255, and `CODE` is 1 to 8
-//! letters `a` to `z`. Lines that are empty or begin with `#` are ignored.
+//! - `YEAR` and `START` are an optional `-` and 1 to 9 digits. `START` is the day number of the year's first day (rata die).
+//! - `LENGTHS` has a letter for each month, `s` for 29 days and `l` for 30. It has 12 letters, or 13 in a leap year of China
+//!   or Korea.
+//! - `LEAP` is the ordinal of the leap month, or 0 if the year has none.
+//! - `MONTH`, `DAY` and `INDEX` are numbers up to 255, and `CODE` is 1 to 8 letters `a` to `z`.
 //!
-//! [`TableRows::try_read`] reads a whole text, and [`TableRows::take_line`] takes one line. [`TableRows::tables`] tests the
-//! rows, and has the tables of them. [`gather`] reads the row lines at the head of any source.
+//! Lines that are empty or begin with `#` are ignored.
+//!
+//! Start with [`TableRows::try_read`], which reads a whole text; [`TableRows::take_line`] takes one line.
+//! [`TableRows::tables`] tests the rows and returns their tables. [`gather`] reads the row lines at the head of any source.
 //!
 //! ```
 //! let rows = TableRows::try_read(alloc, b"row china 1912 698026 lslslslslsls 0\n")?;
@@ -24,6 +27,7 @@
 
 mod errors;
 mod gathering;
+mod keeping;
 pub mod laws;
 mod reading;
 mod row_years;

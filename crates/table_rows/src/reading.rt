@@ -1,4 +1,4 @@
-//! Rows from a line, or from a whole text.
+//! Rows from a line or a whole text.
 ghost use Rattle.std.specs.Prelude.{◌≡◌, ◌≢◌, ◌≤◌, ◌↔◌, IsOk, Err, length, if◌then◌else◌};
 ghost use Rattle.byte_io.specs.Reader.{limit};
 ghost use Rattle.table_rows.specs.Reading.{IsLineTaken, IsRowText, IsTextRead};
@@ -11,7 +11,7 @@ use byte_io::{LineBuffer, PlainSource, Reader};
 use request_lines::is_silent;
 use std::alloc::Global;
 
-/// A line that is no row line.
+/// Returns the error for a line that isn't a row line.
 fn other_line(long: bool) -> RowError
     ensures { result ≡ (if long then RowError.LongLine else RowError.NoRow) }
 {
@@ -22,7 +22,7 @@ fn other_line(long: bool) -> RowError
     }
 }
 
-/// The line of a text that is no row line.
+/// Returns the error for a line of a text that isn't a row line.
 fn other_line_of(line: u64, long: bool) -> RowsError
     ensures { result ≡ (if long then RowsError.LongLine line else RowsError.NoRow line) }
 {
@@ -34,8 +34,8 @@ fn other_line_of(line: u64, long: bool) -> RowsError
 }
 
 impl TableRows {
-    /// Takes one line, the bytes before its LF, and answers whether its row was kept behind the others of its table: a
-    /// line that is empty, but for a carriage return at its end, or begins with `#` is ignored.
+    /// Takes one line, the bytes before its LF. Returns true if its row was added to its table, and false if the line is
+    /// ignored: it begins with `#`, or is empty but for a carriage return at its end.
     ///
     /// ```
     /// let mut rows = TableRows::new(alloc);
@@ -44,9 +44,13 @@ impl TableRows {
     ///
     /// # Errors
     ///
-    /// [`RowError::LongLine`] for a line of more than 512 bytes, [`RowError::NoRow`] for one that isn't `row` and doesn't
-    /// begin with `row `, [`RowError::Row`] with the fault of a row line, and [`RowError::NoMemory`] where there is no
-    /// memory for its row. Nothing changes then.
+    /// The rows don't change after an error.
+    ///
+    /// - [`RowError::LongLine`] if the line has more than 512 bytes.
+    /// - [`RowError::NoRow`] if the line isn't `row` and doesn't begin with `row `.
+    /// - [`RowError::Row`] if the row line is invalid, with its fault.
+    /// - [`RowError::NoMemory`] if the row has a year and there is no memory for it. Invalid row lines and eras need no
+    ///   memory.
     pub fn take_line(&mut self, line: &[u8]) -> Result<bool, RowError>
         ensures { IsLineTaken result line.now (rows_said self.old) (rows_said self.new) }
     {
@@ -63,8 +67,8 @@ impl TableRows {
         }
     }
 
-    /// The rows of a text: each line is ignored or gives a row, as for [`TableRows::take_line`]. The lines end with
-    /// LFs, and what stands behind the last LF is a line too.
+    /// Reads the rows of a text. Each line is taken as by [`TableRows::take_line`]. Lines end with LFs, and the bytes after
+    /// the last LF are a line too.
     ///
     /// ```
     /// let rows = TableRows::try_read(alloc, b"# corrected\nrow persian 1502\nrow persian 1601\n")?;
@@ -72,10 +76,14 @@ impl TableRows {
     ///
     /// # Errors
     ///
-    /// The first line that isn't taken, by its number from 1: [`RowsError::Row`] with the fault of a row line,
-    /// [`RowsError::LongLine`] or [`RowsError::NoRow`] for another line. [`RowsError::TooLong`] where all lines within
-    /// 16777216 bytes are taken and more bytes follow. [`RowsError::NoMemory`] may come in place of anything else where a
-    /// row line is the first that isn't silent.
+    /// The first line that can't be taken is named by its number, counted from 1. Only lines within the first 16777216
+    /// bytes are read.
+    ///
+    /// - [`RowsError::Row`] if a row line is invalid, with its fault.
+    /// - [`RowsError::LongLine`] if a line has more than 512 bytes.
+    /// - [`RowsError::NoRow`] if a line isn't a row line.
+    /// - [`RowsError::TooLong`] if all lines that end within 16777216 bytes are taken and the text has more bytes.
+    /// - [`RowsError::NoMemory`] if there is no memory for a row of a year. The lines before it are taken.
     pub fn try_read(alloc: Global, text: &[u8]) -> Result<TableRows, RowsError>
         ensures reads { IsTextRead result text.now }
         ensures exact { length text.now ≤ limit → result ≢ Err RowsError.NoMemory → IsOk result ↔ IsRowText text.now }

@@ -1,5 +1,5 @@
-//! The years that row lines give, as rows of tables.
-ghost use Rattle.std.specs.Prelude.{◌≡◌, ◌≤◌, pos, MatchOption, Some, None, if◌then◌else◌};
+//! The years of row lines.
+ghost use Rattle.std.specs.Prelude.{◌≡◌, ◌≤◌, pos, IfSome, IsTrue, MatchOption, Some, None, if◌then◌else◌};
 ghost use Rattle.cal_hijri.specs.HijriRows as hijri;
 ghost use Rattle.cal_hijri.specs.declared.hijri_year.HijriYear.{HijriYear};
 ghost use Rattle.cal_east_asian.specs.EastAsianRows as lunisolar;
@@ -14,7 +14,7 @@ use cal_east_asian::{EastAsianRow, EastAsianTraditionalYear};
 use cal_hijri::{HijriRow, HijriYear};
 use request_lines::YearRow;
 
-/// The days of a month by its letter.
+/// Returns the days of a month from its letter.
 fn letter_len(letter: u8) -> i64
     ensures value { result ≡ pos (letter_days letter) }
     ensures most { letter_days letter ≤ 30 }
@@ -22,7 +22,7 @@ fn letter_len(letter: u8) -> i64
     if letter == b'l' { 30 } else { 29 }
 }
 
-/// The days of the month at an index: 30 or 29 by its letter, and 0 behind the last letter.
+/// Returns the days of the month at an index: 30 or 29 from its letter, and 0 after the last letter.
 fn month_days(letters: &[u8], index: usize) -> i64
     ensures value { result ≡ pos (days_at letters.now index) }
     ensures most { days_at letters.now index ≤ 30 }
@@ -33,7 +33,7 @@ fn month_days(letters: &[u8], index: usize) -> i64
     }
 }
 
-/// The first days of months that have these lengths, from a first day on.
+/// Returns the first days of months with these lengths, from a first day on.
 fn month_starts<const N: usize>(start: i32, letters: &[u8]) -> [RataDie; N]
     requires { N ≤ 14 }
     ensures { result ≡ starts_of N start letters.now }
@@ -49,7 +49,7 @@ fn month_starts<const N: usize>(start: i32, letters: &[u8]) -> [RataDie; N]
     starts
 }
 
-/// The Hijri year of a row, where it gives one.
+/// Returns the Hijri year of a row if it exists.
 fn hijri_year(row: &YearRow<'_>) -> Option<HijriYear>
     ensures { MatchOption result ((y : HijriYear) → IsHijriYear (year_row_said row.now) y → ⊥)
         (IsHijriYear (year_row_said row.now)) }
@@ -57,11 +57,12 @@ fn hijri_year(row: &YearRow<'_>) -> Option<HijriYear>
     HijriYear::try_new(row.year, month_starts(row.start, row.lengths))
 }
 
-/// The Hijri year of a row. None exactly where the number of the year isn't from -8000000 to 8000000, its first
-/// day lies more than 5 days from the start of the mean year, or there aren't letters for all twelve months.
+/// Returns the Hijri year of a row. `None` exactly if the number of the year isn't from -8000000 to 8000000, its first day is
+/// more than 5 days from the start of the mean year, or there aren't letters for all twelve months.
 pub fn hijri_row(row: &YearRow<'_>) -> Option<HijriRow>
-    ensures { MatchOption result ((y : HijriYear) → IsHijriYear (year_row_said row.now) y → ⊥)
+    ensures year { MatchOption result ((y : HijriYear) → IsHijriYear (year_row_said row.now) y → ⊥)
         (λ kept. IsHijriYear (year_row_said row.now) (hijri.row_year kept)) }
+    ensures named { IfSome result (λ kept. IsTrue (hijri.names_year kept)) }
 {
     match hijri_year(row) {
         Some(year) => year.row(),
@@ -69,14 +70,14 @@ pub fn hijri_row(row: &YearRow<'_>) -> Option<HijriRow>
     }
 }
 
-/// The place of a leap month, where a row gives one.
+/// Returns the ordinal of the leap month if the row has one.
 fn leap_place(leap: u8) -> Option<u8>
     ensures { leap_place_read result ≡ (if is_leap_place leap then Some leap else None) }
 {
     if leap == 0 { None } else { Some(leap) }
 }
 
-/// The Chinese or Korean year of a row, where it gives one.
+/// Returns the Chinese or Korean year of a row if it exists.
 fn east_asian_year(row: &YearRow<'_>) -> Option<EastAsianTraditionalYear>
     ensures { MatchOption result ((y : EastAsianTraditionalYear) → IsEastAsianYear (year_row_said row.now) y → ⊥)
         (IsEastAsianYear (year_row_said row.now)) }
@@ -85,12 +86,13 @@ fn east_asian_year(row: &YearRow<'_>) -> Option<EastAsianTraditionalYear>
     EastAsianTraditionalYear::try_new(row.year, starts, leap_place(row.leap))
 }
 
-/// The Chinese or Korean year of a row. None exactly where the number of the year isn't from -8000000 to 8000000,
-/// its first day isn't 0 to 34 days after January 19 of the number, the place of its leap month isn't 0 or from 2
-/// to 13, or there aren't letters for all of its months.
+/// Returns the Chinese or Korean year of a row. `None` exactly if the number of the year isn't from -8000000 to 8000000, its
+/// first day isn't 0 to 34 days after January 19 of the number, the ordinal of its leap month isn't 0 or from 2 to 13, or
+/// there aren't letters for all of its months.
 pub fn east_asian_row(row: &YearRow<'_>) -> Option<EastAsianRow>
-    ensures { MatchOption result ((y : EastAsianTraditionalYear) → IsEastAsianYear (year_row_said row.now) y → ⊥)
+    ensures year { MatchOption result ((y : EastAsianTraditionalYear) → IsEastAsianYear (year_row_said row.now) y → ⊥)
         (λ kept. IsEastAsianYear (year_row_said row.now) (lunisolar.row_year kept)) }
+    ensures named { IfSome result (λ kept. IsTrue (lunisolar.names_year kept)) }
 {
     match east_asian_year(row) {
         Some(year) => Some(year.row()),

@@ -1,24 +1,27 @@
 //! The rows of tables.
 ghost use Rattle.std.specs.Prelude.{◌≡◌, [], MatchResult, Some};
 ghost use Rattle.std.specs.Option.{option_map, unwrap_or};
+ghost use Rattle.cal_east_asian.specs.EastAsianRows as lunisolar;
+ghost use Rattle.cal_hijri.specs.HijriRows as umm_al_qura;
 ghost use Rattle.cal_tables.specs.Kinds.{table_contents};
 ghost use Rattle.cal_gregory.specs.JapaneseEraList.{eras_up_to_reiwa};
 ghost use Rattle.cal_gregory.specs.JapaneseEras.{listed_eras};
-ghost use Rattle.request_lines.specs.RowSaid.{era_row_said, row_said};
-ghost use Rattle.table_rows.specs.TableRows.{AreAccepted, IsFirstRefused, contents_of, no_rows, eras_of_row};
+ghost use Rattle.request_lines.specs.RowSaid.{row_said};
+ghost use Rattle.table_rows.specs.TableRows.{AreAccepted, IsFirstRefused, contents_of, no_rows};
 
+use crate::keeping::{keep, keep_eras, keep_year};
 use crate::row_years::{east_asian_row, hijri_row};
 use crate::table::{RowFault, Table, TableRefusal};
 use cal_east_asian::{EastAsianRow, EastAsianTable, Side};
 use cal_errors::TableFault;
-use cal_gregory::{EraStartDate, JapaneseEras};
+use cal_gregory::JapaneseEras;
 use cal_hijri::{HijriRow, HijriTable};
 use cal_julian::PersianCorrections;
 use cal_tables::Tables;
-use request_lines::{EraRow, Row, RowDate};
+use request_lines::Row;
 use std::alloc::Global;
 
-/// The rows that came, table by table, and the eras of Japan where a row named them.
+/// The rows of each table, and the eras of Japan if a row named one.
 #[derive(Drop)]
 pub struct TableRows {
     china: Vec<EastAsianRow>,
@@ -26,63 +29,26 @@ pub struct TableRows {
     hijri: Vec<HijriRow>,
     persian: Vec<i32>,
     eras: Option<JapaneseEras>,
+    ghost china_named: { lunisolar.NameYears china.items },
+    ghost korea_named: { lunisolar.NameYears korea.items },
+    ghost hijri_named: { umm_al_qura.NameYears hijri.items },
 }
 
-/// What became of a row line.
+/// The result of taking a row line.
 #[derive(Clone, Copy, Debug, PartialEq, Eq)]
 pub enum Taken {
-    /// Its row is kept.
+    /// The row is kept.
     Kept,
-    /// It is refused.
+    /// The row line is invalid.
     Refused(RowFault),
-    /// There is no memory for its row.
+    /// The row has a year, and there is no memory for it.
     NoMemory,
 }
 
-ghost use Rattle.table_rows.specs.RowsSaid.{AreErasKept, IsKept, IsTaken, IsYearKept, rows_said};
-
-/// Keeps a row behind the others of its table.
-fn keep<T: Drop>(rows: &mut Vec<T>, row: T) -> Taken
-    ensures { IsKept result rows.old.items row rows.new.items }
-{
-    match rows.push(row) {
-        Ok(()) => Taken::Kept,
-        Err(_) => Taken::NoMemory,
-    }
-}
-
-/// Keeps the eras of a row, where no row named any before.
-fn keep_eras(eras: &mut Option<JapaneseEras>, row: EraRow<'_>) -> Taken
-    ensures { let before = option_map listed_eras eras.old in
-        let read = eras_of_row (era_row_said row.entry) in
-        AreErasKept result before read (option_map listed_eras eras.new) }
-{
-    if eras.is_some() {
-        return Taken::Refused(RowFault::Syntax);
-    }
-    let RowDate { year, month, day } = row.start;
-    let start = EraStartDate { year, month, day };
-    match JapaneseEras::with_last_era(start, row.code(), row.index) {
-        Some(listed) => {
-            *eras = Some(listed);
-            Taken::Kept
-        }
-        None => Taken::Refused(RowFault::Range),
-    }
-}
-
-/// Keeps the year of a row line behind the others of its table, where the line gives one.
-fn keep_year<R: Drop>(rows: &mut Vec<R>, year: Option<R>) -> Taken
-    ensures { IsYearKept result year rows.old.items rows.new.items }
-{
-    match year {
-        Some(year) => keep(rows, year),
-        None => Taken::Refused(RowFault::Range),
-    }
-}
-
 impl TableRows {
-    /// Before the first row, which takes no memory.
+    ghost use Rattle.table_rows.specs.RowsSaid.{IsTaken, rows_said};
+
+    /// Creates an empty set of rows. It allocates nothing.
     ///
     /// ```
     /// let rows = TableRows::new(alloc);
@@ -100,7 +66,7 @@ impl TableRows {
         }
     }
 
-    /// Takes a row. It is refused where its year or era isn't one, or an era stands behind another.
+    /// Takes a row. It is invalid if its year or era doesn't exist, or if it is a second era.
     fn take_row(&mut self, row: Row<'_>) -> Taken
         ensures { IsTaken result (rows_said self.old) (Some (row_said row.entry)) (rows_said self.new) }
     {
@@ -113,8 +79,8 @@ impl TableRows {
         }
     }
 
-    /// Takes the row of a row line. It is refused where the line says none, the row's year or era isn't one, or an
-    /// era stands behind another.
+    /// Takes the row of a row line, which is `None` if the line is malformed. A row line is invalid if it is malformed, its
+    /// year or era doesn't exist, or it is a second era. Memory is needed only for a row of a year.
     pub fn take(&mut self, row: Option<Row<'_>>) -> Taken
         ensures { IsTaken result (rows_said self.old) (option_map row_said row.entry) (rows_said self.new) }
     {
@@ -124,7 +90,7 @@ impl TableRows {
         }
     }
 
-    /// The rows of China, in the order of their lines. They aren't tested, so that they may lengthen a table
+    /// Returns the Chinese years, in the order of their lines. They aren't tested, so that they can lengthen a table
     /// ([`EastAsianTable::lengthened`]).
     ///
     /// ```
@@ -132,42 +98,50 @@ impl TableRows {
     /// assert!(rt; rows.china().len() == 1);
     /// ```
     pub fn china(&self) -> &[EastAsianRow]
-        ensures { result.now ≡ self.now.china.items }
+        ensures rows { result.now ≡ self.now.china.items }
+        ensures named { lunisolar.NameYears result.now }
     {
         &self.china
     }
 
-    /// The rows of Korea, as those of China.
+    /// Returns the Korean years, as [`TableRows::china`] does the Chinese ones.
     ///
     /// ```
     /// let rows = TableRows::try_read(alloc, b"row korea 1912 698026 lslslslslsls 0\n")?;
     /// assert!(rt; rows.korea().len() == 1);
     /// ```
     pub fn korea(&self) -> &[EastAsianRow]
-        ensures { result.now ≡ self.now.korea.items }
+        ensures rows { result.now ≡ self.now.korea.items }
+        ensures named { lunisolar.NameYears result.now }
     {
         &self.korea
     }
 
-    /// The rows of Umm al-Qura, as those of China ([`HijriTable::lengthened`]).
+    /// Returns the years of Umm al-Qura, in the order of their lines. They aren't tested, so that they can lengthen a table
+    /// ([`HijriTable::lengthened`]).
     ///
     /// ```
     /// let rows = TableRows::try_read(alloc, b"row hijri 1445 738720 sllslslslsll\n")?;
     /// assert!(rt; rows.umm_al_qura().len() == 1);
     /// ```
     pub fn umm_al_qura(&self) -> &[HijriRow]
-        ensures { result.now ≡ self.now.hijri.items }
+        ensures rows { result.now ≡ self.now.hijri.items }
+        ensures named { umm_al_qura.NameYears result.now }
     {
         &self.hijri
     }
 
-    /// The tables of these rows. Those of China, of Korea, of the Hijri calendar and the corrected Persian years are
-    /// tested in this order; the first that isn't accepted is refused by the first row and part that break.
+    /// Returns the tables of these rows. The tables of China, Korea, the Hijri calendar and the corrected Persian years are
+    /// tested in this order.
     ///
     /// ```
     /// let rows = TableRows::try_read(alloc, b"row persian 1502\n")?;
     /// let persian = rows.tables()?.persian();
     /// ```
+    ///
+    /// # Errors
+    ///
+    /// - [`TableRefusal`] with the first table that isn't accepted, and its first invalid row and part.
     pub fn tables(&self) -> Result<Tables<'_>, TableRefusal>
         ensures { MatchResult result
             (λ t. AreAccepted (rows_said self.now) × (table_contents t ≡ contents_of (rows_said self.now)))
@@ -196,7 +170,7 @@ impl TableRows {
     }
 }
 
-/// A table that isn't accepted, with the first row and part that break.
+/// Returns the error for a table with its first fault.
 fn refusal(table: Table, fault: TableFault) -> TableRefusal
     ensures table { result.table ≡ table }
     ensures fault { result.fault ≡ fault }
@@ -204,7 +178,7 @@ fn refusal(table: Table, fault: TableFault) -> TableRefusal
     TableRefusal { table, fault }
 }
 
-/// The listed eras: those of a row, or otherwise those up to Reiwa.
+/// Returns the listed eras: those of a row, or otherwise those up to Reiwa.
 fn listed(eras: Option<JapaneseEras>) -> JapaneseEras
     ensures { listed_eras result ≡ unwrap_or (option_map listed_eras eras) (eras_up_to_reiwa []) }
 {

@@ -1,10 +1,10 @@
-//! Tables, and why a row or a table is refused.
+//! Tables, and the faults of rows and tables.
 
 use cal_errors::TableFault;
 use std::fmt;
 use thiserror::Error;
 
-/// A table of rows, by the word that its row lines have.
+/// A table, by the second word of its row lines.
 #[derive(Clone, Copy, Debug, PartialEq, Eq)]
 pub enum Table {
     /// `china`
@@ -17,7 +17,7 @@ pub enum Table {
     Persian,
 }
 
-/// The word that its row lines have.
+/// Writes the second word of the table's row lines.
 impl fmt::Display for Table {
     ghost use Rattle.std.specs.Prelude.{Some};
     ghost use Rattle.table_rows.specs.TableWords.{table_word};
@@ -34,26 +34,39 @@ impl fmt::Display for Table {
     }
 }
 
-/// Why a row line is refused.
+/// The fault of a row line.
 #[derive(Clone, Copy, Debug, PartialEq, Eq, Error)]
 pub enum RowFault {
-    /// It isn't of the form of a row line, or names a second era.
-    #[error("syntax")]
+    /// The line is malformed, or it names a second era.
     Syntax,
-    /// There is no such year, or no such era.
-    #[error("range")]
+    /// The year or the era doesn't exist.
     Range,
-    /// It stands behind a request line.
-    #[error("late")]
+    /// The line comes after a request line.
     Late,
 }
 
-/// A table that isn't accepted, and the first row and part that break.
+/// Writes the word of the fault, as the program does.
+impl fmt::Display for RowFault {
+    ghost use Rattle.std.specs.Prelude.{Some};
+    ghost use Rattle.table_rows.specs.TableWords.{fault_word};
+
+    ghost output = { λ f. Some (fault_word f) };
+
+    fn fmt<W: fmt::Write>(&self, f: &mut fmt::Formatter<W>) -> fmt::Result {
+        f.write_str(match self {
+            RowFault::Syntax => "syntax",
+            RowFault::Range => "range",
+            RowFault::Late => "late",
+        })
+    }
+}
+
+/// A table that isn't accepted, with its first invalid row and part.
 #[derive(Clone, Copy, Debug, PartialEq, Eq, Error)]
 #[error("table {table} {} {}", .fault.row, .fault.part)]
 pub struct TableRefusal {
     /// The table.
     pub table: Table,
-    /// The row, counted from 1, and the part.
+    /// The number of the row, counted from 1, and its invalid part.
     pub fault: TableFault,
 }

@@ -20,7 +20,7 @@ use cal_tables::Tables;
 use cal_types::Window;
 use reply_texts::Pending;
 
-/// The lines of days.
+/// Writes a day as a line.
 #[derive(Clone, Copy)]
 struct DayLines<'t, C> {
     form: DayForm<'t, C>,
@@ -39,7 +39,7 @@ impl<'t, C: Calendar> ItemLines for DayLines<'t, C> {
     }
 }
 
-/// The name of the fault of a month or a day.
+/// Returns the name of the error of a month or a day.
 fn error_name(error: AnniversaryError) -> &'static [u8]
     ensures { result.now ≡ anniversary_error error }
 {
@@ -49,7 +49,7 @@ fn error_name(error: AnniversaryError) -> &'static [u8]
     }
 }
 
-/// The anniversaries of a window.
+/// The arguments of `anniversary` with their window.
 #[derive(Drop)]
 struct InWindow {
     words: AnniversaryWords,

@@ -8,28 +8,28 @@ use crate::command_words::{CommandWords, next_byte, next_int, next_kind, next_mo
 use cal_kinds::AnyCalendarKind;
 use cal_types::{Leaping, Month};
 
-/// What the words of `anniversary` ask for: `CAL SHOWN exact|constrain CODE DAY FIRST LAST`.
+/// The arguments of `anniversary`: `CAL SHOWN exact|constrain CODE DAY FIRST LAST`.
 #[derive(Clone, Copy, Debug)]
 pub struct AnniversaryWords {
     /// The calendar of the month and the day.
     pub calendar: AnyCalendarKind,
-    /// The calendar that each day is shown in beside it.
+    /// The second calendar, in which each day is shown too.
     pub shown: AnyCalendarKind,
-    /// What becomes of a year that lacks the month or the day.
+    /// How to handle a year in which the month or the day doesn't exist.
     pub leaping: Leaping,
     /// The month.
     pub month: Month,
     /// The day of the month.
     pub day: u8,
-    /// The day number of the first day that may be listed.
+    /// The first day of the list, as a day number (rata die).
     pub first: i32,
-    /// And that of the last one.
+    /// The last day of the list, as a day number.
     pub last: i32,
 }
 
 ghost use Rattle.calspan_run.specs.CommandSaid.{anniversary_said};
 
-/// What becomes of a year that lacks the month or the day, as the next word says it.
+/// Reads how to handle a year in which the month or the day doesn't exist.
 fn next_leaping(words: &mut CommandWords) -> Option<Leaping>
     ensures { IsReading (next_word leaping_named (words_left words.old)) result (words_left words.new) }
 {
@@ -44,7 +44,7 @@ fn next_leaping(words: &mut CommandWords) -> Option<Leaping>
     }
 }
 
-/// What the next words ask for. None where they aren't of the form.
+/// Reads the arguments of `anniversary`. `None` if the next words aren't of their form.
 #[tactic(auto, unfolding(crate::specs::Asked::anniversary_read))]
 pub(crate) fn read_anniversary(words: &mut CommandWords) -> Option<AnniversaryWords>
     ensures { let reading = anniversary_read (words_left words.old) in

@@ -1,5 +1,5 @@
 //! A run of `gen`, which reads nothing.
-ghost use Rattle.std.specs.Prelude.{◌≤◌, ◌≢◌, ℕ, List, Option};
+ghost use Rattle.std.specs.Prelude.{◌≤◌, ℕ, List, Option};
 ghost use Rattle.calspan_run.specs.Rules.{generator_rules};
 ghost use Rattle.calspan_run.specs.Run.{outside};
 ghost use Rattle.calspan_run.specs.Serving.{Serves};
@@ -10,11 +10,10 @@ use crate::status::Status;
 use byte_io::Sink;
 use reply_texts::Pending;
 
-/// Writes the line of so many requests.
+/// Writes the line of counts and sums over so many requests.
 pub(crate) fn serve_totals<K: Sink>(count: u32, sink: &mut K) -> Status
     requires { count ≤ 100000 }
-    ensures not_words { result ≢ Status.Words }
-    ensures serves { (left : Option (List ℕ)) (reads : ℕ) → Serves (generator_rules count) result
+    ensures { (left : Option (List ℕ)) (reads : ℕ) → Serves (generator_rules count) result
         (outside left (K.taken sink.old) reads (K.faults sink.old))
         (outside left (K.taken sink.new) reads (K.faults sink.new)) }
 {

@@ -1,4 +1,4 @@
-//! The requests that a number asks for.
+//! Generated requests.
 ghost use Rattle.std.specs.Prelude.{◌≡◌, ◌<◌, ◌≤◌, Some};
 ghost use Rattle.cal_types.specs.Bag.{bag_of};
 ghost use Rattle.calspan_run.specs.Generator.{calendar_of, generated_bag, generated_request, near_year, unit_of};
@@ -11,7 +11,7 @@ use cal_types::{
 };
 use request_lines::{Header, Request};
 
-/// The calendars in turn.
+/// Returns the calendar of a number, in a fixed order.
 fn calendar_of(number: u32) -> AnyCalendarKind
     requires { number < 18 }
     ensures { result ≡ calendar_of number }
@@ -38,7 +38,7 @@ fn calendar_of(number: u32) -> AnyCalendarKind
     }
 }
 
-/// The largest units in turn, and none.
+/// Returns the largest unit of a number, in a fixed order; the last is none.
 fn unit_of(number: u32) -> Option<DateDurationUnit>
     requires { number < 5 }
     ensures { result ≡ unit_of number }
@@ -52,14 +52,14 @@ fn unit_of(number: u32) -> Option<DateDurationUnit>
     }
 }
 
-/// A year from -2000 to 2000.
+/// Returns a year from -2000 to 2000.
 fn near_year(number: u64) -> i32
     ensures { result ≡ near_year number }
 {
     (number % 4001) as i32 - 2000
 }
 
-/// An extended year, an ordinal month and a day.
+/// Creates a bag of an extended year, an ordinal month and a day.
 fn bag(extended_year: i32, ordinal_month: u8, day: u8) -> DateFields<'static>
     ensures { bag_of result ≡ generated_bag extended_year ordinal_month day }
 {
@@ -74,7 +74,7 @@ fn bag(extended_year: i32, ordinal_month: u8, day: u8) -> DateFields<'static>
     }
 }
 
-/// The options of the request of an index.
+/// Returns the options of the request with an index.
 fn options_of(index: u32) -> DateFromFieldsOptions
     ensures overflow { result.overflow ≡ (generated_request index).overflow }
     ensures missing { result.missing_fields_strategy ≡ (generated_request index).missing_fields }
@@ -90,7 +90,7 @@ fn options_of(index: u32) -> DateFromFieldsOptions
     }
 }
 
-/// The first bag of the request of an index.
+/// Returns the first bag of the request with an index.
 fn first_bag(index: u32) -> DateFields<'static>
     requires { index ≤ 100000 }
     ensures { bag_of result ≡ (generated_request index).from }
@@ -99,7 +99,7 @@ fn first_bag(index: u32) -> DateFields<'static>
     bag(extended_year, (index % 14) as u8, (7 * index % 32) as u8)
 }
 
-/// The second bag of the request of an index.
+/// Returns the second bag of the request with an index.
 fn second_bag(index: u32) -> DateFields<'static>
     requires { index ≤ 100000 }
     ensures { bag_of result ≡ (generated_request index).to }
@@ -112,9 +112,8 @@ fn second_bag(index: u32) -> DateFields<'static>
     )
 }
 
-/// The request of an index, counted from 0 and at most 100000: a calendar and another one in turn, a unit in turn,
-/// both options of overflow, and two dates by extended years from -2000 to 2000, ordinal months from 0 to 13 and days
-/// from 0 to 31.
+/// Returns the generated request with an index, 0 to 100000. The calendars, the unit and the overflow option follow fixed
+/// orders. The two dates have extended years from -2000 to 2000, ordinal months from 0 to 13 and days from 0 to 31.
 pub fn generated_request(index: u32) -> Request<'static>
     requires { index ≤ 100000 }
     ensures { request_said result ≡ generated_request index }

@@ -1,4 +1,4 @@
-//! Sums over the answers to requests.
+//! Counts and sums over the answers to requests.
 ghost use Rattle.std.specs.Prelude.{◌≡◌, ◌+◌, ◌<◌, ◌≤◌, ◌++◌};
 ghost use Rattle.arrayvec.specs.ArrayVec.{array_vec_len};
 ghost use Rattle.cal_days.specs.Day.{IsValidDay};
@@ -13,15 +13,14 @@ use cal_tables::Tables;
 use reply_texts::{DayParts, Pending, SpanParts, push_all, push_number, push_signed};
 use request_lines::Request;
 
-/// How many requests have an answer and how many are refused; the sum of the day numbers of all dates; and the sums
-/// of the parts of all durations, without their signs.
+/// Counts and sums over the answers to requests. The sums over durations ignore their signs.
 #[derive(Clone, Copy, Debug, PartialEq, Eq)]
 pub struct Totals {
-    /// The requests that have an answer.
+    /// The number of requests answered `ok`.
     pub answered: u32,
-    /// The requests that are refused.
+    /// The number of requests answered `err`.
     pub refused: u32,
-    /// The sum of the day numbers of both dates of each answer.
+    /// The sum of the day numbers (rata die) of both dates of each answer.
     pub day_numbers: i64,
     /// The sum of the durations' years.
     pub years: u64,
@@ -34,7 +33,7 @@ pub struct Totals {
 }
 
 impl Totals {
-    /// Before the first request.
+    /// Creates the totals over no requests.
     pub fn new() -> Totals
         ensures { result ≡ no_totals }
     {
@@ -50,7 +49,7 @@ impl Totals {
     }
 }
 
-/// The day number of a date.
+/// Returns the day number of a date.
 fn day_number_of(parts: &DayParts) -> i64
     requires { IsDay parts.now }
     ensures value { result ≡ parts.now.rata_die }
@@ -59,7 +58,7 @@ fn day_number_of(parts: &DayParts) -> i64
     parts.rata_die.to_i64_date()
 }
 
-/// A sum with one more part of a duration.
+/// Adds a part of a duration to a sum.
 fn added(sum: u64, part: u32) -> u64
     requires { sum ≤ 429496729500000 }
     ensures value { result ≡ sum + part }
@@ -68,7 +67,7 @@ fn added(sum: u64, part: u32) -> u64
     sum + u64::from(part)
 }
 
-/// The totals with one more answer.
+/// Adds an answer to the totals.
 fn with_span(totals: Totals, parts: &SpanParts) -> Totals
     requires few { counted totals < 100000 }
     requires bounded { AreBounded totals }
@@ -90,7 +89,7 @@ fn with_span(totals: Totals, parts: &SpanParts) -> Totals
     }
 }
 
-/// The totals with one more refusal.
+/// Adds a refused request to the totals.
 fn with_refusal(totals: Totals) -> Totals
     requires few { counted totals < 100000 }
     requires bounded { AreBounded totals }
@@ -104,7 +103,7 @@ fn with_refusal(totals: Totals) -> Totals
     }
 }
 
-/// The totals with one more request, in calendars without rows of tables.
+/// Adds the answer to a request to the totals. Its calendars have no rows of tables.
 fn with_request(totals: Totals, request: &Request) -> Totals
     requires few { counted totals < 100000 }
     requires bounded { AreBounded totals }
@@ -129,7 +128,7 @@ fn with_request(totals: Totals, request: &Request) -> Totals
     }
 }
 
-/// The totals over the first so many requests that a number asks for.
+/// Returns the totals over the first `count` generated requests.
 pub fn totals_over(count: u32) -> Totals
     requires { count ≤ 100000 }
     ensures { AreTotals count result }
@@ -143,7 +142,7 @@ pub fn totals_over(count: u32) -> Totals
     totals
 }
 
-/// Appends the line of so many requests and their totals.
+/// Appends the line of `gen`: the number of requests and their totals.
 pub fn push_totals(text: &mut Pending, count: u32, totals: &Totals)
     requires { array_vec_len text.old + 200 ≤ 8192 }
     ensures { text.new.items ≡ text.old.items ++ totals_text count totals.now }
@@ -160,7 +159,7 @@ pub fn push_totals(text: &mut Pending, count: u32, totals: &Totals)
     text.push(b'\n');
 }
 
-/// The sums of the durations' parts.
+/// Appends the sums of the durations' parts.
 fn push_parts(text: &mut Pending, totals: &Totals)
     requires { array_vec_len text.old + 91 ≤ 8192 }
     ensures items { let t = totals.now in

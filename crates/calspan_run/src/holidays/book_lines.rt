@@ -11,8 +11,8 @@ use cal_base::Iso;
 use cal_holidays::{Book, Holiday};
 use reply_texts::{DayParts, Pending, push_all, push_date, show_in};
 
-/// Appends the name of a rule, by its number in a book, which takes at most 64 bytes. A number that the book hasn't has no
-/// name.
+/// Appends the name of a rule by its number in a book, which takes at most 64 bytes. Nothing is appended if the book has no
+/// rule of that number.
 fn push_name(text: &mut Pending, book: &Book, rule: usize)
     requires room { array_vec_len text.old + 64 ≤ 8192 }
     ensures items { text.new.items ≡ text.old.items ++ name_of (named_rules book.now) rule }
@@ -24,7 +24,7 @@ fn push_name(text: &mut Pending, book: &Book, rule: usize)
     push_all(text, book.name(rule));
 }
 
-/// The line of each holiday: the date of its day in the ISO calendar, and its name in the book.
+/// Writes a holiday as a line: the date in the ISO calendar, and the holiday's name.
 #[derive(Clone, Copy)]
 pub(crate) struct BookLines<'b> {
     /// The book.

@@ -6,18 +6,18 @@ ghost use Rattle.calspan_run.specs.CommandWordsLeft.{words_left};
 
 use crate::command_words::{CommandWords, next_int};
 
-/// What the words of `holidays` ask for: `FIRST LAST`.
+/// The arguments of `holidays`: `FIRST LAST`.
 #[derive(Clone, Copy, Debug)]
 pub struct HolidayWords {
-    /// The day number of the first day that may be listed.
+    /// The first day of the list, as a day number (rata die).
     pub first: i32,
-    /// And that of the last one.
+    /// The last day of the list, as a day number.
     pub last: i32,
 }
 
 ghost use Rattle.calspan_run.specs.CommandSaid.{holidays_said};
 
-/// What the next words ask for. None where they aren't of the form.
+/// Reads the arguments of `holidays`. `None` if the next words aren't of their form.
 #[tactic(auto, unfolding(crate::specs::Asked::holidays_read))]
 pub(crate) fn read_holidays(words: &mut CommandWords) -> Option<HolidayWords>
     ensures { let reading = holidays_read (words_left words.old) in

@@ -20,7 +20,7 @@ use cal_tables::Tables;
 use cal_types::{DateFromFieldsOptions, Window};
 use reply_texts::{Pending, push_cause, push_number};
 
-/// The lines of occurrences.
+/// Writes an occurrence as a line.
 #[derive(Clone, Copy)]
 struct OccurrenceLines<'t, C> {
     form: DayForm<'t, C>,
@@ -41,7 +41,7 @@ impl<'t, C: Calendar> ItemLines for OccurrenceLines<'t, C> {
     }
 }
 
-/// The occurrences of a rule in a window.
+/// The arguments of `recur` with their rule and window.
 #[derive(Drop)]
 struct InWindow<'a> {
     words: RecurWords<'a>,

@@ -13,29 +13,29 @@ use cal_types::{DateDurationUnit, DateFields};
 use request_lines::read_field;
 use word_values::read_number;
 
-/// What the words of `recur` ask for before the fields of its start: `CAL SHOWN UNIT EVERY skip|constrain FIRST LAST`.
+/// The arguments of `recur` before the fields of its start: `CAL SHOWN UNIT EVERY skip|constrain FIRST LAST`.
 #[derive(Clone, Copy, Debug)]
 pub struct RecurHeader {
-    /// The calendar of the start, in which is counted.
+    /// The calendar of the start, in which units are counted.
     pub calendar: AnyCalendarKind,
-    /// The calendar that each day is shown in beside it.
+    /// The second calendar, in which each day is shown too.
     pub shown: AnyCalendarKind,
     /// The unit that is counted.
     pub unit: DateDurationUnit,
-    /// How many of it lie between two occurrences, or 0, which is refused.
+    /// The number of units between two occurrences. 0 is invalid.
     pub every: u32,
-    /// What becomes of an occurrence whose year or month lacks it.
+    /// How to handle an occurrence that doesn't exist in its year or month.
     pub missing: Missing,
-    /// The day number of the first day that may be listed.
+    /// The first day of the list, as a day number (rata die).
     pub first: i32,
-    /// And that of the last one.
+    /// The last day of the list, as a day number.
     pub last: i32,
 }
 
-/// What the words of `recur` ask for.
+/// The arguments of `recur`.
 #[derive(Clone, Copy, Debug)]
 pub struct RecurWords<'a> {
-    /// What stands before the fields.
+    /// The arguments before the fields.
     pub header: RecurHeader,
     /// The fields of the start.
     pub fields: DateFields<'a>,
@@ -43,7 +43,7 @@ pub struct RecurWords<'a> {
 
 ghost use Rattle.calspan_run.specs.CommandSaid.{header_said};
 
-/// The unit that the next word names.
+/// Returns the unit that the next word names.
 fn next_unit(words: &mut CommandWords) -> Option<DateDurationUnit>
     ensures { IsReading (next_word unit_named (words_left words.old)) result (words_left words.new) }
 {
@@ -64,14 +64,14 @@ fn next_unit(words: &mut CommandWords) -> Option<DateDurationUnit>
     }
 }
 
-/// The number that the next word spells by one to nine digits.
+/// Returns the number of the next word, one to nine digits.
 fn next_every(words: &mut CommandWords) -> Option<u32>
     ensures { IsReading (next_word every_of (words_left words.old)) result (words_left words.new) }
 {
     read_number(words.next()?, 9)
 }
 
-/// What becomes of what is lacking, as the next word says it.
+/// Reads how to handle an occurrence that doesn't exist.
 fn next_missing(words: &mut CommandWords) -> Option<Missing>
     ensures { IsReading (next_word missing_named (words_left words.old)) result (words_left words.new) }
 {
@@ -86,7 +86,7 @@ fn next_missing(words: &mut CommandWords) -> Option<Missing>
     }
 }
 
-/// What the next words ask for before the fields. None where they aren't of the form.
+/// Reads the arguments before the fields. `None` if the next words aren't of their form.
 #[tactic(auto, unfolding(crate::specs::Asked::recur_header_read))]
 fn read_header(words: &mut CommandWords) -> Option<RecurHeader>
     ensures { let reading = recur_header_read (words_left words.old) in
@@ -110,8 +110,8 @@ fn read_header(words: &mut CommandWords) -> Option<RecurHeader>
     })
 }
 
-/// Sets the fields that all words that are left name. None where one of them isn't `KEY=VALUE` of a known key and a
-/// value of it, or a key is set twice.
+/// Sets the fields of all remaining words. `None` if one of them isn't `KEY=VALUE` with a known key and a valid value, or a
+/// key comes twice.
 fn read_fields<'a>(fields: &mut DateFields<'a>, mut words: CommandWords<'a>) -> Option<()>
     ensures { option_map (λ _. bag_of fields.new) result
         ≡ fields_of (Some (bag_of fields.old)) (words_left words.entry) }
@@ -125,7 +125,7 @@ fn read_fields<'a>(fields: &mut DateFields<'a>, mut words: CommandWords<'a>) -> 
 ghost use Rattle.calspan_run.specs.CommandSaid.{recur_said};
 ghost use Rattle.calspan_run.specs.Asked.{recur_of};
 
-/// What all words that are left ask for. None where they aren't of the form.
+/// Reads the arguments of `recur`, which are all remaining words. `None` if they aren't of their form.
 #[tactic(auto, unfolding(crate::specs::Asked::recur_of))]
 pub(crate) fn read_recur<'a>(mut words: CommandWords<'a>) -> Option<RecurWords<'a>>
     ensures { option_map recur_said result ≡ recur_of (words_left words.entry) }

@@ -1,4 +1,4 @@
-//! The answer to a line behind the rows of tables.
+//! The answer to a line after the rows of tables.
 ghost use Rattle.std.specs.Prelude.{◌≡◌, ◌+◌, ◌≤◌, ◌++◌, ℕ, List, false, length};
 ghost use Rattle.arrayvec.specs.ArrayVec.{array_vec_len};
 ghost use Rattle.byte_io.specs.Buffer.{Holds};
@@ -19,19 +19,19 @@ use reply_texts::{Pending, push_about};
 use request_lines::{Line, RequestLine, is_silent, read_line};
 use table_rows::RowFault;
 
-/// Where a run stands behind the rows of tables, and the request lines that it has answered.
+/// The state of a run after some request lines.
 #[derive(Clone, Copy, Debug, PartialEq, Eq)]
 pub struct Progress {
     /// Whether a request was answered `err`.
     pub refused: bool,
 }
 
-/// What a line did to a run.
+/// The effect of a line on a run.
 #[derive(Clone, Copy, Debug, PartialEq, Eq)]
 pub enum Answered {
     /// The run goes on.
     GoesOn(Progress),
-    /// A row line ended it.
+    /// A row line ended the run.
     Stopped,
 }
 
@@ -39,14 +39,14 @@ ghost use Rattle.calspan_run.specs.Progress.{replied, standing_of, answered_stat
 ghost use Rattle.calspan_run.specs.Refusals.{status_of};
 
 impl Progress {
-    /// Before the first request line.
+    /// Creates the state before the first request line.
     pub fn new() -> Self
         ensures { result.refused ≡ false }
     {
         Progress { refused: false }
     }
 
-    /// How the run ends where the input ends here.
+    /// Returns the status of the run if the input ends here.
     pub fn status(self) -> Status
         ensures { result ≡ status_of self.refused }
     {
@@ -57,7 +57,7 @@ impl Progress {
         }
     }
 
-    /// Behind one more request, answered by a refusal or not.
+    /// Returns the state after one more request, answered `err` or not.
     fn replied(self, refused: bool) -> Progress
         ensures { result ≡ replied self refused }
     {
@@ -66,7 +66,7 @@ impl Progress {
 }
 
 impl Answered {
-    /// How the run ends where the input ends here.
+    /// Returns the status of the run if the input ends here.
     pub fn status(self) -> Status
         ensures { result ≡ answered_status self }
     {
@@ -77,7 +77,7 @@ impl Answered {
     }
 }
 
-/// Appends the line that refuses the request line of this number.
+/// Appends the `err` line for a malformed or long line.
 fn refuse(pending: &mut Pending, number: u64, why: &[u8])
     requires { array_vec_len pending.old + length why.now + 40 ≤ 8192 }
     ensures { pending.new.items ≡ pending.old.items ++ refusal number why.now }
@@ -85,7 +85,7 @@ fn refuse(pending: &mut Pending, number: u64, why: &[u8])
     push_about(pending, b"err line ", number, why);
 }
 
-/// Answers a request line, whose bags were read, and whether that is a refusal.
+/// Answers a request line whose bags were read. Returns whether the answer is `err`.
 fn answer_request(
     pending: &mut Pending,
     number: u64,
@@ -112,7 +112,7 @@ fn answer_request(
     }
 }
 
-/// Answers a line that isn't silent. What a request needs is set up at the call, which a silent line is spared.
+/// Answers a line that isn't ignored. Kept out of line so that ignored lines don't pay for its stack frame.
 #[inline(never)]
 fn answer_line(
     pending: &mut Pending,
@@ -141,8 +141,8 @@ fn answer_line(
     }
 }
 
-/// Appends the answer to the line of this number, counted from 1, to those that are pending. A row line ends the run,
-/// since rows come before the first request line.
+/// Appends the answer to a line to the pending text. `number` is the number of the line, counted from 1. A row line ends the
+/// run, since rows come before the first request line.
 pub fn answer(
     pending: &mut Pending,
     progress: Progress,

@@ -18,7 +18,7 @@ use cal_types::DateFields;
 use reply_texts::{DayParts, Pending, SpanParts, push_all, push_day, push_duration, push_error};
 use request_lines::Header;
 
-/// Both dates, the same days in the second calendar, and the difference.
+/// Appends both dates, the same days in the second calendar, and the difference.
 fn push_span(text: &mut Pending, parts: &SpanParts, shown: AnyCalendarKind, tables: &Tables<'_>)
     requires room { array_vec_len text.old + 470 ≤ 8192 }
     requires from { IsDay parts.now.from }
@@ -42,7 +42,7 @@ fn push_span(text: &mut Pending, parts: &SpanParts, shown: AnyCalendarKind, tabl
     text.push(b'\n');
 }
 
-/// Appends the reply to a request for two bags, over the tables of the input, and answers whether it is a refusal.
+/// Appends the reply to a request for two bags of fields, over the tables of the input. Returns whether it is `err`.
 pub fn reply(
     text: &mut Pending,
     header: &Header,

@@ -1,4 +1,4 @@
-//! Answers lines behind the row lines.
+//! A run of `span`.
 ghost use Rattle.std.specs.Prelude.{◌≡◌, ◌+◌, ◌≤◌, ℕ, List, Option, length};
 ghost use Rattle.byte_io.specs.Faults.{HasCause};
 ghost use Rattle.cal_tables.specs.Kinds.{table_contents};
@@ -27,8 +27,11 @@ use reply_texts::Pending;
 use std::alloc::Global;
 use table_rows::{Gathered, TableRows, gather};
 
-/// Answers the line of this number. The answer is pending then, and what was pending is written first where there might
-/// be no room for it.
+/// Appends the answer to a line to the pending text, which is written first if there might be no room for the answer.
+///
+/// # Errors
+///
+/// - [`Failed`] if the sink counted a fault. A prefix of the text before the answer is written.
 pub fn respond<K: Sink>(
     progress: Progress,
     number: u64,
@@ -47,7 +50,7 @@ pub fn respond<K: Sink>(
     Ok(answer(pending, progress, number, line, tables))
 }
 
-/// Writes all that is pending, behind the last line.
+/// Writes the pending text after the last line.
 fn conclude<K: Sink>(answered: Answered, pending: &mut Pending, sink: &mut K) -> Status
     ensures { (before : Option (List ℕ)) (text : List ℕ) → TextSoFar before (K.taken sink.old) pending.old.items text
         → EndsWith result (answered_status answered) before (K.taken sink.new) (K.faults sink.old) (K.faults sink.new)
@@ -59,7 +62,7 @@ fn conclude<K: Sink>(answered: Answered, pending: &mut Pending, sink: &mut K) ->
     }
 }
 
-/// Answers the lines that are still to come. What is pending is written before each read.
+/// Answers the remaining lines. The pending text is written before each read.
 fn serve_from<S: Source, K: Sink>(
     start: Progress,
     tables: &Tables<'_>,
@@ -106,7 +109,7 @@ fn serve_from<S: Source, K: Sink>(
     }
 }
 
-/// The end of the input, behind this many lines: a last line without an LF is answered too.
+/// Ends the run after this many lines. A last line without an LF is answered too.
 fn finish<K: Sink>(
     progress: Progress,
     tables: &Tables<'_>,
@@ -132,7 +135,7 @@ fn finish<K: Sink>(
     }
 }
 
-/// The first request line, which the buffer holds, and the lines behind it. The tables are tested first.
+/// Tests the tables, then answers the first request line, which the buffer holds, and the lines after it.
 fn serve_requests<S: Source, K: Sink>(
     rows: &TableRows,
     reader: &mut Reader,
@@ -161,7 +164,7 @@ fn serve_requests<S: Source, K: Sink>(
     }
 }
 
-/// The only request line, which the buffer holds, behind this many lines. The tables are tested first.
+/// Tests the tables, then answers the only request line, which the buffer holds, after this many lines.
 fn serve_last<K: Sink>(rows: &TableRows, lines: u64, line: &LineBuffer, sink: &mut K) -> Status
     requires { lines ≤ 16777216 }
     ensures { (before left : Option (List ℕ)) (faults reads : ℕ) (reader : Reader) → lines ≡ lines_given reader
@@ -187,7 +190,7 @@ fn serve_last<K: Sink>(rows: &TableRows, lines: u64, line: &LineBuffer, sink: &m
     }
 }
 
-/// The end of an input without a request line: the tables are tested.
+/// Tests the tables at the end of an input without a request line.
 fn serve_none<K: Sink>(rows: &TableRows, sink: &mut K) -> Status
     ensures { (before left : Option (List ℕ)) (faults reads : ℕ) → MetEnd before left (rows_said rows.now)
         → Serves span_rules result (outside before (K.taken sink.old) faults (K.faults sink.old))
@@ -199,7 +202,7 @@ fn serve_none<K: Sink>(rows: &TableRows, sink: &mut K) -> Status
     }
 }
 
-/// Answers all lines.
+/// Runs `span`: reads row lines, then request lines, and writes a line for each.
 pub fn serve_span<S: Source, K: Sink>(alloc: Global, source: &mut S, sink: &mut K) -> Status
     ensures { Serves span_rules result
         (outside (S.left source.old) (K.taken sink.old) (S.faults source.old) (K.faults sink.old))

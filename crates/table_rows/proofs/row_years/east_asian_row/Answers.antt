@@ -3,5 +3,5 @@ use Rattle.request_lines.specs.RowSaid.{year_row_said}
 use Rattle.table_rows.specs.RowYears.{IsEastAsianYear}
 use Rattle.table_rows.proofs.row_years.east_asian_row.Goals as goal
 
-pub returns-in-Some : goal.returns-in-Some
-returns-in-Some c = subst (IsEastAsianYear (year_row_said c.args.row.now)) (sym c.row.ensures) c.in-Some.ensures
+pub returns-in-Some-clause-year : goal.returns-in-Some-clause-year
+returns-in-Some-clause-year c = subst (IsEastAsianYear (year_row_said c.args.row.now)) (sym c.row.ensures.year) c.in-Some.ensures

@@ -1,10 +1,11 @@
-use Rattle.std.proofs.Common.{ℕ, ◌+◌, true, cond, List, Some, Ok, Err, arith, ap, sym, subst}
+use Rattle.std.proofs.Common.{ℕ, ◌+◌, ◌≤◌, true, cond, length, List, Some, Ok, Err, arith, ap, sym, subst}
 use Rattle.std.proofs.KnownBytes.{Consumes-nil}
 use Rattle.byte_io.specs.Plain.{plain_rest}
 use Rattle.byte_io.specs.Lines.{lines_in, open_line}
+use Rattle.byte_io.specs.Reader.{limit}
 use Rattle.table_rows.specs.Gathering.{Stops}
-use Rattle.table_rows.specs.Reading.{IsTextRead}
-use Rattle.table_rows.specs.RowLines.{AreRows, RowComesFirst}
+use Rattle.table_rows.specs.Reading.{IsTextRead, lines_read}
+use Rattle.table_rows.specs.RowLines.{AreRows, RowTakesMemory}
 use Rattle.table_rows.specs.RowsSaid.{rows_said}
 use Rattle.table_rows.specs.declared.errors.RowsError.{RowsError}
 use Rattle.table_rows.specs.declared.errors.RowsError.TheVariants as text
@@ -19,7 +20,7 @@ returns-in-End-clause-reads c =
     let start = gathering_begins (Some given) _ _ _ c.new-reader.ensures.at c.new-line.ensures c.new-reader.ensures.lines (Consumes-nil (Some given)) c.new-rows.ensures in
     let met = c.in-End.ensures.gathers (Some given) 0 (omega arith) start in
     let kept = rows_said c.gather.new.rows in
-    subst (λ (b : List ℕ). AreRows (lines_in b true) kept) c.new-source.ensures (text_rows given (plain_rest c.gather.new.source) kept met)
+    subst (λ (b : List ℕ). AreRows (lines_in b true) kept × (length b ≤ limit)) c.new-source.ensures (text_rows given (plain_rest c.gather.new.source) kept met)
 
 pub returns-in-End-clause-exact : goal.returns-in-End-clause-exact
 returns-in-End-clause-exact c = read_exact (Ok c.gather.new.rows) c.args.text.now (returns-in-End-clause-reads c)
@@ -70,7 +71,7 @@ returns-in-Stopped-NoMemory-clause-reads c =
     let start = gathering_begins (Some given) _ _ _ c.new-reader.ensures.at c.new-line.ensures c.new-reader.ensures.lines (Consumes-nil (Some given)) c.new-rows.ensures in
     let met = c.in-Stopped-NoMemory.ensures.gathers (Some given) 0 (omega arith) start in
     let stops = subst (λ (s : Stop). Stops s (Some given) (Some rest) 0 0) c.in-Stopped-NoMemory.field-0-is met in
-    subst (λ (b : List ℕ). RowComesFirst (lines_in b true)) c.new-source.ensures (text_lacks given rest 0 0 stops)
+    subst (λ (b : List ℕ). RowTakesMemory (lines_read b)) c.new-source.ensures (text_lacks given rest 0 0 stops)
 
 pub returns-in-Stopped-TooLong-clause-reads : goal.returns-in-Stopped-TooLong-clause-reads
 returns-in-Stopped-TooLong-clause-reads c =
