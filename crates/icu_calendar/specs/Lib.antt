@@ -98,6 +98,8 @@ pub use Rattle.cal_hijri.specs.TabularYears
 pub use Rattle.cal_hijri.specs.TypeIYears
 pub use Rattle.cal_hijri.specs.TableRules
 pub use Rattle.cal_hijri.specs.TableAccepted
+pub use Rattle.cal_hijri.specs.RowsAccepted as HijriRowsAccepted
+pub use Rattle.cal_east_asian.specs.RowsAccepted as EastAsianRowsAccepted
 pub use Rattle.cal_hijri.specs.LengthenedTables as HijriLengthening
 pub use Rattle.cal_east_asian.specs.EastAsianList
 pub use Rattle.cal_east_asian.specs.EastAsianPlaces
@@ -114,6 +116,7 @@ pub use Rattle.cal_east_asian.specs.ComputedYears
 pub use Rattle.cal_east_asian.specs.TableYears
 pub use Rattle.cal_east_asian.specs.LengthenedTables as EastAsianLengthening
 pub use Rattle.cal_anniversary.specs.Asking
+pub use Rattle.cal_anniversary.specs.FallingOn
 pub use Rattle.cal_anniversary.specs.Listing
 pub use Rattle.cal_any.specs.AnySystem
 pub use Rattle.cal_any.specs.AnyOrder

@@ -1,4 +1,5 @@
-//! Anniversaries in a calendar of a type of its own, as [`Iso`](crate::Iso).
-//! [`anniversaries`](crate::anniversaries()) is the same in a calendar that is chosen at run time.
+//! Anniversaries in a calendar with a type of its own, such as [`Iso`](crate::Iso).
+//!
+//! [`anniversaries`](crate::anniversaries()) does the same for a calendar chosen at run time.
 
 pub use cal_anniversary::{Anniversaries, anniversaries};

@@ -1,5 +1,5 @@
-//! Dates of one calendar, of its own fields: a year from -9999 to 9999, a month and a day. None of them is changed to
-//! fit.
+//! Constructors for single calendars: a year from -9999 to 9999, a month and a day. Values out of range are rejected,
+//! never adjusted.
 
 ghost use Rattle.std.specs.Prelude.{◌≡◌, IfOk};
 ghost use Rattle.cal_types.specs.MonthParts.{month_parts};
@@ -44,10 +44,14 @@ use cal_julian::{Indian, Julian, Persian};
 use cal_types::{DateError, LunisolarDateError, Month, RangeError};
 
 impl Date<Iso> {
-    /// The ISO date of a year, a month and a day: 1992, 9, 2 is day 727443.
+    /// Creates an ISO date from a year, a month and a day: 1992, 9, 2 is day number 727443.
     ///
-    /// The first that is out of its range is refused: `"year"` from -9999 to 9999, `"month"` from 1 to 12, `"day"`
-    /// from 1 to the month's length.
+    /// # Errors
+    ///
+    /// - [`RangeError`] for the first field out of range: `"year"` from -9999 to 9999, `"month"` from 1 to 12, `"day"`
+    ///   from 1 to the month's length.
+    ///
+    /// # Examples
     ///
     /// ```
     /// let date = Date::try_new_iso(1992, 9, 2)?;
@@ -61,10 +65,15 @@ impl Date<Iso> {
 }
 
 impl Date<Gregorian> {
-    /// The Gregorian date of an extended year, a month and a day: 2024, 3, 1 is day 738946, and the year 0 is 1 BCE.
+    /// Creates a Gregorian date from an extended year, a month and a day: 2024, 3, 1 is day number 738946. The year 0
+    /// is 1 BCE.
     ///
-    /// The first that is out of its range is refused: `"year"` from -9999 to 9999, `"month"` from 1 to 12, `"day"`
-    /// from 1 to the month's length.
+    /// # Errors
+    ///
+    /// - [`RangeError`] for the first field out of range: `"year"` from -9999 to 9999, `"month"` from 1 to 12, `"day"`
+    ///   from 1 to the month's length.
+    ///
+    /// # Examples
     ///
     /// ```
     /// let date = Date::try_new_gregorian(2024, 3, 1)?;
@@ -80,10 +89,14 @@ impl Date<Gregorian> {
 }
 
 impl Date<Buddhist> {
-    /// The date of a Buddhist year, a month and a day: 2535, 9, 2 is the ISO date 1992-09-02.
+    /// Creates a Buddhist date from a year, a month and a day: 2535, 9, 2 is the ISO date 1992-09-02.
     ///
-    /// The first that is out of its range is refused: `"year"` from -9999 to 9999, `"month"` from 1 to 12, `"day"`
-    /// from 1 to the month's length.
+    /// # Errors
+    ///
+    /// - [`RangeError`] for the first field out of range: `"year"` from -9999 to 9999, `"month"` from 1 to 12, `"day"`
+    ///   from 1 to the month's length.
+    ///
+    /// # Examples
     ///
     /// ```
     /// let date = Date::try_new_buddhist(2567, 3, 1)?;
@@ -98,10 +111,15 @@ impl Date<Buddhist> {
 }
 
 impl Date<Roc> {
-    /// The date of a year of the Republic of China (Minguo), a month and a day: 81, 9, 2 is the ISO date 1992-09-02.
+    /// Creates a date from a year of the Republic of China (Minguo), a month and a day: 81, 9, 2 is the ISO date
+    /// 1992-09-02.
     ///
-    /// The first that is out of its range is refused: `"year"` from -9999 to 9999, `"month"` from 1 to 12, `"day"`
-    /// from 1 to the month's length.
+    /// # Errors
+    ///
+    /// - [`RangeError`] for the first field out of range: `"year"` from -9999 to 9999, `"month"` from 1 to 12, `"day"`
+    ///   from 1 to the month's length.
+    ///
+    /// # Examples
     ///
     /// ```
     /// let date = Date::try_new_roc(113, 3, 1)?;
@@ -115,10 +133,14 @@ impl Date<Roc> {
 }
 
 impl Date<Julian> {
-    /// The Julian date of an extended year, a month and a day: 2021, 12, 19 is the ISO date 2022-01-01.
+    /// Creates a Julian date from an extended year, a month and a day: 2021, 12, 19 is the ISO date 2022-01-01.
     ///
-    /// The first that is out of its range is refused: `"year"` from -9999 to 9999, `"month"` from 1 to 12, `"day"`
-    /// from 1 to the month's length.
+    /// # Errors
+    ///
+    /// - [`RangeError`] for the first field out of range: `"year"` from -9999 to 9999, `"month"` from 1 to 12, `"day"`
+    ///   from 1 to the month's length.
+    ///
+    /// # Examples
     ///
     /// ```
     /// let date = Date::try_new_julian(2021, 12, 19)?;
@@ -132,10 +154,14 @@ impl Date<Julian> {
 }
 
 impl Date<Coptic> {
-    /// The Coptic date of a year, a month and a day: 1687, 13, 6 is the ISO date 1971-09-11.
+    /// Creates a Coptic date from a year, a month and a day: 1687, 13, 6 is the ISO date 1971-09-11.
     ///
-    /// The first that is out of its range is refused: `"year"` from -9999 to 9999, `"month"` from 1 to 13, `"day"`
-    /// from 1 to the month's length.
+    /// # Errors
+    ///
+    /// - [`RangeError`] for the first field out of range: `"year"` from -9999 to 9999, `"month"` from 1 to 13, `"day"`
+    ///   from 1 to the month's length.
+    ///
+    /// # Examples
     ///
     /// ```
     /// let date = Date::try_new_coptic(1740, 6, 22)?;
@@ -149,10 +175,14 @@ impl Date<Coptic> {
 }
 
 impl Date<Indian> {
-    /// The date of a Saka year, a month and a day of the Indian calendar: 1914, 6, 11 is the ISO date 1992-09-02.
+    /// Creates an Indian date from a Saka year, a month and a day: 1914, 6, 11 is the ISO date 1992-09-02.
     ///
-    /// The first that is out of its range is refused: `"year"` from -9999 to 9999, `"month"` from 1 to 12, `"day"`
-    /// from 1 to the month's length.
+    /// # Errors
+    ///
+    /// - [`RangeError`] for the first field out of range: `"year"` from -9999 to 9999, `"month"` from 1 to 12, `"day"`
+    ///   from 1 to the month's length.
+    ///
+    /// # Examples
     ///
     /// ```
     /// let date = Date::try_new_indian(1945, 12, 11)?;
@@ -166,10 +196,14 @@ impl Date<Indian> {
 }
 
 impl<'t> Date<Persian<'t>> {
-    /// The date of a year, a month and a day of a Persian calendar: without corrections, 1502, 12, 30 is day 775489.
+    /// Creates a Persian date from a year, a month and a day: without corrections, 1502, 12, 30 is day number 775489.
     ///
-    /// The first that is out of its range is refused: `"year"` from -9999 to 9999, `"month"` from 1 to 12, `"day"`
-    /// from 1 to the month's length.
+    /// # Errors
+    ///
+    /// - [`RangeError`] for the first field out of range: `"year"` from -9999 to 9999, `"month"` from 1 to 12, `"day"`
+    ///   from 1 to the month's length.
+    ///
+    /// # Examples
     ///
     /// ```
     /// let persian = Persian::new(PersianCorrections::none());
@@ -191,11 +225,15 @@ impl<'t> Date<Persian<'t>> {
 }
 
 impl Date<Ethiopian> {
-    /// The Ethiopian date of a year in the era of the style, a month and a day: 1962, 4, 24 under Amete Mihret, or
-    /// 7462, 4, 24 under Amete Alem, is the ISO date 1970-01-02.
+    /// Creates an Ethiopian date from a year in the style's era, a month and a day: 1962, 4, 24 under Amete Mihret and
+    /// 7462, 4, 24 under Amete Alem are the ISO date 1970-01-02.
     ///
-    /// The first that is out of its range is refused: `"year"` from -9999 to 9999, `"month"` from 1 to 13, `"day"`
-    /// from 1 to the month's length.
+    /// # Errors
+    ///
+    /// - [`RangeError`] for the first field out of range: `"year"` from -9999 to 9999, `"month"` from 1 to 13, `"day"`
+    ///   from 1 to the month's length.
+    ///
+    /// # Examples
     ///
     /// ```
     /// let style = EthiopianEraStyle::AmeteMihret;
@@ -218,11 +256,15 @@ impl Date<Ethiopian> {
 }
 
 impl<A: AsCalendar<Calendar = Hijri<R>>, R: Rules> Date<A> {
-    /// The date of a year, a month and a day of a Hijri calendar: by the tabular rules of type II from Friday on,
+    /// Creates a Hijri date from a year, a month and a day: in the tabular calendar of type II with the Friday epoch,
     /// 1445, 2, 1 is the ISO date 2023-08-18.
     ///
-    /// The first that is out of its range is refused: `"year"` from -9999 to 9999, `"month"` from 1 to 12, `"day"`
-    /// from 1 to the month's length.
+    /// # Errors
+    ///
+    /// - [`RangeError`] for the first field out of range: `"year"` from -9999 to 9999, `"month"` from 1 to 12, `"day"`
+    ///   from 1 to the month's length.
+    ///
+    /// # Examples
     ///
     /// ```
     /// let years = TabularAlgorithmLeapYears::TypeII;
@@ -246,13 +288,19 @@ impl<A: AsCalendar<Calendar = Hijri<R>>, R: Rules> Date<A> {
 }
 
 impl Date<Hebrew> {
-    /// The Hebrew date of a year, a month and a day: 5782, `Month::leap(5)` (Adar I), 9 is the ISO date 2022-02-10.
+    /// Creates a Hebrew date from a year, a month and a day: 5782, `Month::leap(5)` (Adar I), 9 is the ISO date
+    /// 2022-02-10.
     ///
-    /// The refusals, in their order:
-    /// - [`LunisolarDateError::InvalidYear`]: the year isn't from -9999 to 9999;
-    /// - [`LunisolarDateError::MonthNotInCalendar`]: the month is none of the plain ones 1 to 12 and the leap month 5;
-    /// - [`LunisolarDateError::MonthNotInYear`]: the leap month isn't in the year;
-    /// - [`LunisolarDateError::InvalidDay`], with `max`: the day isn't from 1 to the month's length.
+    /// # Errors
+    ///
+    /// The first of these that applies:
+    ///
+    /// - [`LunisolarDateError::InvalidYear`] if the year isn't from -9999 to 9999.
+    /// - [`LunisolarDateError::MonthNotInCalendar`] if the month is neither a plain month 1 to 12 nor leap month 5.
+    /// - [`LunisolarDateError::MonthNotInYear`] if the leap month doesn't occur in the year.
+    /// - [`LunisolarDateError::InvalidDay`] if the day isn't from 1 to the month's length, which is `max`.
+    ///
+    /// # Examples
     ///
     /// ```
     /// let date = Date::try_new_hebrew_v2(5784, Month::leap(5), 21)?;
@@ -271,8 +319,7 @@ impl Date<Hebrew> {
     }
 }
 
-/// The date of a year, a month and a day of the Chinese or the Korean calendar; the year is the ISO year in which it
-/// begins.
+/// Creates a Chinese or Korean date. The constructors of both call it, so that each is a call over the rules.
 fn in_east_asian<R: EastAsianRules>(
     related_iso_year: i32,
     month: Month,
@@ -288,14 +335,19 @@ fn in_east_asian<R: EastAsianRules>(
 }
 
 impl<'t> Date<ChineseTraditional<'t>> {
-    /// The Chinese date of a year, a month and a day; the year is the ISO year in which it begins. 1900,
+    /// Creates a Chinese date from a year, a month and a day; the year is the ISO year in which it begins. 1900,
     /// `Month::leap(8)`, 1 is the ISO date 1900-09-24.
     ///
-    /// The refusals, in their order:
-    /// - [`LunisolarDateError::InvalidYear`]: the year isn't from -9999 to 9999;
-    /// - [`LunisolarDateError::MonthNotInCalendar`]: the month's number isn't from 1 to 12;
-    /// - [`LunisolarDateError::MonthNotInYear`]: it is a leap month that the year lacks;
-    /// - [`LunisolarDateError::InvalidDay`], with `max`: the day isn't from 1 to the month's length.
+    /// # Errors
+    ///
+    /// The first of these that applies:
+    ///
+    /// - [`LunisolarDateError::InvalidYear`] if the year isn't from -9999 to 9999.
+    /// - [`LunisolarDateError::MonthNotInCalendar`] if the month's number isn't from 1 to 12.
+    /// - [`LunisolarDateError::MonthNotInYear`] if it's a leap month that doesn't occur in the year.
+    /// - [`LunisolarDateError::InvalidDay`] if the day isn't from 1 to the month's length, which is `max`.
+    ///
+    /// # Examples
     ///
     /// ```
     /// let chinese = published::chinese();
@@ -319,14 +371,19 @@ impl<'t> Date<ChineseTraditional<'t>> {
 }
 
 impl<'t> Date<KoreanTraditional<'t>> {
-    /// The Korean date of a year, a month and a day; the year is the ISO year in which it begins. 1911,
+    /// Creates a Korean date from a year, a month and a day; the year is the ISO year in which it begins. 1911,
     /// `Month::new(12)`, 30 is the ISO date 1912-02-17.
     ///
-    /// The refusals, in their order:
-    /// - [`LunisolarDateError::InvalidYear`]: the year isn't from -9999 to 9999;
-    /// - [`LunisolarDateError::MonthNotInCalendar`]: the month's number isn't from 1 to 12;
-    /// - [`LunisolarDateError::MonthNotInYear`]: it is a leap month that the year lacks;
-    /// - [`LunisolarDateError::InvalidDay`], with `max`: the day isn't from 1 to the month's length.
+    /// # Errors
+    ///
+    /// The first of these that applies:
+    ///
+    /// - [`LunisolarDateError::InvalidYear`] if the year isn't from -9999 to 9999.
+    /// - [`LunisolarDateError::MonthNotInCalendar`] if the month's number isn't from 1 to 12.
+    /// - [`LunisolarDateError::MonthNotInYear`] if it's a leap month that doesn't occur in the year.
+    /// - [`LunisolarDateError::InvalidDay`] if the day isn't from 1 to the month's length, which is `max`.
+    ///
+    /// # Examples
     ///
     /// ```
     /// let korean = published::korean();
@@ -350,12 +407,19 @@ impl<'t> Date<KoreanTraditional<'t>> {
 }
 
 impl<A: AsCalendar<Calendar = Japanese>> Date<A> {
-    /// The Japanese date of a year of an era, a month and a day: `"heisei"`, 1, 1, 1 is the ISO date 1989-01-01. The
-    /// era need not be the one that the date lies in: that date is printed in the year 64 of Showa.
+    /// Creates a Japanese date from an era, an era year, a month and a day: `"heisei"`, 1, 1, 1 is the ISO date
+    /// 1989-01-01. The date may lie outside the era that it is named by: this one is printed in the year 64 of Showa.
     ///
-    /// The refusals, in their order: [`DateError::Range`] for a `"year"` that isn't from -9999 to 9999,
-    /// [`DateError::UnknownEra`] for an era that the calendar doesn't read, and [`DateError::Range`] for a `"month"`
-    /// that isn't from 1 to 12, then for a `"day"` that isn't from 1 to the month's length.
+    /// # Errors
+    ///
+    /// The first of these that applies:
+    ///
+    /// - [`DateError::Range`] if the `"year"` isn't from -9999 to 9999.
+    /// - [`DateError::UnknownEra`] if the calendar doesn't know the era.
+    /// - [`DateError::Range`] if the `"month"` isn't from 1 to 12.
+    /// - [`DateError::Range`] if the `"day"` isn't from 1 to the month's length.
+    ///
+    /// # Examples
     ///
     /// ```
     /// let date = Date::try_new_japanese_with_calendar("heisei", 1, 1, 1, Japanese::new())?;

@@ -37,11 +37,14 @@ use std::alloc::AllocError;
 use std::fmt;
 use std::sync::ledger::Ledger;
 
-/// A date, and the calendar that it belongs to. Its day number is in the valid range, -365242499 to 365242134
-/// (the years from -999999 to 999999 of the ISO calendar).
+/// A date together with its calendar.
 ///
-/// Conversion to another calendar keeps the day number; dates of one calendar are ordered as their day numbers;
-/// and the difference to a second date, added to the first under [`Overflow::Constrain`], gives the second.
+/// Its day number (rata die) is from -365242499 to 365242134, the years -999999 to 999999 of the ISO calendar.
+/// Conversion to another calendar keeps the day number. Dates of one calendar are ordered by their day numbers. Adding
+/// the difference to a second date, with [`Overflow::Constrain`], returns the second date.
+///
+/// To create one, use a constructor of its calendar ([`Date::try_new_iso`] and others), [`Date::try_new`],
+/// [`Date::try_from_fields`], [`Date::from_rata_die`] or [`Date::to_calendar`].
 pub struct Date<
     A: AsCalendar<Calendar = K>,
     K: Calendar<DateInner = D> = <A as AsCalendar>::Calendar,
@@ -73,15 +76,21 @@ impl<A: AsCalendar> Date<A>
 where
     A::Calendar: Calendar,
 {
-    /// The date of a year, a month and a day in a calendar, or the first fault. None of them is changed to fit.
-    /// The year is an extended year, `2024.into()`, or a year in an era, `YearInput::EraYear("ce", 2024)`.
+    /// Creates a date from a year, a month and a day. Values out of range are rejected, never adjusted.
     ///
-    /// The faults, in their order:
-    /// - [`DateNewError::InvalidYear`]: the year isn't from -9999 to 9999, in its era or without one;
-    /// - [`DateNewError::InvalidEra`]: the era isn't one of the calendar's;
-    /// - [`DateNewError::MonthNotInCalendar`]: no year of the calendar has the month;
-    /// - [`DateNewError::MonthNotInYear`]: this year doesn't have it;
-    /// - [`DateNewError::InvalidDay`], with `max`: the day isn't from 1 to the month's length.
+    /// The year is an extended year, `2024.into()`, or an era year, `YearInput::EraYear("ce", 2024)`.
+    ///
+    /// # Errors
+    ///
+    /// The first of these that applies:
+    ///
+    /// - [`DateNewError::InvalidYear`] if the extended year or era year isn't from -9999 to 9999.
+    /// - [`DateNewError::InvalidEra`] if the calendar doesn't have the era.
+    /// - [`DateNewError::MonthNotInCalendar`] if no year of the calendar has the month.
+    /// - [`DateNewError::MonthNotInYear`] if the month doesn't occur in this year.
+    /// - [`DateNewError::InvalidDay`] if the day isn't from 1 to the month's length, which is `max`.
+    ///
+    /// # Examples
     ///
     /// ```
     /// let date = Date::try_new(5784.into(), Month::leap(5), 21, Hebrew)?;
@@ -103,31 +112,34 @@ where
         Ok(Date { inner, calendar })
     }
 
-    /// The date that a bag of fields names in a calendar, or the first fault (ECMAScript Temporal's
-    /// CalendarResolveFields). The default of the option `overflow` is [`Overflow::Reject`], and that of
-    /// `missing_fields_strategy` [`MissingFieldsStrategy::Reject`](cal_types::MissingFieldsStrategy::Reject).
+    /// Creates a date from fields. The default of the option `overflow` is [`Overflow::Reject`]; the default of
+    /// `missing_fields_strategy` is [`MissingFieldsStrategy::Reject`](cal_types::MissingFieldsStrategy::Reject).
     ///
-    /// The year is named by `extended_year`, or by `era` with `era_year`, each from -1040000 to 1040000; the
-    /// month by `month`, by `month_code` or by `ordinal_month`, and the last also beside one of the others,
-    /// where it has to be its place. In Gregorian, an extended year 2024, month code `M02` and day 30 name no
-    /// date under `Reject` ([`DateFromFieldsError::InvalidDay`] with `max` 29), and 2024-02-29 under
-    /// `Constrain`.
+    /// The year comes from `extended_year`, or from `era` and `era_year`; each number is from -1040000 to 1040000. The
+    /// month comes from `month`, `month_code` or `ordinal_month`; an `ordinal_month` beside one of the others has to
+    /// agree with it. For example, the Gregorian extended year 2024, month code `M02` and day 30 fail with
+    /// [`DateFromFieldsError::InvalidDay`], `max` 29, under `Reject`, and name 2024-02-29 under `Constrain`.
+    /// (ECMAScript Temporal, `CalendarResolveFields`)
     ///
-    /// The faults, in their order:
-    /// - [`DateFromFieldsError::NotEnoughFields`]: no day, or no month (the strategy `Ecma` supplies day 1 where
-    ///   a year is named);
-    /// - [`DateFromFieldsError::TooManyFields`]: both `month` and `month_code`;
-    /// - of the year: [`DateFromFieldsError::NotEnoughFields`] for an era without an era year or the reverse,
-    ///   [`DateFromFieldsError::Overflow`] for a year out of the range above,
-    ///   [`DateFromFieldsError::InvalidEra`], [`DateFromFieldsError::InconsistentYear`] where `extended_year`
-    ///   isn't the era's year, and [`DateFromFieldsError::NotEnoughFields`] for no year (`Ecma` supplies the
-    ///   month's reference year where no ordinal month is given);
-    /// - of the month: [`DateFromFieldsError::MonthCodeInvalidSyntax`],
-    ///   [`DateFromFieldsError::MonthNotInCalendar`], [`DateFromFieldsError::MonthNotInYear`],
-    ///   [`DateFromFieldsError::InconsistentMonth`], and for an ordinal month alone
-    ///   [`DateFromFieldsError::InvalidOrdinalMonth`];
-    /// - [`DateFromFieldsError::InvalidDay`]; and [`DateFromFieldsError::Overflow`] for a date whose day number
-    ///   isn't in the valid range, -365242499 to 365242134.
+    /// # Errors
+    ///
+    /// The first of these that applies:
+    ///
+    /// - [`DateFromFieldsError::NotEnoughFields`] if the day or the month is missing. The strategy `Ecma` supplies day
+    ///   1 if a year is named.
+    /// - [`DateFromFieldsError::TooManyFields`] if both `month` and `month_code` are set.
+    /// - For the year: [`DateFromFieldsError::NotEnoughFields`] for an era without an era year or an era year without
+    ///   an era; [`DateFromFieldsError::Overflow`] for a year outside the range above;
+    ///   [`DateFromFieldsError::InvalidEra`]; [`DateFromFieldsError::InconsistentYear`] if `extended_year` isn't the
+    ///   era's year; [`DateFromFieldsError::NotEnoughFields`] if there is no year. The strategy `Ecma` supplies the
+    ///   month's reference year if no ordinal month is set.
+    /// - For the month: [`DateFromFieldsError::MonthCodeInvalidSyntax`], [`DateFromFieldsError::MonthNotInCalendar`],
+    ///   [`DateFromFieldsError::MonthNotInYear`] and [`DateFromFieldsError::InconsistentMonth`]; for an ordinal month
+    ///   alone [`DateFromFieldsError::InvalidOrdinalMonth`].
+    /// - [`DateFromFieldsError::InvalidDay`] if the day isn't from 1 to the month's length, which is `max`.
+    /// - [`DateFromFieldsError::Overflow`] if the day number isn't from -365242499 to 365242134.
+    ///
+    /// # Examples
     ///
     /// ```
     /// let fields = DateFields::from_year_month_day(2024, Month::new(2), 30);
@@ -152,8 +164,10 @@ where
         Ok(Date { inner, calendar })
     }
 
-    /// The date of an inner date and its calendar. The inner date has to belong to the calendar, which
-    /// [`Calendar::owns`] tests; each inner date in an answer of the calendar does.
+    /// Creates a date from an inner date and its calendar. The inner date has to belong to the calendar, which
+    /// [`Calendar::owns`] tests. Every inner date that the calendar returns belongs to it.
+    ///
+    /// # Examples
     ///
     /// ```
     /// let inner = Iso::new().from_rata_die(RataDie::new(738946));
@@ -168,7 +182,9 @@ where
         Date { inner, calendar }
     }
 
-    /// The date as its calendar keeps it.
+    /// Returns the date as its calendar stores it.
+    ///
+    /// # Examples
     ///
     /// ```
     /// let inner = Iso::new().from_rata_die(RataDie::new(738946));
@@ -181,7 +197,9 @@ where
         &self.inner
     }
 
-    /// What leads to the calendar: the calendar itself, or a pointer to it.
+    /// Returns the calendar or the pointer to it that the date holds.
+    ///
+    /// # Examples
     ///
     /// ```
     /// let date = Date::try_new_iso(2024, 3, 1)?;
@@ -193,7 +211,9 @@ where
         &self.calendar
     }
 
-    /// The same date, with its calendar borrowed.
+    /// Returns the same date with its calendar borrowed.
+    ///
+    /// # Examples
     ///
     /// ```
     /// let date = Date::try_new_iso(2024, 3, 1)?;
@@ -206,7 +226,9 @@ where
         Date::from_raw(self.inner, Ref(&self.calendar))
     }
 
-    /// The date of a day number, which is clamped to the valid range, -365242499 to 365242134.
+    /// Returns the date of a day number (rata die). The day number is clamped to the range -365242499 to 365242134.
+    ///
+    /// # Examples
     ///
     /// ```
     /// let date = Date::from_rata_die(RataDie::new(738946), Iso);
@@ -223,7 +245,9 @@ where
         Date { inner, calendar }
     }
 
-    /// The day number of the date.
+    /// Returns the day number (rata die) of the date, from -365242499 to 365242134.
+    ///
+    /// # Examples
     ///
     /// ```
     /// let date = Date::from_rata_die(RataDie::new(738946), Hebrew);
@@ -236,7 +260,7 @@ where
         self.calendar.as_calendar().to_rata_die(&self.inner)
     }
 
-    /// The day number of the date, which is in the valid range.
+    /// Like `to_rata_die`, with the valid range as a clause for callers.
     fn valid_day(&self) -> RataDie
         ensures day { let c = A.cal_of self.now.calendar in
             result ≡ day_number (A.Calendar.system c).list (A.Calendar.date_of c self.now.inner) }
@@ -245,7 +269,9 @@ where
         self.to_rata_die()
     }
 
-    /// The calendar that the date belongs to.
+    /// Returns the calendar that the date belongs to.
+    ///
+    /// # Examples
     ///
     /// ```
     /// let date = Date::try_new_iso(2024, 3, 1)?;
@@ -257,7 +283,9 @@ where
         self.calendar.as_calendar()
     }
 
-    /// The year, in its era or cycle.
+    /// Returns the year, with its era or its place in a cycle.
+    ///
+    /// # Examples
     ///
     /// ```
     /// let date = Date::from_rata_die(RataDie::new(738946), Buddhist);
@@ -273,7 +301,9 @@ where
             .into_year_info()
     }
 
-    /// Whether the year is a leap year of the calendar.
+    /// Returns `true` if the year is a leap year of the calendar.
+    ///
+    /// # Examples
     ///
     /// ```
     /// let date = Date::from_rata_die(RataDie::new(738946), Gregorian);
@@ -286,7 +316,9 @@ where
         self.calendar.as_calendar().is_in_leap_year(&self.inner)
     }
 
-    /// How many months the year has: 12 or 13.
+    /// Returns the number of months in the year: 12 or 13.
+    ///
+    /// # Examples
     ///
     /// ```
     /// let date = Date::from_rata_die(RataDie::new(738946), Hebrew);
@@ -299,7 +331,9 @@ where
         self.calendar.as_calendar().months_in_year(&self.inner)
     }
 
-    /// How many days the year has.
+    /// Returns the number of days in the year.
+    ///
+    /// # Examples
     ///
     /// ```
     /// let date = Date::from_rata_die(RataDie::new(738946), Gregorian);
@@ -312,7 +346,9 @@ where
         self.calendar.as_calendar().days_in_year(&self.inner)
     }
 
-    /// How many days the month has.
+    /// Returns the number of days in the month.
+    ///
+    /// # Examples
     ///
     /// ```
     /// let date = Date::from_rata_die(RataDie::new(738946), Hebrew);
@@ -326,7 +362,9 @@ where
         self.calendar.as_calendar().days_in_month(&self.inner)
     }
 
-    /// The month: its place in the year, from 1, and its month codes.
+    /// Returns the month: its ordinal number in the year, from 1, and its month codes.
+    ///
+    /// # Examples
     ///
     /// ```
     /// let month = Date::from_rata_die(RataDie::new(738946), Hebrew).month();
@@ -339,7 +377,9 @@ where
         self.calendar.as_calendar().month(&self.inner)
     }
 
-    /// The day of the month, from 1.
+    /// Returns the day of the month, from 1.
+    ///
+    /// # Examples
     ///
     /// ```
     /// let date = Date::from_rata_die(RataDie::new(738946), Hebrew);
@@ -351,7 +391,9 @@ where
         self.calendar.as_calendar().day_of_month(&self.inner)
     }
 
-    /// The day of the year, from 1.
+    /// Returns the day of the year, from 1.
+    ///
+    /// # Examples
     ///
     /// ```
     /// let date = Date::from_rata_die(RataDie::new(738946), Iso);
@@ -365,7 +407,9 @@ where
         self.calendar.as_calendar().day_of_year(&self.inner)
     }
 
-    /// The day of the week: the day number modulo 7, where 0 is a Sunday.
+    /// Returns the day of the week: the day number modulo 7, counted from Sunday.
+    ///
+    /// # Examples
     ///
     /// ```
     /// let date = Date::from_rata_die(RataDie::new(738946), Iso);
@@ -379,7 +423,9 @@ where
         Weekday::from(self.to_rata_die())
     }
 
-    /// The day of an ISO date in a calendar: the date of the same day number there.
+    /// Converts an ISO date to a calendar. The day number stays the same.
+    ///
+    /// # Examples
     ///
     /// ```
     /// let iso = Date::try_new_iso(2024, 3, 1)?;
@@ -396,7 +442,9 @@ where
         Date { inner, calendar }
     }
 
-    /// The same day as an ISO date: the one of the same day number.
+    /// Converts the date to the ISO calendar. The day number stays the same.
+    ///
+    /// # Examples
     ///
     /// ```
     /// let date = Date::try_new_buddhist(2567, 3, 1)?;
@@ -414,7 +462,9 @@ where
         }
     }
 
-    /// The same day in another calendar: the date of the same day number there.
+    /// Converts the date to another calendar. The day number stays the same.
+    ///
+    /// # Examples
     ///
     /// ```
     /// let date = Date::try_new_iso(2024, 3, 1)?;
@@ -434,22 +484,30 @@ where
         Date { inner, calendar }
     }
 
-    /// Adds a duration to the date (ECMAScript Temporal's NonISODateAdd). The default of the option `overflow`
-    /// is [`Overflow::Constrain`]. After a refusal the date is as it was.
+    /// Adds a duration to the date in place. The default of the option `overflow` is [`Overflow::Constrain`]. After an
+    /// error the date is unchanged. (ECMAScript Temporal, `NonISODateAdd`)
     ///
-    /// [`DateAddError::Overflow`] comes for more than 2080000 years, 27040000 months (13 in each of so many
-    /// years), or 838240000 days (31 in each of so many months) with the weeks', and where the years lead past
-    /// the years from -1040000 to 1040000, counted in ISO years in the Gregorian calendars; then
-    /// [`DateAddError::MonthNotInYear`] where the year that they lead to lacks the month, and
-    /// [`DateAddError::InvalidDay`] where the month that the months lead to lacks the day, under
-    /// [`Overflow::Reject`]; and last [`DateAddError::Overflow`] where the sum's day number isn't in the valid
-    /// range.
+    /// # Errors
+    ///
+    /// The first of these that applies:
+    ///
+    /// - [`DateAddError::Overflow`] if the duration has more than 2080000 years, 27040000 months (13 in each of these
+    ///   years) or 838240000 days including its weeks (31 in each of these months), or if its years lead outside the
+    ///   years -1040000 to 1040000. The Gregorian calendars count these years as ISO years.
+    /// - [`DateAddError::MonthNotInYear`] under [`Overflow::Reject`] if the month doesn't occur in the year that the
+    ///   years lead to.
+    /// - [`DateAddError::InvalidDay`] under [`Overflow::Reject`] if the day doesn't exist in the month that the months
+    ///   lead to.
+    /// - [`DateAddError::Overflow`] if the sum's day number isn't from -365242499 to 365242134.
+    ///
+    /// # Examples
     ///
     /// ```
     /// let mut date = Date::try_new_iso(2024, 1, 31)?;
     /// date.try_add_with_options(DateDuration::for_months(1), DateAddOptions::default())?;
     /// assert!(rt; date.day_of_month().0 == 29); // of February
     /// ```
+    #[inline(always)]
     pub fn try_add_with_options(
         &mut self,
         duration: DateDuration,
@@ -476,7 +534,13 @@ where
         }
     }
 
-    /// The date with a duration added, as [`Date::try_add_with_options`].
+    /// Returns the date with a duration added. (ECMAScript Temporal, `NonISODateAdd`)
+    ///
+    /// # Errors
+    ///
+    /// - The errors of [`Date::try_add_with_options`], in the same order.
+    ///
+    /// # Examples
     ///
     /// ```
     /// let date = Date::try_new_iso(2024, 1, 31)?;
@@ -484,6 +548,7 @@ where
     /// let later = date.try_added_with_options(month, DateAddOptions::default())?;
     /// assert!(rt; later.day_of_month().0 == 29); // of February
     /// ```
+    #[inline(always)]
     pub fn try_added_with_options(
         self,
         duration: DateDuration,
@@ -506,16 +571,20 @@ where
         }
     }
 
-    /// The difference from this date to another one of the same kind of calendar: the greatest that does not
-    /// surpass it (ECMAScript Temporal's NonISODateUntil). The default of the option `largest_unit` is days.
-    /// Added to this date under [`Overflow::Constrain`], it gives the other one.
+    /// Returns the difference from this date to another date of the same calendar: the greatest duration that doesn't
+    /// lead past it. The default of the option `largest_unit` is days. Adding the difference back, with
+    /// [`Overflow::Constrain`], returns the other date. (ECMAScript Temporal, `NonISODateUntil`)
     ///
-    /// Months are counted with the day as it is, and days from where the month has it: in months, from
-    /// September 30 to October 31 it is one month and one day (October 30 and a day), and from October 31 back
-    /// to September 30 one month, without a day. So the difference back need not be the same with the sign
-    /// turned.
+    /// Months are counted with the original day, and days from the day that the month has. From September 30 to October
+    /// 31 it is one month and one day (October 30 and a day). From October 31 back to September 30 it is one month and
+    /// no day. So the difference in the other direction may be more than a change of sign.
     ///
-    /// An error comes exactly where the two calendars aren't compatible.
+    /// # Errors
+    ///
+    /// - The calendar's `DateCompatibilityError` exactly if the two calendars aren't compatible, as for two tables of
+    ///   years that differ.
+    ///
+    /// # Examples
     ///
     /// ```
     /// let first = Date::try_new_iso(2024, 9, 30)?;
@@ -552,8 +621,14 @@ where
         }
     }
 
-    /// The difference of [`Date::try_until_with_options`]. It adds at most 8 ticks to the counter; where months are
-    /// the largest unit, at most 8 and one more for each year between the dates.
+    /// Returns the difference of [`Date::try_until_with_options`], and counts the look-ups of years. It adds at most 8
+    /// ticks to the counter; if months are the largest unit, at most 8 and one more for each year between the dates.
+    ///
+    /// # Errors
+    ///
+    /// - The calendar's `DateCompatibilityError` exactly if the two calendars aren't compatible.
+    ///
+    /// # Examples
     ///
     /// ```
     /// let mut steps = Steps::<L>::new(blank);
@@ -589,7 +664,7 @@ where
         }
     }
 
-    /// The difference from this date to another of the same calendar, as [`Date::try_until_with_options`].
+    /// Like `try_until_with_options`, for two dates that are known to have the same calendar.
     pub(crate) fn until(&self, other: &Self, options: DateDifferenceOptions) -> DateDuration
         requires { self.now.calendar ≡ other.now.calendar }
         ensures { let c = A.cal_of self.now.calendar in
@@ -608,7 +683,9 @@ impl<A: AsCalendar> Date<A>
 where
     A::Calendar: Calendar<Year = EraYear>,
 {
-    /// The year in its era, in a calendar whose years all have one.
+    /// Returns the year in its era, in a calendar whose years all have one.
+    ///
+    /// # Examples
     ///
     /// ```
     /// let year = Date::from_rata_die(RataDie::new(738946), Buddhist).era_year();
@@ -626,7 +703,9 @@ impl<A: AsCalendar> Date<A>
 where
     A::Calendar: Calendar<Year = CyclicYear>,
 {
-    /// The year in the cycle of sixty years, in a calendar whose years are counted in it.
+    /// Returns the year in the cycle of sixty years, in a calendar that counts years in it.
+    ///
+    /// # Examples
     ///
     /// ```
     /// let date = Date::from_rata_die(RataDie::new(738946), published::chinese());
@@ -640,8 +719,8 @@ where
     }
 }
 
-/// `Date(YEAR-MONTH-DAY, ERA era, for calendar NAME)` with the year in its era and the month's place; a year of
-/// the cycle of sixty years has `ISO year RELATED` in place of the era.
+/// Writes `Date(YEAR-MONTH-DAY, ERA era, for calendar NAME)` with the era year and the ordinal month. A year of the
+/// cycle of sixty years has `ISO year RELATED` in place of the era.
 impl<A: AsCalendar> fmt::Debug for Date<A>
 where
     A::Calendar: Calendar,
@@ -668,7 +747,7 @@ where
     }
 }
 
-/// The nearest day number of the valid range.
+/// The nearest day number in the valid range.
 fn clamped(rd: RataDie) -> RataDie
     ensures value { result ≡ clamped_day rd }
     ensures valid { IsValidDay result }

@@ -1,4 +1,4 @@
-//! Dates from texts of RFC 9557, and from what was read of one.
+//! Dates from RFC 9557 texts and from records of their parts.
 
 ghost use Rattle.std.specs.Prelude.{◌≡◌, IfOk, option_map};
 ghost use Rattle.std.specs.Result.{result_map_both};
@@ -15,7 +15,7 @@ use cal_days::RataDie;
 use cal_types::{CalendarAlgorithm, ParseError};
 use std::str::FromStr;
 
-/// What is wrong with a name that isn't the expected one.
+/// The error for a name that isn't the expected one.
 fn other_name(expected: CalendarAlgorithm, name: &[u8]) -> ParseError
     ensures { parse_fault result ≡ other_name expected (algorithm_named name.now) }
 {
@@ -25,7 +25,7 @@ fn other_name(expected: CalendarAlgorithm, name: &[u8]) -> ParseError
     }
 }
 
-/// What is wrong with the name in a record, for a calendar with this algorithm.
+/// The error for the name in a record, if a calendar with this algorithm doesn't accept it.
 fn name_fault(algorithm: Option<CalendarAlgorithm>, name: Option<&[u8]>) -> Option<ParseError>
     ensures { option_map parse_fault result ≡ calendar_fault algorithm (option_map (λ n. n.now) name.entry) }
 {
@@ -43,8 +43,14 @@ impl<A: AsCalendar> Date<A>
 where
     A::Calendar: Calendar,
 {
-    /// The date that a text of RFC 9557 names in the ISO calendar, as a date of a calendar: as
-    /// [`Date::try_from_utf8`].
+    /// Creates a date of a calendar from an RFC 9557 text, which names an ISO date. [`Date::try_from_utf8`] has the
+    /// form.
+    ///
+    /// # Errors
+    ///
+    /// - The errors of [`Date::try_from_utf8`], in the same order.
+    ///
+    /// # Examples
     ///
     /// ```
     /// let date = Date::try_from_str("2024-03-01[u-ca=hebrew]", Hebrew)?;
@@ -59,17 +65,23 @@ where
         Date::try_from_utf8(rfc_9557_str.as_bytes(), calendar)
     }
 
-    /// The date that a text names in the ISO calendar, as a date of a calendar. The text is a date, such as
-    /// `2024-03-01`, with a year of four digits, or of a sign and six digits (`-000044-03-15`); then the calendar's
-    /// name may follow, as `[u-ca=hebrew]` or, as critical, `[!u-ca=hebrew]`, and nothing more. This is a part of
-    /// RFC 9557: there is no time, no offset, and no other annotation.
+    /// Creates a date of a calendar from an RFC 9557 text, which names an ISO date.
     ///
-    /// The faults, in their order:
-    /// - [`ParseError::Syntax`]: the text isn't of this form, the year is `-000000`, the month isn't from 1 to 12, or
-    ///   the day isn't from 1 to the month's length;
-    /// - [`ParseError::MismatchedCalendar`]: the name is that of another calendar than the date's, or
-    ///   [`ParseError::UnknownCalendar`]: no calendar has the name. A calendar without a name of its own
-    ///   ([`Calendar::calendar_algorithm`]) takes any name.
+    /// The text is a date such as `2024-03-01`. Its year has four digits, or a sign and six digits (`-000044-03-15`).
+    /// The calendar's name may follow, as `[u-ca=hebrew]` or, marked critical, `[!u-ca=hebrew]`. This is a part of RFC
+    /// 9557: times, offsets and other annotations are rejected.
+    ///
+    /// # Errors
+    ///
+    /// The first of these that applies:
+    ///
+    /// - [`ParseError::Syntax`] if the text has another form, the year is `-000000`, the month isn't from 1 to 12, or
+    ///   the day isn't from 1 to the month's length.
+    /// - [`ParseError::MismatchedCalendar`] if the name belongs to another calendar than the requested one.
+    /// - [`ParseError::UnknownCalendar`] if no calendar has the name. A calendar without a name of its own
+    ///   ([`Calendar::calendar_algorithm`]) accepts any name.
+    ///
+    /// # Examples
     ///
     /// ```
     /// let date = Date::try_from_utf8(b"2024-03-01", Iso)?;
@@ -87,14 +99,19 @@ where
         }
     }
 
-    /// The date of a record, which is one of the ISO calendar, as a date of a calendar.
+    /// Creates a date of a calendar from a record, which names an ISO date.
     ///
-    /// The faults, in their order:
-    /// - [`ParseError::MissingFields`]: the record has no date;
-    /// - [`ParseError::MismatchedCalendar`] and [`ParseError::UnknownCalendar`]: the record's calendar is another
-    ///   one, as in [`Date::try_from_utf8`];
-    /// - [`ParseError::Range`]: the year isn't from -999999 to 999999, the month isn't from 1 to 12, or the day isn't
+    /// # Errors
+    ///
+    /// The first of these that applies:
+    ///
+    /// - [`ParseError::MissingFields`] if the record has no date.
+    /// - [`ParseError::MismatchedCalendar`] or [`ParseError::UnknownCalendar`] if the record names another calendar, as
+    ///   in [`Date::try_from_utf8`].
+    /// - [`ParseError::Range`] if the year isn't from -999999 to 999999, the month isn't from 1 to 12, or the day isn't
     ///   from 1 to the month's length.
+    ///
+    /// # Examples
     ///
     /// ```
     /// let date = Some(DateRecord {
@@ -123,7 +140,13 @@ where
         }
     }
 
-    /// The date of a record, as [`Date::try_from_ixdtf_record`], and its day number.
+    /// Creates a date from a record, as [`Date::try_from_ixdtf_record`], and returns it with its day number.
+    ///
+    /// # Errors
+    ///
+    /// - The errors of [`Date::try_from_ixdtf_record`], in the same order.
+    ///
+    /// # Examples
     ///
     /// ```
     /// let date = Some(DateRecord {
@@ -133,8 +156,13 @@ where
     /// });
     /// let calendar = None;
     /// let record = IxdtfRecord { date, calendar };
-    /// let (date, rd) = Date::try_from_ixdtf_record_with_rd(&record, Hebrew)?;
-    /// assert!(rt; rd.to_i64_date() == 738946);
+    /// match Date::try_from_ixdtf_record_with_rd(&record, Hebrew) {
+    ///     Ok((date, rd)) => {
+    ///         assert!(rt; rd.to_i64_date() == 738946);
+    ///         assert!(rt; date.era_year().year == 5784);
+    ///     }
+    ///     Err(_) => assert!(rt; false),
+    /// }
     /// ```
     pub fn try_from_ixdtf_record_with_rd(
         ixdtf_record: &IxdtfRecord<'_>,
@@ -162,7 +190,7 @@ where
     }
 }
 
-/// [`Date::try_from_str`].
+/// Reads a date as [`Date::try_from_str`] does.
 impl FromStr for Date<Iso> {
     ghost use Rattle.std.specs.Prelude.{None};
     ghost use Rattle.std.specs.Result.{result_map_both};

@@ -1,4 +1,4 @@
-//! Reading texts of dates. No memory is taken, and each byte is looked at once but for the name of a calendar.
+//! Reading dates from text. Takes no memory, and looks at every byte once, except in a calendar's name.
 
 ghost use Rattle.std.specs.Prelude.{◌≡◌, ◌<◌, IfSome};
 ghost use Rattle.std.specs.Option.{option_map};
@@ -58,7 +58,7 @@ fn plain_year(text: &[u8]) -> Option<(i32, &[u8])>
     Some((i32::from(number), rest))
 }
 
-/// A year in four digits, or in a sign and six digits, of which `-000000` is none.
+/// A year of four digits, or of a sign and six digits. `-000000` is no year.
 #[inline(always)]
 #[tactic(auto, unfolding(crate::specs::DateTextReading::year_read))]
 fn year(text: &[u8]) -> Option<(i32, &[u8])>
@@ -125,7 +125,7 @@ fn is_name_part(part: &[u8]) -> bool
     !part.is_empty() && part.len() <= 8 && all_name_bytes(part)
 }
 
-/// Whether a text is a name: such parts, with a hyphen between each two.
+/// Whether a text is a calendar's name: such parts, joined by hyphens.
 fn is_calendar_name(name: &[u8]) -> bool
     ensures { result ≡ is_calendar_name name.now }
 {
@@ -162,7 +162,8 @@ fn name(text: &[u8]) -> Option<&[u8]>
     }
 }
 
-/// A date, and at most one annotation. None exactly where the text isn't of this form or the date doesn't exist.
+/// Reads a date and at most one annotation. Returns `None` exactly if the text has another form or the date doesn't
+/// exist.
 #[tactic(auto, unfolding(crate::specs::DateTextReading::text_read))]
 pub fn read<'a>(text: &'a [u8]) -> Option<IxdtfRecord<'a>>
     ensures { option_map record_parts result ≡ text_read text.now }

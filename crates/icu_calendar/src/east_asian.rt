@@ -1,7 +1,7 @@
-//! What a caller's own rules of a Chinese or Korean calendar are written with.
+//! The types to write your own rules of a Chinese or Korean calendar with.
 //! [`EastAsianTraditional`](crate::EastAsianTraditional) makes a calendar of them.
 //!
-//! [`China`](crate::China) and [`Korea`](crate::Korea) are [`TableRules`] of one [`TableSide`] each, so a function over
+//! [`China`](crate::China) and [`Korea`](crate::Korea) are [`TableRules`], each with its [`TableSide`]. A function over
 //! any `S: TableSide` serves both.
 
 pub use cal_east_asian::{EastAsianTraditionalYear, Rules, TableRules, TableSide};

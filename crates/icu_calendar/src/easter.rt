@@ -1,4 +1,4 @@
-//! The dates of Easter.
+//! The dates of Easter, by the Gregorian and by the Julian rule.
 
 ghost use Rattle.cal_gregory.specs.GregorianSystem.{gregorian_system, gregorian_date};
 ghost use Rattle.cal_julian.specs.JulianSystem.{julian_system, julian_date};
@@ -10,9 +10,11 @@ use cal_days::{gregorian, julian};
 use cal_gregory::Gregorian;
 use cal_julian::Julian;
 
-/// The date of Easter in a year of the Gregorian calendar (Reingold and Dershowitz, Calendrical Calculations,
-/// chapter 9): the first Sunday after the ecclesiastical full moon. The rule is carried on to all years. Where the day
-/// isn't in the valid range, -365242499 to 365242134, it is the nearest day of the range.
+/// Returns the date of Easter in a year of the Gregorian calendar: the Sunday after the ecclesiastical full moon. The
+/// rule is extended to all years. A day outside the valid range, -365242499 to 365242134, becomes the nearest day in
+/// the range. (Reingold and Dershowitz, Calendrical Calculations, chapter 9)
+///
+/// # Examples
 ///
 /// ```
 /// let easter = easter_gregorian(2024);
@@ -24,8 +26,10 @@ pub fn easter_gregorian(year: i32) -> Date<Gregorian>
     Date::from_rata_die(gregorian::easter(year), Gregorian)
 }
 
-/// The date of Easter in a year of the Julian calendar, by the older rule of the same kind, as
-/// [`easter_gregorian`].
+/// Returns the date of Orthodox Easter in a year of the Julian calendar, by the older rule. Ranges are as in
+/// [`easter_gregorian`]. (Reingold and Dershowitz, Calendrical Calculations, chapter 9)
+///
+/// # Examples
 ///
 /// ```
 /// let easter = easter_julian(2024);

@@ -1,6 +1,6 @@
-//! What a caller's own rules of a Hijri calendar are written with. [`Hijri`](crate::Hijri) makes a calendar of them.
+//! The types to write your own rules of a Hijri calendar with. [`Hijri`](crate::Hijri) makes a calendar of them.
 //!
-//! [`UmmAlQura`](crate::UmmAlQura) and [`AstronomicalSimulation`](crate::AstronomicalSimulation) are [`TableRules`] of
-//! one [`TablePurpose`] each, so a function over any `P: TablePurpose` serves both.
+//! [`UmmAlQura`](crate::UmmAlQura) and [`AstronomicalSimulation`](crate::AstronomicalSimulation) are [`TableRules`],
+//! each with its [`TablePurpose`]. A function over any `P: TablePurpose` serves both.
 
 pub use cal_hijri::{HijriYear, Rules, TablePurpose, TableRules};

@@ -1,7 +1,7 @@
-//! Holidays from a book: a text of CSV whose records say names and rules, and the days of a window that the rules name.
+//! Holidays from a book: a CSV text with names and rules, and the days of a window that the rules name.
 //!
-//! [`Book::try_read`] reads a book; its docs and those of [`HolidayRule`] say what a record may be. [`holidays`] lists the
-//! days in order.
+//! [`Book::try_read`] reads a book, and [`holidays`] lists the days in order. [`HolidayRule`] says which days a rule
+//! names.
 //!
 //! ```
 //! let book = Book::try_read(alloc, b"weekday,Thanksgiving,gregorian,M11,4,thursday").ok()?;

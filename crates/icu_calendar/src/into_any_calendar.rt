@@ -1,4 +1,4 @@
-//! The calendars that any calendar may hold.
+//! The calendars that have a variant in [`AnyCalendar`].
 
 ghost use Rattle.std.specs.Prelude.{◌≡◌, IfOk, IfErr, MatchOption, refl};
 ghost use Rattle.cal_any.specs.AnySystem.{any_system, any_date, any_belongs};
@@ -21,9 +21,9 @@ use cal_hijri::{AstronomicalSimulation, Hijri, HijriDateInner, TabularAlgorithm,
 use cal_julian::{Indian, IndianDateInner, Julian, JulianDateInner, Persian, PersianDateInner};
 use cal_kinds::AnyCalendarKind;
 
-/// A calendar that [`AnyCalendar`] holds in a variant of its own, or [`AnyCalendar`] itself.
+/// A calendar that has a variant in [`AnyCalendar`], or [`AnyCalendar`] itself.
 ///
-/// The Japanese calendar is that of the variant `Japanese`; `JapaneseExtended` is another variant.
+/// [`Japanese`] stands for the variant `Japanese`; `JapaneseExtended` is a separate variant.
 pub trait IntoAnyCalendar<'t>: Calendar + AsCalendar<Calendar = Self> + Sized {
     /// The calendar in its variant.
     ghost in_any: { Self → AnyHeld };
@@ -31,29 +31,32 @@ pub trait IntoAnyCalendar<'t>: Calendar + AsCalendar<Calendar = Self> + Sized {
     /// An inner date of the calendar in the same variant.
     ghost date_in_any: { Self.DateInner → AnyInner };
 
-    /// The calendar in its variant.
+    /// Returns the calendar in its variant of [`AnyCalendar`].
     fn to_any(self) -> AnyCalendar<'t>
         ensures { result ≡ in_any self };
 
-    /// The kind of the calendar.
+    /// Returns the kind of the calendar.
     fn kind(&self) -> AnyCalendarKind
         ensures { result ≡ kind_held (in_any self.now) };
 
-    /// The calendar that is held, where it is of this type. An error, which hands `any` back, exactly where the
-    /// variant is that of another type.
+    /// Returns the calendar that `any` holds, if it's of this type.
+    ///
+    /// # Errors
+    ///
+    /// - `any` itself, unchanged, exactly if it holds a calendar of another type.
     fn from_any(any: AnyCalendar<'t>) -> Result<Self, AnyCalendar<'t>>
         ensures held { IfOk result (λ c. any.entry ≡ in_any c) }
         ensures other { IfErr result (λ back. (c : Self) → ¬ (any.entry ≡ in_any c)) }
         ensures back { IfErr result (λ back. back ≡ any.entry) };
 
-    /// The calendar that is held, where it is of this type. None exactly where the variant is that of another type.
+    /// Returns the calendar that `any` holds, or `None` exactly if it's of another type.
     fn from_any_ref<'a>(any: &'a AnyCalendar<'t>) -> Option<&'a Self>
         ensures { MatchOption result ((c : Self) → ¬ (any.now ≡ in_any c)) (λ c. any.now ≡ in_any c.now) };
 
-    /// An inner date of the calendar in the same variant.
+    /// Returns an inner date of the calendar in the same variant.
     ///
-    /// Where the date belongs to the calendar, the answer belongs to [`IntoAnyCalendar::to_any`] of it, with the
-    /// same day number.
+    /// If the date belongs to the calendar, the result belongs to its [`IntoAnyCalendar::to_any`] and has the same day
+    /// number.
     fn date_to_any(&self, d: &Self::DateInner) -> AnyDateInner<'t>
         ensures { result ≡ date_in_any d.now };
 
@@ -70,14 +73,14 @@ pub trait IntoAnyCalendar<'t>: Calendar + AsCalendar<Calendar = Self> + Sized {
     ghost same_date: { (c : Self) (d : Self.DateInner) → any_date (in_any c) (date_in_any d) ≡ Self.date_of c d };
 }
 
-/// What is behind a reference.
+/// Copies a value, since `*` on it isn't covered in an impl that names its lifetime.
 fn copy_of<T: Copy>(value: &T) -> T
     ensures { result ≡ value.now }
 {
     *value
 }
 
-/// The calendar that is held in a variant, or the other one that is held.
+/// The calendar in a variant, or the value itself if it has another variant.
 macro_rules! held {
     ($any:ident, $variant:ident) => {
         match $any {
@@ -87,7 +90,7 @@ macro_rules! held {
     };
 }
 
-/// The calendar that is held in a variant, by reference.
+/// The calendar in a variant, by reference.
 macro_rules! held_ref {
     ($any:ident, $variant:ident) => {
         match $any {
@@ -641,7 +644,7 @@ impl<'t> IntoAnyCalendar<'t> for Roc {
     ghost same_date = { λ _ _. refl };
 }
 
-/// Each call gives what it was given.
+/// Every call returns its argument.
 impl<'t> IntoAnyCalendar<'t> for AnyCalendar<'t> {
     ghost in_any = { λ c. c };
 

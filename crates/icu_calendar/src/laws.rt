@@ -24,10 +24,14 @@ use cal_types::{
     MissingFieldsStrategy, Overflow,
 };
 
-/// The difference from the first date to the second, added to the first date under [`Overflow::Constrain`]: the
-/// sum is never refused, and it is the second date.
+/// Adds the difference between two dates to the first one, with [`Overflow::Constrain`]. The addition never fails, and
+/// returns the second date.
 ///
-/// An error comes exactly where the two calendars aren't compatible.
+/// # Errors
+///
+/// - The calendar's `DateCompatibilityError` exactly if the two calendars aren't compatible.
+///
+/// # Examples
 ///
 /// ```
 /// let first = Date::from_rata_die(RataDie::new(738946), Iso);
@@ -59,7 +63,9 @@ where
     }
 }
 
-/// The date of a date's day number, which is that date.
+/// Converts a date to its day number and back. The result is the same date.
+///
+/// # Examples
 ///
 /// ```
 /// let date = Date::from_rata_die(RataDie::new(738946), Iso);
@@ -76,8 +82,9 @@ where
     Date::from_rata_die(date.to_rata_die(), Ref(date.calendar_wrapper()))
 }
 
-/// The date of a date's day in another calendar, and of that one's day in the first calendar again: no day is lost,
-/// and it is the first date.
+/// Converts a date to another calendar and back. No day is lost: the result is the same date.
+///
+/// # Examples
 ///
 /// ```
 /// let date = Date::from_rata_die(RataDie::new(738946), Iso);
@@ -99,8 +106,10 @@ where
     there.to_calendar(Ref(date.calendar_wrapper()))
 }
 
-/// The extended year, the month and the day of a date, as fields in its calendar under [`Overflow::Reject`]: they are
-/// never refused, and they name that date.
+/// Creates a date from another date's extended year, month and day, with [`Overflow::Reject`]. This never fails, and
+/// returns the same date.
+///
+/// # Examples
 ///
 /// ```
 /// let date = Date::from_rata_die(RataDie::new(738946), Iso);
@@ -124,7 +133,7 @@ where
     }
 }
 
-/// The extended year, the month and the day of a date.
+/// The extended year, month and day of a date as fields.
 fn fields_of<A: AsCalendar>(date: &Date<A>) -> DateFields<'static>
 where
     A::Calendar: Calendar,
@@ -136,7 +145,10 @@ where
     DateFields::from_year_month_day(year, date.month().to_input(), date.day_of_month().0)
 }
 
-/// A date in another calendar. Where its year has the same first day and the same months there, it isn't moved.
+/// Converts a date to another calendar. If its year has the same first day and the same months there, its fields don't
+/// change.
+///
+/// # Examples
 ///
 /// ```
 /// let date = Date::from_rata_die(RataDie::new(738946), Gregorian);
@@ -160,7 +172,7 @@ where
     date.rebase(calendar)
 }
 
-/// The same for two Hijri calendars.
+/// `rebased_in_a_shared_year` for two Hijri calendars over any rules.
 fn rebased_in_hijri<R: HijriRules, S: HijriRules>(
     date: &Date<Hijri<R>>,
     calendar: Hijri<S>,
@@ -170,11 +182,12 @@ fn rebased_in_hijri<R: HijriRules, S: HijriRules>(
         IsRebased c d t u result.moved }
     ensures stays { let c = hijri_list (R.year_of date.now.calendar.0) in let d = hijri_list (S.year_of calendar.0) in
         HaveSameYear c d (kept_hijri date.now.inner.0.parts).year → result.moved ≡ false }
+    ensures calendar { result.date.calendar ≡ calendar }
 {
     rebased_in_a_shared_year(date, calendar)
 }
 
-/// The same for two Chinese or Korean calendars.
+/// `rebased_in_a_shared_year` for two Chinese or Korean calendars over any rules.
 fn rebased_in_east_asian<R: EastAsianRules, S: EastAsianRules>(
     date: &Date<EastAsianTraditional<R>>,
     calendar: EastAsianTraditional<S>,
@@ -186,14 +199,17 @@ fn rebased_in_east_asian<R: EastAsianRules, S: EastAsianRules>(
     ensures stays { let c = east_asian_list (R.year_of date.now.calendar.0) in
         let d = east_asian_list (S.year_of calendar.0) in
         HaveSameYear c d (kept_east_asian date.now.inner.0.parts).year → result.moved ≡ false }
+    ensures calendar { result.date.calendar ≡ calendar }
 {
     rebased_in_a_shared_year(date, calendar)
 }
 
-/// A date of the Hijri calendar of Umm al-Qura, or as it is simulated for Mecca, where the table is lengthened: it isn't
-/// moved where its year isn't among the rows that were added.
+/// Converts a date of the Umm al-Qura calendar, or of its astronomical simulation, to the calendar of a lengthened
+/// table. Its fields don't change if its year isn't among the rows that were added.
 ///
-/// A date of 1445, which no table has a row of, under the table of the one row of 1446:
+/// No table has a row of 1445 here, and one has the single row of 1446:
+///
+/// # Examples
 ///
 /// ```
 /// let computed = HijriTable::none();
@@ -214,11 +230,15 @@ pub fn hijri_date_kept<'u, P: TablePurpose>(
     ensures stays { let old = date.now.calendar.0.table.rows.now in let longer = calendar.entry.0.table.rows.now in
         hijri.Lengthens old longer → hijri.IsNotAdded old longer (kept_hijri date.now.inner.0.parts).year
         → result.moved ≡ false }
+    ensures calendar { result.date.calendar ≡ calendar.entry }
 {
     rebased_in_hijri(date, calendar)
 }
 
-/// The same for a date of the Chinese or of the Korean calendar.
+/// Converts a date of the Chinese or Korean calendar to the calendar of a lengthened table. Its fields don't change if
+/// its year isn't among the rows that were added.
+///
+/// # Examples
 ///
 /// ```
 /// let none = EastAsianTable::none(Side::China);
@@ -237,6 +257,7 @@ pub fn east_asian_date_kept<'u, S: TableSide>(
     ensures stays { let old = date.now.calendar.0.table.rows.now in let longer = calendar.entry.0.table.rows.now in
         east_asian.Lengthens S.side old longer
         → east_asian.IsNotAdded old longer (kept_east_asian date.now.inner.0.parts).year → result.moved ≡ false }
+    ensures calendar { result.date.calendar ≡ calendar.entry }
 {
     rebased_in_east_asian(date, calendar)
 }

@@ -1,7 +1,8 @@
-//! Dates of any calendar, and the difference of two.
+//! Dates in twenty calendars: conversion, fields, sums, differences, lists of days, texts, weeks and Easter.
 //!
-//! A [`Date`] has its calendar with it: one of a type of its own, as [`Iso`], or one that is chosen at run time,
-//! as [`AnyCalendar`]. All that a caller needs is passed on from here.
+//! A [`Date`] is a date together with its calendar: a calendar with a type of its own, as [`Iso`], or one that is chosen
+//! at run time, as [`AnyCalendar`]. Start with a constructor such as [`Date::try_new_iso`], or with [`Date::try_new`].
+//! Every type, error and option that `Date` needs is passed on from here; `docs/GUIDE.md` has a chapter for each task.
 #![tactic(auto)]
 
 pub mod anniversary;

@@ -1,7 +1,9 @@
-//! The published years of the calendars that go by tables, as constant data: calendars and tables of them.
+//! Calendars with published years, as constant data.
 //!
 //! [`chinese`] has the years 1912 to 2099, [`korean`] 1912 to 2097, [`umm_al_qura`] 1300 to 1600, and [`persian`] 78
-//! corrections of the rule of 33 years from 1502 to 2987. Any other year is the computed one.
+//! corrections of the rule of 33 years from 1502 to 2987. All other years are computed.
+//!
+//! # Examples
 //!
 //! ```
 //! let new_year = Date::try_new(2023.into(), Month::new(1), 1, published::chinese())?;

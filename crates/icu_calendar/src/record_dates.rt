@@ -1,4 +1,4 @@
-//! The day of a record's date, whose numbers are tested.
+//! The day number of a record's date, with its numbers checked.
 
 ghost use Rattle.std.specs.Prelude.{◌≡◌, Ok, IfOk, is_ok, pos, neg_ℤ};
 ghost use Rattle.std.specs.Result.{result_map_both};
@@ -15,13 +15,13 @@ use cal_base::{AbstractGregorian, IsoYears, NumberedYear};
 use cal_days::RataDie;
 use cal_types::RangeError;
 
-/// The greatest year, with either sign, that a record may name.
+/// The greatest year of a record, with either sign.
 const MAX_YEAR: i32 = 999999;
 
-/// The greatest month.
+/// The greatest month of a record.
 const MAX_MONTH: u8 = 12;
 
-/// A number that isn't from `min` to `max`.
+/// The error for a number that isn't from `min` to `max`.
 fn out_of_range(field: &'static str, value: i32, min: i32, max: i32) -> RangeError
     ensures { range_parts result ≡ out_of_range field.now value min max }
 {
@@ -33,14 +33,14 @@ fn out_of_range(field: &'static str, value: i32, min: i32, max: i32) -> RangeErr
     }
 }
 
-/// A number isn't from 1 to the greatest that is allowed.
+/// The error for a number that isn't from 1 to `max`.
 fn not_up_to(field: &'static str, value: u8, max: u8) -> RangeError
     ensures { range_parts result ≡ out_of_range field.now (pos value) (pos 1) (pos max) }
 {
     out_of_range(field, i32::from(value), 1, i32::from(max))
 }
 
-/// Whether a day is one of a month's.
+/// Checks that a day is in its month.
 fn test_day(year: i32, month: u8, day: u8) -> Result<(), RangeError>
     requires year { IsBetween (neg_ℤ (pos 999999)) (pos 999999) year }
     requires month { HasPlace iso_list year month }
@@ -57,7 +57,7 @@ fn test_day(year: i32, month: u8, day: u8) -> Result<(), RangeError>
     }
 }
 
-/// Whether a month and a day are a year's, or which of the two isn't.
+/// Checks that a month is in its year, then that a day is in its month.
 fn test_in_year(year: i32, month: u8, day: u8) -> Result<(), RangeError>
     requires { IsBetween (neg_ℤ (pos 999999)) (pos 999999) year }
     ensures { result_map_both (λ _. date year month day) range_parts result ≡ placed_in_year iso_list year month day }
@@ -69,8 +69,8 @@ fn test_in_year(year: i32, month: u8, day: u8) -> Result<(), RangeError>
     }
 }
 
-/// Whether a record's date exists, or which of its numbers is out of its range: the year isn't from -999999 to
-/// 999999, the month isn't from 1 to 12, or the day isn't from 1 to the month's length.
+/// Checks that a record's date exists: the year is from -999999 to 999999, the month from 1 to 12, and the day from 1
+/// to the month's length. The error names the first number out of range.
 fn test(date: DateRecord) -> Result<(), RangeError>
     ensures { result_map_both (λ _. date_numbers date) range_parts result ≡ numbered_date (date_numbers date) }
 {
@@ -82,7 +82,7 @@ fn test(date: DateRecord) -> Result<(), RangeError>
     }
 }
 
-/// Whether a record's date exists.
+/// Returns `true` if a record's date exists.
 pub fn is_date(date: DateRecord) -> bool
     ensures { result ≡ is_ok (numbered_date (date_numbers date)) }
 {
@@ -99,7 +99,11 @@ fn day(date: DateRecord) -> RataDie
     AbstractGregorian(IsoYears).to_rata_die_inner(year, date.month, date.day)
 }
 
-/// The day number of a record's date, or the first of its numbers that is out of its range.
+/// Returns the day number of a record's date.
+///
+/// # Errors
+///
+/// - [`RangeError`] for the first number out of range: `"year"`, `"month"` or `"day"`.
 pub fn record_day(date: DateRecord) -> Result<RataDie, RangeError>
     ensures value { result_map_both (λ n. n) range_parts result
         ≡ result_map_both (day_number iso_list) (λ e. e) (numbered_date (date_numbers date)) }

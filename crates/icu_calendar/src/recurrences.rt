@@ -1,4 +1,4 @@
-//! Recurrences from a date on.
+//! Recurrences that start at a date.
 
 ghost use Rattle.std.specs.Prelude.{◌≡◌, Some};
 ghost use Rattle.cal_recur.specs.Listing.{AreOccurrences, occurrences, occurrences_left};
@@ -12,15 +12,18 @@ impl<A: AsCalendar> Date<A>
 where
     A::Calendar: Calendar + Copy,
 {
-    /// The occurrences of a rule in a window: this date with 0, 1, 2 and so on times the rule's units added, each
-    /// counted from this date, where its day is in the window. There is none before this date. What the rule skips,
-    /// and what adding refuses as out of its range, is left out, and later ones keep their indices.
+    /// Returns the occurrences of a rule in a window, in order: this date with 0, 1, 2, .. times the rule's units added.
     ///
-    /// From February 29, 2012, every year in the days to February 29, 2020 gives the indices 0, 4 and 8 under
-    /// [`Missing::Skip`](cal_recur::Missing::Skip), and 0 to 8 under
-    /// [`Missing::Constrain`](cal_recur::Missing::Constrain), with February 28 in the plain years.
+    /// Each occurrence counts from this date, and none is before it. Occurrences that the rule skips, or whose sum is out
+    /// of range, are left out. Later occurrences keep their indices.
     ///
-    /// No memory is taken; [`recur`] says how much an item costs.
+    /// Yearly from February 29, 2012 to February 29, 2020, the indices are 0, 4 and 8 under
+    /// [`Missing::Skip`](cal_recur::Missing::Skip). Under [`Missing::Constrain`](cal_recur::Missing::Constrain) they are
+    /// 0 to 8, with February 28 in common years.
+    ///
+    /// No memory is taken. See [`recur`] for the cost of an item.
+    ///
+    /// # Examples
     ///
     /// ```
     /// let rule = Rule::try_new(DateDurationUnit::Months, 1, Missing::Constrain)?;

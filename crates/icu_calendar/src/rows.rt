@@ -1,9 +1,10 @@
-//! Rows of tables of a caller's own: lines of text such as `row china 1912 698026 lslslslslsls 0`, each of which gives a
-//! published year in place of a computed one, or an era of Japan after Reiwa.
+//! Your own rows of years: lines of text such as `row china 1912 698026 lslslslslsls 0`. Each row replaces a computed
+//! year by a published one, or adds an era of Japan after Reiwa.
 //!
-//! [`TableRows::try_read`] reads a text, [`TableRows::take_line`] takes one line, and [`TableRows::tables`] tests the rows
-//! and has the tables of them; [`TableRows::china`], `korea` and `umm_al_qura` are the rows alone. A refusal prints what the program `calspan` writes for it, as `table line 1 range` or
-//! `table china 3 end`. The page of the program says what a row line may be.
+//! [`TableRows::try_read`] reads a text and [`TableRows::take_line`] one line. [`TableRows::tables`] checks the rows
+//! and returns tables of them; [`TableRows::china`], `korea` and `umm_al_qura` return the rows alone. An error prints
+//! what the program `calspan` writes for it, as `table line 1 range` or `table china 3 end`. The program's manual has
+//! the grammar of a row line.
 //!
 //! ```
 //! let rows = TableRows::try_read(alloc, b"row china 1912 698026 lslslslslsls 0\n")?;
@@ -14,11 +15,11 @@
 //!
 //! # When the next year is published
 //!
-//! A table isn't changed. A longer one takes its place: [`HijriTable::lengthened`](crate::HijriTable::lengthened) or
-//! [`EastAsianTable::lengthened`](crate::EastAsianTable::lengthened) of the old table, with all rows, tests that they
-//! begin with the old ones, and that both ends still meet the computed years. Then [`Date::rebase`](crate::Date::rebase)
-//! brings what was stored over by its day. A date whose year isn't among the added rows reads as before; another one may
-//! have moved, which `moved` tells. Dates under the two tables can't be compared.
+//! A table never changes; a longer one replaces it. Call [`HijriTable::lengthened`](crate::HijriTable::lengthened) or
+//! [`EastAsianTable::lengthened`](crate::EastAsianTable::lengthened) on the old table with all rows. It checks that
+//! they begin with the old ones and that both ends still meet the computed years. Then convert every stored date with
+//! [`Date::rebase`](crate::Date::rebase), by its day number. A date whose year isn't among the added rows keeps its
+//! fields; another may have changed, as `moved` says. Dates under the two tables can't be compared.
 //!
 //! ```
 //! let rows = TableRows::try_read(alloc, text)?; // the rows of 1445 and of 1446

@@ -1,4 +1,4 @@
-//! What the difference of two bags of fields answers.
+//! The result of [`span`](crate::span()).
 
 use crate::date::Date;
 use cal_any::AnyCalendar;
@@ -6,7 +6,7 @@ use cal_base::{AsCalendar, Calendar};
 use cal_types::DateDuration;
 use std::fmt;
 
-/// Two dates, the same days in a second calendar, and the difference from the first date to the second.
+/// Two dates, the same two days in a second calendar, and the difference from the first to the second.
 #[derive(Clone, Copy)]
 pub struct Span<'t> {
     /// The date of the first bag.
@@ -17,7 +17,7 @@ pub struct Span<'t> {
     pub to: Date<AnyCalendar<'t>>,
     /// The same day in the second calendar.
     pub to_shown: Date<AnyCalendar<'t>>,
-    /// The greatest duration, in the units asked for, that leads from the first date and does not surpass the second.
+    /// The greatest duration, in the requested units, that leads from the first date and not past the second.
     pub duration: DateDuration,
 }
 
@@ -37,7 +37,7 @@ fn fmt_fields<D: fmt::Debug, W: fmt::Write>(
         .finish()
 }
 
-/// The same, of dates of any calendar.
+/// Does what `fmt_fields` does, for dates of any calendar, so that the calendar is a parameter once.
 fn fmt_dates<A: AsCalendar, W: fmt::Write>(
     from: (&Date<A>, &Date<A>),
     to: (&Date<A>, &Date<A>),

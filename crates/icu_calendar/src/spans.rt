@@ -1,4 +1,4 @@
-//! The difference of two bags of fields.
+//! The dates of two bags of fields, in two calendars, and their difference.
 
 ghost use Rattle.std.specs.Prelude.{◌≡◌, IfOk, IfErr, Ok};
 ghost use Rattle.cal_types.specs.Bag.{bag_of};
@@ -19,7 +19,7 @@ use cal_types::{
     SpanError,
 };
 
-/// The dates that two bags of fields name in one calendar.
+/// Two dates of one calendar, created from two bags of fields by [`named_dates`].
 #[derive(Drop)]
 pub struct NamedDates<A: AsCalendar>
 where
@@ -34,7 +34,9 @@ impl<A: AsCalendar> NamedDates<A>
 where
     A::Calendar: Calendar,
 {
-    /// The date of the first bag.
+    /// Returns the date of the first bag.
+    ///
+    /// # Examples
     ///
     /// ```
     /// let from = DateFields::from_year_month_day(2024, Month::new(9), 30);
@@ -48,7 +50,9 @@ where
         &self.from
     }
 
-    /// The date of the second bag.
+    /// Returns the date of the second bag.
+    ///
+    /// # Examples
     ///
     /// ```
     /// let from = DateFields::from_year_month_day(2024, Month::new(9), 30);
@@ -62,8 +66,10 @@ where
         &self.to
     }
 
-    /// The difference from the first date to the second, which leads back, as
-    /// [`Date::try_until_with_options`].
+    /// Returns the difference from the first date to the second, as [`Date::try_until_with_options`]. Adding it back,
+    /// with [`Overflow::Constrain`], returns the second date.
+    ///
+    /// # Examples
     ///
     /// ```
     /// let from = DateFields::from_year_month_day(2024, Month::new(9), 30);
@@ -82,8 +88,14 @@ where
     }
 }
 
-/// The dates that two bags of fields name in a calendar. Where a bag names no date, the error has its side and its
-/// first fault; the first bag comes first.
+/// Creates the dates of two bags of fields in one calendar.
+///
+/// # Errors
+///
+/// - [`SpanError`] for the first bag that is invalid, with its side and its first invalid field, as
+///   [`Date::try_from_fields`] reports it.
+///
+/// # Examples
 ///
 /// ```
 /// let from = DateFields::from_year_month_day(2024, Month::new(9), 30);
@@ -129,7 +141,7 @@ where
     }
 }
 
-/// The days of two dates in another calendar.
+/// The two dates in another calendar.
 fn shown_days<A: AsCalendar + Copy>(
     first: &Date<A>,
     second: &Date<A>,
@@ -150,7 +162,7 @@ where
     (first.to_calendar(shown), second.to_calendar(shown))
 }
 
-/// The dates that two bags of fields name, the same days in a second calendar, and the difference.
+/// What `span_in` returns: a [`Span`] in calendars of any one type.
 #[derive(Drop)]
 struct SpanIn<A: AsCalendar>
 where
@@ -163,7 +175,7 @@ where
     duration: DateDuration,
 }
 
-/// [`span`], in two calendars of any one type.
+/// Does what [`span`] does, in calendars of any one type.
 fn span_in<A: AsCalendar + Copy>(
     from: DateFields<'_>,
     to: DateFields<'_>,
@@ -201,11 +213,16 @@ where
     }
 }
 
-/// The dates that two bags of fields name in a calendar, the same days in a second calendar, and the difference
-/// from the first date to the second, which leads back: added to the first date under
-/// [`Overflow::Constrain`], it gives the second.
+/// Creates the dates of two bags of fields in a calendar, shows both in a second calendar, and returns them with the
+/// difference from the first to the second. Adding the difference to the first date, with [`Overflow::Constrain`],
+/// returns the second.
 ///
-/// Where a bag names no date, the error has its side and its first fault; the first bag comes first.
+/// # Errors
+///
+/// - [`SpanError`] for the first bag that is invalid, with its side and its first invalid field, as
+///   [`Date::try_from_fields`] reports it.
+///
+/// # Examples
 ///
 /// ```
 /// let from = DateFields::from_year_month_day(2024, Month::new(9), 30);

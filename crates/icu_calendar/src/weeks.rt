@@ -1,4 +1,4 @@
-//! Weeks of years, as ISO 8601 counts them.
+//! Weeks of the year as ISO 8601 counts them.
 
 ghost use Rattle.cal_days.specs.Day.{IsValidDay};
 ghost use Rattle.cal_types.specs.CalendarList.{day_number};
@@ -10,7 +10,7 @@ use cal_base::Iso;
 use cal_days::{RataDie, gregorian};
 use cal_types::IsoWeekOfYear;
 
-/// The Thursday of the week of a valid day. It is valid too, since the first valid day is a Monday and the last one a
+/// The Thursday in the week of a valid day. It's valid too, since the first valid day is a Monday and the last a
 /// Friday.
 fn thursday_of(rd: RataDie) -> RataDie
     requires { IsValidDay rd }
@@ -21,7 +21,7 @@ fn thursday_of(rd: RataDie) -> RataDie
     RataDie::new(day + 3 - (day - 1).rem_euclid(7))
 }
 
-/// The week of a valid day.
+/// The week of a valid day number.
 fn week_of(rd: RataDie) -> IsoWeekOfYear
     requires { IsValidDay rd }
     ensures { IsInWeek rd result.iso_year result.week_number }
@@ -36,9 +36,12 @@ fn week_of(rd: RataDie) -> IsoWeekOfYear
 }
 
 impl Date<Iso> {
-    /// The week of the date, and the year that it belongs to (ISO 8601): a week runs from Monday to Sunday, and
-    /// belongs to the year of its Thursday, so that week 1 has the year's first Thursday. That year may be the one
-    /// before the date's, or the one after it.
+    /// Returns the ISO 8601 week of the date and the year that the week belongs to.
+    ///
+    /// A week runs from Monday to Sunday and belongs to the year of its Thursday, so week 1 has the year's first
+    /// Thursday. The week's year may be the year before or after the date's own. (ISO 8601)
+    ///
+    /// # Examples
     ///
     /// ```
     /// let week = Date::from_rata_die(RataDie::new(739250), Iso).week_of_year(); // 2024-12-30

@@ -1,4 +1,4 @@
-//! Dates of one calendar as dates of any, and dates of any calendar in another.
+//! Dates of a single calendar as dates of [`AnyCalendar`], and conversion between calendars chosen at run time.
 
 ghost use Rattle.std.specs.Prelude.{◌≡◌, IsTrue};
 ghost use Rattle.cal_types.specs.CalendarList.{IsOn, day_number};
@@ -10,7 +10,9 @@ use cal_any::AnyCalendar;
 use cal_base::{AsCalendar, Calendar, Ref};
 
 impl<'t, C: IntoAnyCalendar<'t>> Date<C> {
-    /// The same date, of the calendar in its variant of [`AnyCalendar`].
+    /// Converts the date to a date of [`AnyCalendar`], with the calendar in its variant.
+    ///
+    /// # Examples
     ///
     /// ```
     /// let date = Date::try_new_iso(2024, 3, 1)?.to_any();
@@ -31,8 +33,7 @@ impl<'t, C: IntoAnyCalendar<'t>> Date<C> {
     }
 }
 
-/// The same day in another calendar of the same type: where the two are compatible, the date as it is kept, and
-/// otherwise the date of the same day number there.
+/// The conversion of `convert_any` for any type of calendar.
 fn converted<'a, A: AsCalendar<Calendar = K>, K: Calendar + AsCalendar<Calendar = K>>(
     date: &Date<A>,
     calendar: &'a K,
@@ -60,8 +61,10 @@ fn converted<'a, A: AsCalendar<Calendar = K>, K: Calendar + AsCalendar<Calendar 
 }
 
 impl<'t, A: AsCalendar<Calendar = AnyCalendar<'t>>> Date<A> {
-    /// The same day in another calendar: where the two are compatible, the date as it is kept, and otherwise the
-    /// date of the same day number there.
+    /// Converts the date to another calendar. If the two calendars are compatible the inner date is kept; otherwise the
+    /// day number stays the same.
+    ///
+    /// # Examples
     ///
     /// ```
     /// let date = Date::try_new_iso(2024, 3, 1)?.to_any();

@@ -1,4 +1,4 @@
-//! Which dates are equal, and which comes first.
+//! Equality and order of dates.
 
 ghost use Rattle.std.specs.Prelude.{◌≡◌, ◌↔◌, ◌&&◌, if◌then◌else◌, IsTrue, Some, None};
 ghost use Rattle.std.specs.Ordering.{int_cmp};
@@ -15,8 +15,10 @@ impl<A: AsCalendar> Date<A>
 where
     A::Calendar: Calendar,
 {
-    /// Whether the two calendars are compatible, and year, month and day are the same. The dates may lead to their
-    /// calendars in two ways, as one that is borrowed and one that is counted.
+    /// Returns `true` if the two calendars are compatible and year, month and day are the same. The dates may hold
+    /// their calendars differently, one borrowed and one counted, say.
+    ///
+    /// # Examples
     ///
     /// ```
     /// let date = Date::try_new_iso(2024, 3, 1)?;
@@ -33,8 +35,9 @@ where
         is_compatible(&self.calendar, &other.calendar) && self.inner == other.inner
     }
 
-    /// The order of the two dates, which is that of their day numbers. None exactly where the two calendars aren't
-    /// compatible.
+    /// Compares the two dates by their day numbers. Returns `None` exactly if the two calendars aren't compatible.
+    ///
+    /// # Examples
     ///
     /// ```
     /// let date = Date::try_new_iso(2024, 3, 1)?;
@@ -61,7 +64,7 @@ where
     }
 }
 
-/// Whether dates of two calendars can be compared.
+/// Whether dates of the two calendars can be compared.
 fn is_compatible<A: AsCalendar, B: AsCalendar<Calendar = A::Calendar>>(
     first: &A,
     second: &B,
@@ -76,7 +79,7 @@ where
         .is_ok()
 }
 
-/// As [`Date::same_date`].
+/// Equality as in [`Date::same_date`].
 impl<A: AsCalendar<Calendar = K>, K: Calendar<DateInner = D>, D: Eq + Copy + PartialOrd> PartialEq
     for Date<A, K, D> {
     ghost eq = { λ d e. K.compatible (A.cal_of d.calendar) (A.cal_of e.calendar) && D.eq d.inner e.inner };
@@ -99,7 +102,7 @@ impl<A: AsCalendar<Calendar = K>, K: Calendar<DateInner = D>, D: Eq + Copy + Par
         (on_equiv (λ d. d.inner) D.Eq.laws) };
 }
 
-/// As [`Date::date_cmp`].
+/// Order as in [`Date::date_cmp`].
 impl<A: AsCalendar<Calendar = K>, K: Calendar<DateInner = D>, D: Eq + Copy + PartialOrd> PartialOrd
     for Date<A, K, D> {
     ghost partial_cmp = { λ d e. if K.compatible (A.cal_of d.calendar) (A.cal_of e.calendar)
@@ -115,7 +118,7 @@ impl<A: AsCalendar<Calendar = K>, K: Calendar<DateInner = D>, D: Eq + Copy + Par
     }
 }
 
-/// The order of the days, where any two calendars of the type are compatible.
+/// The order of day numbers, for types whose calendars are all compatible.
 impl<
     A: AsCalendar<Calendar = K>,
     K: Calendar<DateInner = D, DateCompatibilityError = Infallible>,

@@ -1,4 +1,4 @@
-//! A date once more, and with a calendar that is counted.
+//! Copies of a date, and dates whose calendar is in a counted pointer.
 
 ghost use Rattle.std.specs.Prelude.{◌≡◌, IsOk, IfOk, IfErr};
 
@@ -11,15 +11,44 @@ impl<A: AsCalendar + Clone> Date<A>
 where
     A::Calendar: Calendar,
 {
-    /// The same date once more, with a clone of what leads to its calendar: that clone has to lead to the same
-    /// calendar. An error comes only where the clone has one: it found no memory.
+    /// Returns a copy of the date, with a clone of its calendar.
+    ///
+    /// The clone has to lead to the same calendar, and must not fail. Both hold for every calendar of this library and
+    /// for pointers to one. Use [`Date::try_clone`] for a type of your own whose clone may run out of memory.
+    ///
+    /// # Examples
     ///
     /// ```
     /// let date = Date::from_rata_die(RataDie::new(738946), Iso);
-    /// let again = date.clone()?;
+    /// let again = date.clone();
     /// assert!(rt; again.same_date(&date));
     /// ```
-    pub fn clone(&self) -> Result<Self, AllocError>
+    pub fn clone(&self) -> Self
+        requires same { (b : A) → A.is_clone self.now.calendar b → A.cal_of b ≡ A.cal_of self.now.calendar }
+        requires infallible { A.is_infallible self.now.calendar }
+        ensures inner { result.inner ≡ self.now.inner }
+        ensures calendar { A.is_clone self.now.calendar result.calendar }
+    {
+        match self.try_clone() {
+            Ok(date) => date,
+            Err(_) => unreachable!(),
+        }
+    }
+
+    /// Returns a copy of the date, with a clone of its calendar that has to lead to the same calendar.
+    ///
+    /// # Errors
+    ///
+    /// - [`AllocError`] if the calendar's clone fails with it.
+    ///
+    /// # Examples
+    ///
+    /// ```
+    /// let date = Date::from_rata_die(RataDie::new(738946), Iso);
+    /// let again = date.try_clone()?;
+    /// assert!(rt; again.same_date(&date));
+    /// ```
+    pub fn try_clone(&self) -> Result<Self, AllocError>
         requires { (b : A) → A.is_clone self.now.calendar b → A.cal_of b ≡ A.cal_of self.now.calendar }
         ensures inner { IfOk result (λ d. d.inner ≡ self.now.inner) }
         ensures calendar { IfOk result (λ d. A.is_clone self.now.calendar d.calendar) }
@@ -37,8 +66,13 @@ impl<A: AsCalendar + Copy> Date<A>
 where
     A::Calendar: Calendar,
 {
-    /// The same date, with its calendar in a counted pointer, which dates may share. An error comes only where there
-    /// is no memory, and hands the date back.
+    /// Moves the date's calendar into a counted pointer, which several dates may share.
+    ///
+    /// # Errors
+    ///
+    /// - The date itself, unchanged, if there is no memory for the pointer.
+    ///
+    /// # Examples
     ///
     /// ```
     /// let date = Date::from_rata_die(RataDie::new(738946), Hebrew);

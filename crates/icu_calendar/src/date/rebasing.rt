@@ -1,4 +1,4 @@
-//! Dates that were stored by one calendar, in another one.
+//! Conversion of stored dates to a calendar with other tables.
 
 ghost use Rattle.std.specs.Prelude.{◌≡◌};
 ghost use Rattle.cal_types.specs.DateOrder.{date_eq};
@@ -7,15 +7,15 @@ ghost use Rattle.icu_calendar.specs.Rebasing.{IsRebased};
 use super::Date;
 use cal_base::{AsCalendar, Calendar};
 
-/// A date that was brought over to another calendar, by its day.
+/// A date that was converted to another calendar by its day number, and whether its fields changed.
 #[derive(Drop)]
 pub struct Rebased<A: AsCalendar>
 where
     A::Calendar: Calendar,
 {
-    /// The date of the same day number in the other calendar.
+    /// The date with the same day number in the other calendar.
     pub date: Date<A>,
-    /// Whether extended year, ordinal month or day of the month are others than they were.
+    /// Whether the extended year, the ordinal month or the day of the month changed.
     pub moved: bool,
 }
 
@@ -23,14 +23,16 @@ impl<A: AsCalendar> Date<A>
 where
     A::Calendar: Calendar,
 {
-    /// The date of the same day number in another calendar, and whether its extended year, its ordinal month or its
-    /// day of the month is another one there. So dates that were stored under a table of years are updated when the
-    /// table was lengthened: those whose year isn't among the rows that were added aren't moved.
+    /// Converts the date to another calendar by its day number, and says whether its extended year, ordinal month or
+    /// day of the month changed. Use it to update stored dates after a table of years was lengthened: dates whose year
+    /// isn't among the added rows don't change.
     ///
-    /// An old date stays as it is; dates under the two tables aren't compatible.
+    /// The old date stays as it is. Dates under the two tables aren't compatible.
     ///
-    /// Under Umm al-Qura with the row of 1445 alone, day 739105 is 1446-02-01; with the row of 1446 too, it is
-    /// 1446-02-02:
+    /// Under Umm al-Qura with the row of 1445 alone, day number 739105 is 1446-02-01. With the row of 1446 as well, it
+    /// is 1446-02-02:
+    ///
+    /// # Examples
     ///
     /// ```
     /// let longer = Hijri::new_umm_al_qura(table.lengthened(&rows)?);
@@ -50,21 +52,21 @@ where
         Rebased { date, moved }
     }
 
-    /// The extended year.
+    /// The extended year, for `reads_as`.
     fn extended_year(&self) -> i32
         ensures { result ≡ (A.Calendar.date_of (A.cal_of self.now.calendar) self.now.inner).year }
     {
         self.calendar.as_calendar().extended_year(&self.inner)
     }
 
-    /// The ordinal month.
+    /// The ordinal month, for `reads_as`.
     fn ordinal_month(&self) -> u8
         ensures { result ≡ (A.Calendar.date_of (A.cal_of self.now.calendar) self.now.inner).month }
     {
         self.month().ordinal
     }
 
-    /// Whether extended year, ordinal month and day of the month are those of another date.
+    /// Whether the two dates have the same extended year, ordinal month and day of the month.
     fn reads_as<B: AsCalendar>(&self, other: &Date<B>) -> bool
     where
         B::Calendar: Calendar,
