@@ -1,7 +1,7 @@
 #!/usr/bin/env bash
 # Answers request lines on all processors, in their order, with GNU parallel: examples/parallel.sh [ROWS..] < REQUESTS
 # Each block of lines is a run of its own, behind the row lines of the files ROWS. The status is the greatest of these runs. The number in
-# `err line N` counts in the run: the row lines first, then the lines of the block (docs/PARALLEL.md). BLOCK is the size of a block, CALSPAN
+# `err line N` counts in the run: the row lines first, then the lines of the block (docs/MANUAL.md). BLOCK is the size of a block, CALSPAN
 # another program in place of ./calspan.
 set -u
 top=$(cd "$(dirname "${BASH_SOURCE[0]}")/.." && pwd)

@@ -1,61 +1,51 @@
 -- What the program as a call answers.
-use Rattle.std.specs.Prelude.{◌≡◌, ℕ, ◌<◌, true, false, List, ◌++◌, Some, take, drop, length}
-use Rattle.std.specs.Str.{IsUtf8}
-use Rattle.calspan_run.specs.Command.{Asked, Span, Generate, Anniversary, Recur, Holidays, command_of}
-use Rattle.calspan_run.specs.ListTexts.{ListsAnniversaries, ListsOccurrences}
-use Rattle.calspan_run.specs.Rules.{span_rules, generator_rules, holiday_rules, list_rules}
-use Rattle.calspan_run.specs.Run.{limit}
-use Rattle.calspan_run.specs.Serving.{Rules}
+use Rattle.std.specs.Prelude.{◌≡◌, ℕ, ◌<◌, Bool, true, false, List, [], ◌⊎◌, Option, Some, length}
+use Rattle.calspan_run.specs.Command.{Asked}
+use Rattle.calspan_run.specs.CommandRuns.{Ends}
+use Rattle.calspan_run.specs.Run.{outside}
 use Rattle.calspan_run.specs.Status.{code_of}
 use Rattle.calspan_run.specs.declared.status.Status.{Status}
-use Rattle.icu_calendar_c.specs.Words.{words_in}
+use Rattle.date_calls.specs.Rooms.{IsPut}
 
--- the words of a text ask for this
-pub record Asks (text : List ℕ) (asked : Asked) : Type 0 where
-  pub utf8 : IsUtf8 text
-  pub asks : command_of (words_in text) ≡ Some asked
+-- how a run over an input in memory ended, what it has written into a sink in memory, and how often that sink failed
+pub record RunsInMemory (asked : Option Asked) (input : List ℕ) (status : Status) (text : List ℕ) (faults : ℕ)
+    : Type 0 where
+  pub left : Option (List ℕ)
+  pub ends : Ends asked status (outside (Some input) (Some []) 0 0) (outside left (Some text) 0 faults)
 
--- they ask for something
-pub record HasCommand (text : List ℕ) : Type 0 where
-  pub asked : Asked
-  pub asks : Asks text asked
+-- the code is that of the status where the text fits into its room, and otherwise 8
+abbrev pub placed_code : Bool → Status → ℕ
+placed_code true status = code_of status
+placed_code false status = 8
 
--- what a run of a command is held to
-abbrev pub rules_of : Asked → Rules
-rules_of Span = span_rules
-rules_of (Generate count) = generator_rules count
-rules_of (Anniversary asked) = list_rules (ListsAnniversaries asked)
-rules_of (Recur asked) = list_rules (ListsOccurrences asked)
-rules_of (Holidays asked) = holiday_rules asked
-
--- the text for the input stands first in the room, and what was behind it is there still
-pub record IsAnsweredIn (c : Rules) (code : ℕ) (input before now : List ℕ) (written : ℕ) : Type 0 where
-  pub text : List ℕ
-  pub status : Status
-  pub says : c.Says input true text status
-  pub ends : code ≡ code_of status
+-- the text stands first in the room, with the code of a status; or the room is too short, and as it was
+pub record IsHandedOver (status : Status) (text before now : List ℕ) (code written : ℕ) : Type 0 where
+  pub fits : Bool
+  pub put : IsPut fits text before now
+  pub ends : code ≡ placed_code fits status
   pub count : written ≡ length text
-  pub stands : now ≡ text ++ drop (length text) before
 
--- the text for the input is longer than the room, which is as it was
-pub record NeedsRoom (c : Rules) (input before now : List ℕ) (written : ℕ) : Type 0 where
-  pub text : List ℕ
+-- a run whose sink never failed: its text is handed over, with its status
+pub record IsPlaced (asked : Option Asked) (input : List ℕ) (code : ℕ) (before now : List ℕ) (written : ℕ)
+    : Type 0 where
   pub status : Status
-  pub says : c.Says input true text status
-  pub count : written ≡ length text
-  pub longer : length before < length text
-  pub stands : now ≡ before
-
--- the input is longer than a run takes: the text for what is within the limit stands first in the room
-pub record IsBegunIn (c : Rules) (input before now : List ℕ) (written : ℕ) : Type 0 where
   pub text : List ℕ
-  pub status : Status
-  pub more : limit < length input
-  pub says : c.Says (take limit input) false text status
-  pub count : written ≡ length text
-  pub stands : now ≡ text ++ drop (length text) before
+  pub runs : RunsInMemory asked input status text 0
+  pub handed : IsHandedOver status text before now code written
 
--- nothing is written, and the room is as it was
-pub record IsUntouched (before now : List ℕ) (written : ℕ) : Type 0 where
+-- a run whose sink had no memory for a piece of the text: nothing is written
+pub record LacksOutput (asked : Option Asked) (input : List ℕ) (code : ℕ) (before now : List ℕ) (written : ℕ)
+    : Type 0 where
+  pub status : Status
+  pub text : List ℕ
+  pub faults : ℕ
+  pub failed : 0 < faults
+  pub runs : RunsInMemory asked input status text faults
+  pub ends : code ≡ 4
   pub none : written ≡ 0
   pub stands : now ≡ before
+
+-- what a call over an input answers
+abbrev pub IsAnswered : Option Asked → List ℕ → ℕ → List ℕ → List ℕ → ℕ → Type 0
+IsAnswered asked input code before now written =
+    IsPlaced asked input code before now written ⊎ LacksOutput asked input code before now written

@@ -1,8 +1,8 @@
-//! Calls from C: dates of calendars, what is added to them and how far apart they are, and the program as a call.
+//! Calls from C: conversion, fields, sums and differences of dates, and the program as a call.
 //!
-//! `include/icu_calendar.h` declares each call. A calendar is a code, a date is the number of its day, and what a date
-//! says comes in a plain struct. Nothing is kept between calls, and no caller has anything to free. Each call tests all
-//! that it is given, and answers a code.
+//! `bindings/c/include/icu_calendar.h` declares every call. A calendar is a code, a date is a day number, and the parts
+//! of a date come in a plain struct. The calls keep nothing between them, and the caller frees nothing. They check
+//! every argument and return a code.
 #![tactic(auto)]
 
 mod exports;
@@ -10,4 +10,3 @@ mod kept;
 mod program;
 #[cfg(test)]
 mod tests;
-mod words;

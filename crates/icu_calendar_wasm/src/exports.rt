@@ -1,4 +1,4 @@
-//! The calls on dates, exported.
+//! The calls on dates, exported. Each one has the contract of the call of `date_calls` that it wraps.
 
 ghost use Rattle.std.specs.Prelude.{◌≡◌, MatchResult, ◌≢◌, MatchBool};
 ghost use Rattle.date_calls.specs.Calendars.{calendar_of};
@@ -12,11 +12,19 @@ ghost use Rattle.date_calls.specs.Weeks.{IsWeekLeft, IsWeekTold};
 
 use date_calls::{CalendarDate, CalendarDuration, CalendarFields};
 
-/// Puts into `date` what the date of a day says in a calendar.
+/// Converts a day number to a date of a calendar, in `date`.
 ///
-/// The calendar's code is one of `ICU_CALENDAR_ISO` and the like, and `years` says whether they are computed (0) or
-/// published (1). The answer is 0, or 1 to 4, in this order, for a code that is no calendar's, one that is none of
-/// years, and a day number that isn't from -365242499 to 365242134. Then `date` is as it was.
+/// `calendar` is a code such as `ICU_CALENDAR_ISO`; `years` is 0 for computed and 1 for published years; `day` is a day
+/// number (rata die).
+///
+/// # Errors
+///
+/// Every call returns a code; 0 means that `date` is filled in. Otherwise `date` is unchanged, and the code is the
+/// first of:
+///
+/// - 1 if no calendar has the code.
+/// - 2 if `years` is neither 0 nor 1.
+/// - 4 if `day` isn't from -365242499 to 365242134.
 #[unsafe(no_mangle)]
 pub extern "C" fn icu_calendar_date_of_day(
     calendar: u8,
@@ -30,13 +38,18 @@ pub extern "C" fn icu_calendar_date_of_day(
     date_calls::date_of_day(calendar, years, day, date)
 }
 
-/// Puts into `date` what the date says that fields name in a calendar, or answers their first fault.
+/// Creates a date from fields, in `date`.
 ///
-/// An era or a month code without a byte isn't given. `overflow` is 0 or 2 where a month or a day that isn't there is
-/// refused, and 1 where it becomes the nearest; `missing` is 0 or 1 where missing fields are refused, and 2 where a
-/// missing year or day is supplied. The answer is 0, or 1 to 3 for codes that are none, or 10 to 20 for the first fault
-/// of the fields, with the greatest number that would do in `max` for 19 and 20, which is 0 otherwise. Where the answer
-/// isn't 0, `date` is as it was.
+/// An empty `era` or `month_code` counts as not given. `overflow` is 1 to constrain a month or day that doesn't exist,
+/// and 0 or 2 to reject it. `missing` is 2 to supply a missing year or day as ECMAScript Temporal does, and 0 or 1 to
+/// reject it.
+///
+/// # Errors
+///
+/// The code is 0 if `date` is filled in. Otherwise `date` is unchanged, and the code is the first of:
+///
+/// - 1, 2 or 3 for an unknown calendar, an unknown source of years or an unknown option.
+/// - 10 to 20 for the first invalid field. For 19 and 20 `max` is the greatest valid number; otherwise `max` is 0.
 #[unsafe(no_mangle)]
 pub extern "C" fn icu_calendar_date_of_fields(
     calendar: u8,
@@ -59,12 +72,17 @@ pub extern "C" fn icu_calendar_date_of_fields(
     )
 }
 
-/// Puts into `date` what the date says to which a duration leads from the date of a day in a calendar.
+/// Adds a duration to the date of a day number, in `date`.
 ///
-/// `overflow` is 2 where a month or a day that isn't there is refused, and 0 or 1 where it becomes the nearest. The
-/// answer is 0, or 1 to 4 for codes that are none and a day number that isn't valid, or 12, 17 or 20 where the sum is
-/// refused, with the greatest day that would do in `max` for 20, which is 0 otherwise. Where the answer isn't 0, `date`
-/// is as it was.
+/// `overflow` is 2 to reject a month or day that doesn't exist, and 0 or 1 to constrain it.
+///
+/// # Errors
+///
+/// The code is 0 if `date` is filled in. Otherwise `date` is unchanged, and the code is the first of:
+///
+/// - 1, 2 or 3 for an unknown calendar, an unknown source of years or an unknown option.
+/// - 4 if `day` isn't from -365242499 to 365242134.
+/// - 12, 17 or 20 if the sum fails. For 20 `max` is the month's length; otherwise `max` is 0.
 #[unsafe(no_mangle)]
 pub extern "C" fn icu_calendar_add(
     calendar: u8,
@@ -82,11 +100,17 @@ pub extern "C" fn icu_calendar_add(
     date_calls::add(calendar, years, day, duration, overflow, date, max)
 }
 
-/// Puts into `duration` how far the date of a second day is from that of a first one in a calendar: the greatest
-/// duration that doesn't lead past the second. Added to the first with `overflow` 1, it gives the second.
+/// Computes the difference between the dates of two day numbers, in `duration`: the greatest duration that doesn't lead
+/// past the second. Adding it to the first date, with `overflow` 1, returns the second.
 ///
-/// The largest unit is years (1), months (2), weeks (3) or days (0 or 4). The answer is 0, or 1 to 4 for codes that are
-/// none and day numbers that aren't valid; then `duration` is as it was.
+/// The largest unit is years (1), months (2), weeks (3) or days (0 or 4).
+///
+/// # Errors
+///
+/// The code is 0 if `duration` is filled in. Otherwise `duration` is unchanged, and the code is the first of:
+///
+/// - 1, 2 or 3 for an unknown calendar, an unknown source of years or an unknown unit.
+/// - 4 if a day number isn't from -365242499 to 365242134.
 #[unsafe(no_mangle)]
 pub extern "C" fn icu_calendar_until(
     calendar: u8,
@@ -103,9 +127,16 @@ pub extern "C" fn icu_calendar_until(
     date_calls::until(calendar, years, first, second, unit, duration)
 }
 
-/// Puts the code of the era that a day's year is in at the start of `room`, and the count of its bytes, at most 16, into
-/// `written`: 0 for a year of a cycle. The answer is 0, or 1 to 4 as for `icu_calendar_date_of_day`, with 0 in
-/// `written`, or 8 where the room is too short. Where it isn't 0, `room` is as it was.
+/// Writes the code of the era of a day's year to the start of `room`, and its number of bytes, at most 16, to
+/// `written`. A year of a cycle has no era: `written` is 0.
+///
+/// # Errors
+///
+/// The code is 0 if the era is written. Otherwise `room` is unchanged, and the code is the first of:
+///
+/// - 1 or 2 for an unknown calendar or an unknown source of years, with 0 in `written`.
+/// - 4 if `day` isn't from -365242499 to 365242134, with 0 in `written`.
+/// - 8 if `room` is too short; `written` is the number of bytes needed.
 #[unsafe(no_mangle)]
 pub extern "C" fn icu_calendar_era_of_day(
     calendar: u8,
@@ -120,9 +151,13 @@ pub extern "C" fn icu_calendar_era_of_day(
     date_calls::era_of_day(calendar, years, day, room, written)
 }
 
-/// Puts into `day` the day number of Easter in a year of the Gregorian calendar (`rule` 0), or of the Julian calendar
-/// by the older rule (1). The rules are carried on to all years, so that the day may not be valid where the year hasn't
-/// at most six digits. The answer is 0, or 3 for a rule that is none; then `day` is as it was.
+/// Computes the day number of Easter, in `day`: in a year of the Gregorian calendar (`rule` 0), or in a year of the
+/// Julian calendar by the older rule (`rule` 1). The rules are extended to all years, so a year of more than six digits
+/// may lead to a day number outside the valid range.
+///
+/// # Errors
+///
+/// - 3 for an unknown rule; `day` is unchanged. Otherwise the code is 0.
 #[unsafe(no_mangle)]
 pub extern "C" fn icu_calendar_easter(rule: u8, year: i32, day: &mut i64) -> u8
     ensures gregorian { rule ≡ 0 → (result ≡ 0) × IsGregorianEaster year day.new }
@@ -132,9 +167,14 @@ pub extern "C" fn icu_calendar_easter(rule: u8, year: i32, day: &mut i64) -> u8
     date_calls::easter(rule, year, day)
 }
 
-/// Puts the week of a day, and the year that it belongs to, into `week` and `year` (ISO 8601): a week runs from Monday to
-/// Sunday and belongs to the year of its Thursday, so that week 1 has the year's first Thursday. The answer is 0, or 4
-/// for a day number that isn't from -365242499 to 365242134; then both are as they were.
+/// Computes the ISO 8601 week of a day number, from 1 to 53, and the year that it belongs to, in `week` and `year`.
+///
+/// A week runs from Monday to Sunday and belongs to the year of its Thursday, so week 1 has the year's first Thursday.
+/// (ISO 8601)
+///
+/// # Errors
+///
+/// - 4 if `day` isn't from -365242499 to 365242134; both are unchanged. Otherwise the code is 0.
 #[unsafe(no_mangle)]
 pub extern "C" fn icu_calendar_week_of_year(day: i64, year: &mut i32, week: &mut u8) -> u8
     ensures { MatchBool (is_valid_day day) (IsWeekTold day result year.new week.new)

@@ -1,6 +1,7 @@
-//! The calls on dates for a WebAssembly module: those of `icu_calendar_c` that take no memory.
+//! The calls on dates for a WebAssembly module: the calls of `icu_calendar_c` that take no memory.
 //!
-//! `web/build.sh` makes the module of it, and `web/icu_calendar.mjs` has them as functions and classes of JavaScript.
+//! `bindings/web/build.sh` builds the module, and `bindings/web/icu_calendar.mjs` wraps it in functions and classes of
+//! JavaScript.
 #![tactic(auto)]
 
 mod exports;

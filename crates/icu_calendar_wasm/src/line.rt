@@ -1,4 +1,4 @@
-//! The answer to a line of requests.
+//! The answer to a single request line.
 
 ghost use Rattle.std.specs.Prelude.{◌≡◌, MatchOption};
 ghost use Rattle.cal_tables.specs.Kinds.{table_contents};
@@ -32,17 +32,20 @@ fn answer_over(
     }
 }
 
-/// Puts the answer to a line, which has no LF, at the start of `output`, and the count of its bytes in `written`: what
-/// `calspan span` writes for it behind other requests, where the line has this number, from 1. No answer is longer than
-/// 512 bytes.
+/// Writes the answer to a request line to the start of `output`, and its number of bytes to `written`.
 ///
-/// `years` says whether years are computed (0) or published (1). The call answers
+/// The answer is what `calspan span` writes for the line behind other requests, if the line has this number, from 1.
+/// The line has no LF. No answer is longer than 512 bytes. `years` is 0 for computed and 1 for published years.
 ///
-/// - 0: the answer is there; an ignored line has none;
-/// - 1: the answer is there, and is `err`;
-/// - 2: the code for the years is none, and `output` is as it was;
-/// - 6: the line has a row of a table, and the line that refuses it is there;
-/// - 8: the answer is longer than `output`, which is as it was.
+/// # Errors
+///
+/// The code is
+///
+/// - 0 if the answer is written. An ignored line has an empty answer.
+/// - 1 if the answer is written and begins with `err`.
+/// - 2 if `years` is neither 0 nor 1; `output` is unchanged.
+/// - 6 if the line is a row of a table; the line that rejects it is written.
+/// - 8 if the answer is longer than `output`, which is unchanged.
 #[unsafe(no_mangle)]
 pub extern "C" fn calspan_answer(
     years: u8,

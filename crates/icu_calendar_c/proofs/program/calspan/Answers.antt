@@ -1,5 +1,6 @@
-use Rattle.icu_calendar_c.proofs.ProgramLemmas.{says_words}
+use Rattle.std.proofs.Common.{refl}
+use Rattle.icu_calendar_c.proofs.ProgramLemmas.{no_command}
 use Rattle.icu_calendar_c.proofs.program.calspan.Goals as goal
 
-pub returns-in-Ok-clause-words : goal.returns-in-Ok-clause-words
-returns-in-Ok-clause-words c kept = says_words _ _ _ c.in-Ok.ensures.cases.0 c.in-Ok.ensures.cases.1 (c.answer.ensures.words kept)
+pub returns-in-Err-clause-no_text : goal.returns-in-Err-clause-no_text
+returns-in-Err-clause-no_text c bad = no_command _ _ _ _ _ c.code.ensures refl refl

@@ -2,7 +2,7 @@
 # Builds the calls from C: the archive crates/icu_calendar_c/out/libicu_calendar_c.a, which is proved first, and by the system's C compiler
 # ($CC or cc) the shared object libicu_calendar.so beside it, which wants the C library alone.
 set -eu
-top=$(cd "$(dirname "${BASH_SOURCE[0]}")/.." && pwd)
+top=$(cd "$(dirname "${BASH_SOURCE[0]}")/../.." && pwd)
 crate=$top/crates/icu_calendar_c
 archive=$crate/out/libicu_calendar_c.a
 shared=$crate/out/libicu_calendar.so

@@ -7,7 +7,7 @@ from pathlib import Path
 
 from icu_calendar import Calendar, anniversaries, holidays, recurrences, run, span
 
-TOP = Path(__file__).resolve().parents[2]
+TOP = Path(__file__).resolve().parents[3]
 CASES = TOP / "cases"
 sys.path.insert(0, str(CASES))
 

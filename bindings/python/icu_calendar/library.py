@@ -69,13 +69,13 @@ def places() -> list[Path]:
     """Where the shared object may be, the first place first."""
     here = Path(__file__).resolve().parent
     named = os.environ.get("ICU_CALENDAR_LIBRARY")
-    return [*([Path(named)] if named else []), here / NAME, here.parent.parent / "crates/icu_calendar_c/out" / NAME]
+    return [*([Path(named)] if named else []), here / NAME, here.parents[2] / "crates/icu_calendar_c/out" / NAME]
 
 
 def load() -> ctypes.CDLL:
     path = next((it for it in places() if it.exists()), None)
     if path is None:
-        raise ImportError(f"{NAME} is in none of these places: {', '.join(map(str, places()))}; build/shared.sh makes it")
+        raise ImportError(f"{NAME} is in none of these places: {', '.join(map(str, places()))}; bindings/c/build.sh makes it")
     library = ctypes.CDLL(str(path))
     for name, types in TYPES.items():
         call = getattr(library, name)

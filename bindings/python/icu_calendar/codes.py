@@ -1,10 +1,10 @@
-"""The codes that calls take, as the header has them."""
+"""The codes that the calls take, as in the header."""
 
 from enum import IntEnum
 
 
 class Calendar(IntEnum):
-    """A calendar. `program_name` is its name in the words of the program."""
+    """A calendar. `program_name` is its name in the program."""
 
     BUDDHIST = 0
     CHINESE = 1
@@ -33,14 +33,14 @@ class Calendar(IntEnum):
 
 
 class Years(IntEnum):
-    """Where the years of the calendars come from that go by tables: each is computed, or published years stand in their place."""
+    """Where the years of `chinese`, `dangi`, `islamic-umalqura` and `persian` come from: computed or published."""
 
     COMPUTED = 0
     PUBLISHED = 1
 
 
 class Overflow(IntEnum):
-    """What becomes of a month or a day that isn't there."""
+    """How to handle a month or day that doesn't exist."""
 
     DEFAULT = 0
     CONSTRAIN = 1
@@ -48,7 +48,7 @@ class Overflow(IntEnum):
 
 
 class Missing(IntEnum):
-    """What becomes of fields that name no whole date."""
+    """How to handle missing fields."""
 
     DEFAULT = 0
     REJECT = 1

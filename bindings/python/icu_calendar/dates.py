@@ -16,7 +16,7 @@ ERA_ROOM = 16
 
 
 def settle(code: int, limit: int = 0) -> None:
-    """Raises the error of a code, where it is one's."""
+    """Raises the error of a code, unless the code is 0."""
     if code:
         raise BY_CODE[code](limit)
 
@@ -27,7 +27,7 @@ def fits(number: int | None, low: int, high: int) -> bool:
 
 @dataclass(frozen=True)
 class Duration:
-    """A signed duration: the parts have no sign, and `is_negative` turns the whole back in time."""
+    """A signed duration. Its parts have no sign; `is_negative` turns the whole back in time."""
 
     years: int = 0
     months: int = 0
@@ -36,7 +36,7 @@ class Duration:
     is_negative: bool = False
 
     def __str__(self) -> str:
-        """The duration as ISO 8601 writes it."""
+        """Returns the duration as ISO 8601 writes it."""
         parts = ((self.years, "Y"), (self.months, "M"), (self.weeks, "W"), (self.days, "D"))
         text = "".join(f"{number}{letter}" for number, letter in parts if number)
         return f"{'-' if self.is_negative else ''}P{text or '0D'}"
@@ -53,7 +53,7 @@ class Duration:
 @total_ordering
 @dataclass(frozen=True, eq=False)
 class Date:
-    """A date of a calendar. Dates are equal, and ordered, by their days."""
+    """A date of a calendar. Dates are compared by their day numbers."""
 
     calendar: Calendar
     years: Years
@@ -68,9 +68,9 @@ class Date:
 
     @classmethod
     def of_day(cls, day_number: int, calendar: Calendar = Calendar.ISO, years: Years = Years.COMPUTED) -> Date:
-        """The date of a day: day 1 is 0001-01-01 in the ISO calendar.
+        """Returns the date of a day number (rata die): 1 is 0001-01-01 in the ISO calendar.
 
-        InvalidDayNumber is raised where the number isn't from -365242499 to 365242134."""
+        Raises InvalidDayNumber if the number isn't from -365242499 to 365242134."""
         if not fits(day_number, -(2**63), 2**63 - 1):
             raise InvalidDayNumber
         parts = DateParts()
@@ -79,7 +79,7 @@ class Date:
 
     @classmethod
     def of_date(cls, date: datetime.date, calendar: Calendar = Calendar.ISO, years: Years = Years.COMPUTED) -> Date:
-        """The date of the day of a `datetime.date`."""
+        """Returns the date of the same day as a `datetime.date`."""
         return cls.of_day(date.toordinal(), calendar, years)
 
     @classmethod
@@ -99,8 +99,10 @@ class Date:
         overflow: Overflow = Overflow.DEFAULT,
         missing: Missing = Missing.DEFAULT,
     ) -> Date:
-        """The date that fields name: a year (the extended one), or an era and a year in it; a month by its number, by its code or by its
-        place in the year; and a day. By default what isn't there is refused, each refusal by an error of its own."""
+        """Creates a date from fields: an extended year, or an era and an era year; a month by its number, its code or its ordinal number in the
+        year; and a day. By default a month or day that doesn't exist is rejected.
+
+        Raises the subclass of CalendarError for the first invalid field."""
         if not (fits(year, -(2**31), 2**31 - 1) and fits(era_year, -(2**31), 2**31 - 1)):
             raise OutOfRange
         if not all(fits(it, 0, 255) for it in (month, ordinal_month, day)):
@@ -144,12 +146,12 @@ class Date:
 
     @property
     def month_code(self) -> str:
-        """The code of the month, such as M05L."""
+        """The month code, such as M05L."""
         return f"M{self.month_number:02}{'L' if self.month_is_leap else ''}"
 
     @property
     def era(self) -> str | None:
-        """The code of the era that the year is in. None for a year of the cycle of sixty."""
+        """The code of the year's era, or None for a year of the cycle of sixty."""
         room, count = create_string_buffer(ERA_ROOM), c_size_t()
         settle(library.icu_calendar_era_of_day(self.calendar, self.years, self.day_number, room, ERA_ROOM, byref(count)))
         return room.raw[: count.value].decode() or None
@@ -160,21 +162,21 @@ class Date:
         return (self.day_number - 1) % 7 + 1
 
     def week_of_year(self) -> tuple[int, int]:
-        """The year and the number of the week, as ISO 8601 counts them."""
+        """Returns the ISO 8601 week as a pair of its year and its number, from 1 to 53."""
         year, week = c_int32(), c_uint8()
         settle(library.icu_calendar_week_of_year(self.day_number, byref(year), byref(week)))
         return year.value, week.value
 
     def to_calendar(self, calendar: Calendar, years: Years | None = None) -> Date:
-        """The date of the same day in another calendar, over the same years where no others are named."""
+        """Returns the same day in another calendar, over the same source of years unless another is named."""
         return Date.of_day(self.day_number, calendar, self.years if years is None else years)
 
     def to_date(self) -> datetime.date:
-        """The day as a `datetime.date`, which has the years 1 to 9999."""
+        """Returns the day as a `datetime.date`, which has the years 1 to 9999."""
         return datetime.date.fromordinal(self.day_number)
 
     def add(self, duration: Duration, overflow: Overflow = Overflow.DEFAULT) -> Date:
-        """The date with a duration added, in years, months, weeks and days. By default a month or a day that isn't there becomes the nearest."""
+        """Returns the date with a duration added. By default a month or day that doesn't exist becomes the nearest one that does."""
         parts, limit = DateParts(), c_uint8()
         given = duration._parts()
         code = library.icu_calendar_add(
@@ -184,8 +186,8 @@ class Date:
         return Date._of(parts, self.calendar, self.years)
 
     def until(self, other: Date, largest_unit: Unit = Unit.DAYS) -> Duration:
-        """The greatest duration, counted in this date's calendar, that leads to the other date and not past it. Added to this date, it gives
-        the day of the other one."""
+        """Returns the greatest duration, counted in this date's calendar, that doesn't lead past the other date. Adding it to this date returns
+        the other day."""
         parts = DurationParts()
         settle(library.icu_calendar_until(self.calendar, self.years, self.day_number, other.day_number, largest_unit, byref(parts)))
         return Duration(parts.years, parts.months, parts.weeks, parts.days, bool(parts.is_negative))
@@ -210,10 +212,10 @@ class Date:
 
 
 def easter(year: int, rule: Calendar = Calendar.GREGORIAN) -> Date:
-    """The date of Easter in a year of the Gregorian or of the Julian calendar, in that calendar.
+    """Returns the date of Easter in a year of the Gregorian or of the Julian calendar, in that calendar.
 
-    UnknownOption is raised for the rule of another calendar, OutOfRange where the year has more than 32 bits, and InvalidDayNumber where the day
-    isn't in the valid range."""
+    Raises UnknownOption for the rule of another calendar, OutOfRange if the year has more than 32 bits, and InvalidDayNumber if the day isn't in
+    the valid range."""
     rules = (Calendar.GREGORIAN, Calendar.JULIAN)
     if rule not in rules:
         raise UnknownOption

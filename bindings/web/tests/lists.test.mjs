@@ -7,8 +7,8 @@ import { fileURLToPath } from "node:url";
 import { CalendarError, load } from "../icu_calendar.mjs";
 import { CAUSES, fieldsOf, written } from "./forms.mjs";
 
-const top = new URL("../../", import.meta.url);
-const module = process.env.ICU_CALENDAR_MODULE ?? fileURLToPath(new URL("web/icu_calendar.wasm", top));
+const top = new URL("../../../", import.meta.url);
+const module = process.env.ICU_CALENDAR_MODULE ?? fileURLToPath(new URL("bindings/web/icu_calendar.wasm", top));
 const calendars = await load(readFileSync(module));
 const cases = readFileSync(new URL("cases/lists.jsonl", top), "utf8").trim().split("\n").map((line) => JSON.parse(line));
 // Lists over more days than these take their time year by year.

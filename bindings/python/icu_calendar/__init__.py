@@ -1,4 +1,4 @@
-"""Dates of sixteen calendars, and the program calspan, by a proved library.
+"""Dates of twenty calendars, and the program calspan, over a proved library.
 
     >>> from icu_calendar import Calendar, Date, Years
     >>> Date.of_fields(Calendar.HEBREW, year=5784, month=1, day=1).to_calendar(Calendar.ISO)
@@ -6,8 +6,8 @@
     >>> Date.of_fields(Calendar.CHINESE, Years.PUBLISHED, year=2024, month=1, day=1).to_date()
     datetime.date(2024, 2, 10)
 
-The library is a shared object, which `build/shared.sh` of the repository makes. It is looked for in the place that the environment variable
-ICU_CALENDAR_LIBRARY names, beside this file, and where that script puts it.
+The library is a shared object, which `bindings/c/build.sh` of the repository builds. It is searched for in the place that the environment
+variable ICU_CALENDAR_LIBRARY names, beside this file, and where that script puts it.
 """
 
 from .codes import Calendar, Missing, Overflow, Unit, Years

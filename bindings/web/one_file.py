@@ -23,7 +23,7 @@ def main() -> int:
     scripts = "\n".join(script(name) for name in ("icu_calendar.mjs", "names.mjs", "page.mjs"))
     begin = '<script type="module">\n'
     if count != 2 or begin not in page or 'fetch("icu_calendar.wasm")' not in page:
-        sys.exit("web/index.html isn't as this script takes it apart")
+        sys.exit("bindings/web/index.html isn't as this script takes it apart")
     page = page.replace('fetch("icu_calendar.wasm")', 'fetch(`data:application/wasm;base64,${MODULE}`)')
     sys.stdout.write(page.replace(begin, f'{begin}const MODULE = "{module}";\n{scripts}\n'))
     return 0

@@ -15,7 +15,7 @@ LEAST_ROOM = 1 << 12
 
 
 class Outcome(NamedTuple):
-    """How a run of the program ended: its exit status, and what it wrote."""
+    """The exit status of a run of the program, and what it wrote."""
 
     status: int
     output: bytes
@@ -24,7 +24,7 @@ class Outcome(NamedTuple):
 def run(words: Sequence[str], source: bytes = b"") -> Outcome:
     """Runs the program on the words of a command line, with these bytes as its standard input.
 
-    MemoryError is raised where there is no memory, and ValueError for a word that is empty or holds a space."""
+    Raises MemoryError if there is no memory, and ValueError for a word that is empty or has a space."""
     if any(not it or " " in it for it in words):
         raise ValueError("a word is empty or holds a space")
     text = " ".join(words).encode()
@@ -40,8 +40,9 @@ def run(words: Sequence[str], source: bytes = b"") -> Outcome:
 
 
 def span(lines: bytes, rows: bytes = b"") -> bytes:
-    """The answers to request lines, a line each, over the tables of row lines. `err` is an answer; a row or a table that is refused raises
-    Refused, and an input that is longer than the program reads ProgramError."""
+    """Returns the answers to request lines, a line each, over the tables of row lines. `err` is an answer, too.
+
+    Raises Refused for an invalid row or table, and ProgramError if the input is longer than the program reads."""
     status, output = run(["span"], rows + lines)
     settle(status, output, refusals=(TABLE_REFUSED,))
     return output
@@ -57,7 +58,7 @@ def settle(status: int, output: bytes, refusals: tuple[int, ...]) -> None:
 
 
 def lines_of(words: Sequence[str], source: bytes) -> list[str]:
-    """The lines that a list writes. Refused is raised with the line that refuses it."""
+    """Returns the lines of a list. Raises Refused, with the error line, if the arguments or rows are invalid."""
     status, output = run(words, source)
     settle(status, output, refusals=(REFUSED, TABLE_REFUSED))
     return output.decode().splitlines()
@@ -66,8 +67,8 @@ def lines_of(words: Sequence[str], source: bytes) -> list[str]:
 def anniversaries(
     calendar: Calendar, month_code: str, day: int, first: int, last: int, *, shown: Calendar = Calendar.ISO, exact: bool = True, rows: bytes = b""
 ) -> list[str]:
-    """The days from the day number `first` to `last` that a month and a day of a calendar name: for each, its date there and in `shown`.
-    Years that lack the month or the day are passed by, or where `exact` is False have the nearest."""
+    """Returns the anniversaries of a month and a day of a calendar, from day number `first` to `last`: a line each, with the date there and in
+    `shown`. Years without the month or day are skipped or, if `exact` is False, have the nearest one."""
     names = calendar.program_name, shown.program_name, "exact" if exact else "constrain"
     return lines_of(["anniversary", *names, month_code, str(day), str(first), str(last)], rows)
 
@@ -84,13 +85,13 @@ def recurrences(
     skip: bool = True,
     rows: bytes = b"",
 ) -> list[str]:
-    """The occurrences, from the day number `first` to `last`, of every so many `years`, `months`, `weeks` or `days` from the date that fields
-    such as `year=2024` name: for each, its index, its date there and in `shown`. Months or years that lack the day are skipped, or where
-    `skip` is False have the nearest."""
+    """Returns the occurrences from day number `first` to `last`: every so many `years`, `months`, `weeks` or `days` from the date that fields
+    such as `year=2024` name. A line each, with the index, the date there and in `shown`. Months or years without the day are skipped or, if
+    `skip` is False, have the nearest one."""
     names = calendar.program_name, shown.program_name, unit, str(every), "skip" if skip else "constrain"
     return lines_of(["recur", *names, str(first), str(last), *fields], rows)
 
 
 def holidays(book: bytes, first: int, last: int) -> list[str]:
-    """The holidays of a book from the day number `first` to `last`: for each, its date in the ISO calendar and its name."""
+    """Returns the holidays of a book from day number `first` to `last`: a line each, with the ISO date and the name."""
     return lines_of(["holidays", str(first), str(last)], book)

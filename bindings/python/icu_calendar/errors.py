@@ -1,8 +1,8 @@
-"""Why a call is refused."""
+"""The errors of the calls."""
 
 
 class CalendarError(ValueError):
-    """A call on dates is refused. `code` is that of the header, and `max` the greatest number that would do, where there is one."""
+    """A call on dates failed. `code` is the header's code, and `max` the greatest valid number, or 0 if the error has none."""
 
     code = 0
 
@@ -12,19 +12,19 @@ class CalendarError(ValueError):
 
 
 class UnknownCalendar(CalendarError):
-    """The code is no calendar's."""
+    """No calendar has the code."""
 
     code = 1
 
 
 class UnknownYears(CalendarError):
-    """The code says neither computed nor published years."""
+    """The code stands for neither computed nor published years."""
 
     code = 2
 
 
 class UnknownOption(CalendarError):
-    """The code of an option is none."""
+    """No option has the code."""
 
     code = 3
 
@@ -36,7 +36,7 @@ class InvalidDayNumber(CalendarError):
 
 
 class NotEnoughFields(CalendarError):
-    """The fields name no whole date."""
+    """A field that the date needs is missing."""
 
     code = 10
 
@@ -48,7 +48,7 @@ class TooManyFields(CalendarError):
 
 
 class OutOfRange(CalendarError):
-    """A year, a duration or a date is beyond what the calendars hold."""
+    """A year, a duration or a date is out of range."""
 
     code = 12
 
@@ -60,7 +60,7 @@ class InvalidEra(CalendarError):
 
 
 class InconsistentYear(CalendarError):
-    """The year in its era and the extended year differ."""
+    """The era year and the extended year differ."""
 
     code = 14
 
@@ -84,13 +84,13 @@ class MonthNotInYear(CalendarError):
 
 
 class InconsistentMonth(CalendarError):
-    """The month and its place in the year differ."""
+    """The month and the ordinal month differ."""
 
     code = 18
 
 
 class InvalidOrdinalMonth(CalendarError):
-    """The year doesn't have a month in this place."""
+    """The year doesn't have this ordinal month."""
 
     code = 19
 
@@ -105,7 +105,7 @@ BY_CODE = {it.code: it for it in CalendarError.__subclasses__()}
 
 
 class ProgramError(ValueError):
-    """The program was asked for nothing that it does, or given more than it reads. `status` is its exit status, and `output` what it wrote."""
+    """The words are no command, or the input is too long. `status` is the program's exit status, and `output` what it wrote."""
 
     def __init__(self, why: str, status: int, output: bytes):
         super().__init__(why)
@@ -113,4 +113,4 @@ class ProgramError(ValueError):
 
 
 class Refused(ProgramError):
-    """The program refused what it was given by a line, which is the last one of `output`."""
+    """The program rejected its arguments or input. The last line of `output` says why."""

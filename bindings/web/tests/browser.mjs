@@ -64,7 +64,7 @@ function random(seed) {
 
 /** What the program shows of ISO dates in each calendar, over the published years. */
 function programsAnswers(dates, calendars) {
-  const folder = new URL("../../rows/", import.meta.url);
+  const folder = new URL("../../../rows/", import.meta.url);
   const rows = readdirSync(folder).filter((it) => it.endsWith(".rows")).map((it) => readFileSync(new URL(it, folder), "utf8")).join("");
   const requests = dates.flatMap(({ year, month, day }) => calendars.map((it) => `span iso ${it} days reject none from ${fields(year, month, day)} to ${fields(year, month, day)}`));
   const out = execFileSync(program, ["span"], { input: `${rows}${requests.join("\n")}\n`, encoding: "utf8", maxBuffer: 2 ** 26 }).split("\n");

@@ -13,19 +13,19 @@
  * @typedef {"buddhist" | "chinese" | "coptic" | "dangi" | "ethiopic" | "ethioaa" | "gregorian" | "hebrew" | "indian" | "islamic-civil"
  *   | "islamic-simulated" | "islamic-tbla" | "islamic-umalqura" | "iso" | "japanese" | "julian" | "persian" | "roc" | "islamic-type1-friday"
  *   | "islamic-type1-thursday"} CalendarName
- * @typedef {"computed" | "published"} Years where the years come from of calendars that go by tables
- * @typedef {"constrain" | "reject"} Overflow what becomes of a month or a day that isn't there: the nearest, or a refusal
+ * @typedef {"computed" | "published"} Years where the years of `chinese`, `dangi`, `islamic-umalqura` and `persian` come from
+ * @typedef {"constrain" | "reject"} Overflow how to handle a month or day that doesn't exist: use the nearest one, or fail
  * @typedef {"years" | "months" | "weeks" | "days"} Unit
  *
- * @typedef {object} Fields which fields a date is made of; a year or an era with a year in it, a month in one of four ways, and a day
+ * @typedef {object} Fields the fields of a date: a year or an era and an era year, a month in one of four forms, and a day
  * @property {CalendarName} calendar
  * @property {number} [year] the extended year
  * @property {string} [era] the code of an era, such as `ce`
- * @property {number} [eraYear] the year in the era
+ * @property {number} [eraYear] the era year
  * @property {number} [month] the number of a month
  * @property {boolean} [monthIsLeap] whether the month of that number is the leap month
  * @property {string} [monthCode] the code of a month, such as `M05L`
- * @property {number} [ordinalMonth] the place of a month in its year, from 1
+ * @property {number} [ordinalMonth] the number of a month in its year, from 1
  * @property {number} [day] the day of the month
  *
  * @typedef {object} DurationLike
@@ -33,10 +33,10 @@
  * @property {number} [months]
  * @property {number} [weeks]
  * @property {number} [days]
- * @property {boolean} [isNegative] whether the whole goes back in time
+ * @property {boolean} [isNegative] whether the duration leads back in time
  */
 
-/** The calendars, each in the place of its code. @type {readonly CalendarName[]} */
+/** The calendars in the order of their codes. @type {readonly CalendarName[]} */
 export const CALENDARS = Object.freeze([
   "buddhist", "chinese", "coptic", "dangi", "ethiopic", "ethioaa", "gregorian", "hebrew", "indian", "islamic-civil",
   "islamic-simulated", "islamic-tbla", "islamic-umalqura", "iso", "japanese", "julian", "persian", "roc", "islamic-type1-friday",
@@ -55,7 +55,7 @@ const OVERFLOWS = ["default", "constrain", "reject"];
 const MISSING = ["default", "reject", "ecma"];
 const UNITS = ["default", "years", "months", "weeks", "days"];
 
-/** What each code of a refusal names, and what it says. @type {ReadonlyMap<number, readonly [string, string]>} */
+/** The cause of each error code, and its message. @type {ReadonlyMap<number, readonly [string, string]>} */
 const CAUSES = new Map([
   [1, ["UnknownCalendar", "There is no calendar of this name."]],
   [2, ["UnknownYears", "Years are computed or published."]],
@@ -77,7 +77,7 @@ const CAUSES = new Map([
   [102, ["Every", "The number of units isn't from 1 to 4294967295."]],
 ]);
 
-/** A call is refused: `cause` names why, and `max` is the greatest number that would do, where there is one. */
+/** A call failed: `cause` names the cause, and `max` is the greatest valid number, if there is one. */
 export class CalendarError extends RangeError {
   /** @param {number} code the code that the call answered @param {number} [max] */
   constructor(code, max = 0) {
@@ -95,14 +95,14 @@ function settle(code, max = 0) {
   if (code) throw new CalendarError(code, max);
 }
 
-/** The place of a word in a list, as a code. @param {readonly string[]} list @param {string} word @param {number} code */
+/** Returns the place of a word in a list as a code. @param {readonly string[]} list @param {string} word @param {number} code */
 function codeOf(list, word, code) {
   const place = list.indexOf(word);
   if (place < 0) throw new CalendarError(code);
   return place;
 }
 
-/** A whole number from low to high, where it is given. @param {number | undefined} number @param {number} low @param {number} high */
+/** Checks that a number, if given, is a whole number from low to high. @param {number | undefined} number @param {number} low @param {number} high */
 function within(number, low, high) {
   if (number !== undefined && !(Number.isInteger(number) && low <= number && number <= high)) throw new CalendarError(12);
   return number ?? 0;
@@ -113,7 +113,7 @@ export function monthCode(number, isLeap = false) {
   return `M${String(number).padStart(2, "0")}${isLeap ? "L" : ""}`;
 }
 
-/** A signed duration: the parts have no sign. */
+/** A signed duration. Its parts have no sign. */
 export class Duration {
   /** @param {DurationLike} parts */
   constructor({ years = 0, months = 0, weeks = 0, days = 0, isNegative = false } = {}) {
@@ -137,7 +137,7 @@ export class Duration {
   }
 }
 
-/** A date of a calendar. Dates are made by `Calendars`, and don't change. */
+/** A date of a calendar. `Calendars` creates dates; they don't change. */
 export class CalendarDate {
   #calendars;
 
@@ -187,7 +187,7 @@ export class CalendarDate {
   }
 
   /**
-   * The date with a duration added, as ECMAScript Temporal adds one.
+   * Returns the date with a duration added, as ECMAScript Temporal adds one.
    * @param {DurationLike} duration @param {{ overflow?: Overflow }} [options]
    */
   add(duration, { overflow = "constrain" } = {}) {
@@ -195,7 +195,7 @@ export class CalendarDate {
   }
 
   /**
-   * The greatest duration, counted in this date's calendar, that leads to the other date and not past it.
+   * Returns the greatest duration, counted in this date's calendar, that doesn't lead past the other date.
    * @param {CalendarDate} other @param {{ largestUnit?: Unit }} [options]
    */
   until(other, { largestUnit = "days" } = {}) {
@@ -208,8 +208,8 @@ export class CalendarDate {
   }
 
   /**
-   * The next days that this date's month and day have after it, in years that have them, one a year.
-   * @param {number} count how many @param {{ overflow?: Overflow }} [options] `constrain` takes the nearest day in other years
+   * Returns the next dates with this date's month and day, one a year, in the years that have them.
+   * @param {number} count how many @param {{ overflow?: Overflow }} [options] `constrain` uses the nearest day in other years
    */
   anniversaries(count, { overflow = "reject" } = {}) {
     /** @type {CalendarDate[]} */
@@ -238,7 +238,7 @@ const LACKING = new Set(["MonthNotInYear", "InvalidDay", "OutOfRange"]);
 const LONGEST_LINE = 700;
 const LONGEST_ANSWER = 512;
 
-/** The module's calls. Make one by `load`. */
+/** The module's calls. `load` creates one. */
 export class Calendars {
   #calls;
   #base;
@@ -278,7 +278,7 @@ export class Calendars {
   }
 
   /**
-   * The date of a day: day 1 is 0001-01-01 in the ISO calendar.
+   * Returns the date of a day number (rata die): 1 is 0001-01-01 in the ISO calendar.
    * @param {number} dayNumber @param {CalendarName} [calendar] @param {Years} [years]
    */
   dateOfDay(dayNumber, calendar = "iso", years = "published") {
@@ -289,7 +289,7 @@ export class Calendars {
   }
 
   /**
-   * The date that fields name. A refusal is a `CalendarError` whose `cause` names the first fault.
+   * Creates a date from fields. Throws a `CalendarError` whose `cause` names the first invalid field.
    * @param {Fields} fields @param {{ years?: Years, overflow?: Overflow, missing?: "reject" | "ecma" }} [options]
    */
   dateOfFields(fields, { years = "published", overflow = "reject", missing = "reject" } = {}) {
@@ -311,7 +311,7 @@ export class Calendars {
   }
 
   /**
-   * The same, or null where it is refused for one of these causes, and for any where none is named.
+   * Does the same as `dateOfFields`, but returns null for one of these causes, or for any cause if none is named.
    * @param {Fields} fields @param {Years} years @param {Overflow} overflow @param {ReadonlySet<string>} [causes]
    */
   dateOrNull(fields, years, overflow, causes) {
@@ -324,10 +324,10 @@ export class Calendars {
   }
 
   /**
-   * The days from `first` to `last`, as day numbers, that a month and a day name, one a year and in order.
+   * Yields the anniversaries of a month and a day from day number `first` to `last`, in order.
    * @param {{ calendar: CalendarName, monthCode: string, day: number }} fields
-   * @param {{ first: number, last: number, years?: Years, overflow?: Overflow }} window `reject` leaves years out that don't have the day, and
-   *   `constrain` takes the nearest in them
+   * @param {{ first: number, last: number, years?: Years, overflow?: Overflow }} window `reject` skips years that don't have the day, and
+   *   `constrain` uses the nearest one in them
    * @returns {Generator<CalendarDate>}
    */
   *anniversaries(fields, { first, last, years = "published", overflow = "reject" }) {
@@ -342,9 +342,9 @@ export class Calendars {
   }
 
   /**
-   * The days from `first` to `last` that lie so many times a number of units behind a date, each counted from it, with the number of times.
+   * Yields the occurrences from `first` to `last`: a start with a number of units added 0, 1, 2 and more times, with that index.
    * @param {CalendarDate} start
-   * @param {{ first: number, last: number, unit: Unit, every?: number, overflow?: Overflow }} rule `reject` leaves out what isn't there
+   * @param {{ first: number, last: number, unit: Unit, every?: number, overflow?: Overflow }} rule `reject` skips days that don't exist
    * @returns {Generator<{ index: number, date: CalendarDate }>}
    */
   *recurrences(start, { first, last, unit, every = 1, overflow = "constrain" }) {
@@ -430,7 +430,7 @@ export class Calendars {
   }
 
   /**
-   * What the program `calspan span` answers to a line behind other requests.
+   * Returns what the program `calspan span` answers to a line behind other requests.
    * @param {string | Uint8Array} line without a line feed @param {number} number of the line, from 1 @param {Years} [years]
    * @returns {{ text: string, status: number }} the answer, and 0, 1 where it is `err`, or 6 where the line has a row of a table
    */

@@ -1,0 +1,36 @@
+#!/usr/bin/env bash
+# Tests the calls from C: the examples under the address and undefined-behaviour sanitizers over all cases, and the Python module. Prints a
+# note if the C compiler or Python is missing, and runs the remaining tests.
+set -eu
+top=$(cd "$(dirname "${BASH_SOURCE[0]}")/../.." && pwd)
+cc=${CC:-cc}
+if ! command -v "$cc" >/dev/null; then
+  echo "bindings/c/check: not tested, since there is no C compiler ($cc)"
+  exit 0
+fi
+shared=$("$top/bindings/c/build.sh" | tail -n 1)
+archive=$top/crates/icu_calendar_c/out/libicu_calendar_c.a
+heap=$(dirname "$(dirname "$(readlink -f "$(command -v rt)")")")/c/liblibc_c.a
+room=$(mktemp -d)
+trap 'rm -rf "$room"' EXIT
+for name in calspan dates; do
+  "$cc" -std=c11 -Wall -Wextra -Werror -g -fsanitize=address,undefined -fno-sanitize-recover=all -I "$top/bindings/c/include" \
+    "$top/bindings/c/examples/$name.c" "$archive" "$heap" -o "$room/$name"
+done
+"$room/dates" | diff - "$top/bindings/c/examples/dates.out"
+if ! command -v python3 >/dev/null; then
+  echo "bindings/c/check: the C examples run; their cases and the Python module are not tested, since there is no python3"
+  exit 0
+fi
+python3 "$top/cases/compare.py" --program "$room/calspan"
+if command -v parallel >/dev/null; then
+  for name in solar east_asian; do
+    cat "$top"/rows/*.rows "$top/cases/$name.in" | "$room/calspan" span >"$room/wanted" || [ $? -eq 1 ]
+    CALSPAN=$room/calspan BLOCK=50k "$top/examples/parallel.sh" "$top"/rows/*.rows <"$top/cases/$name.in" >"$room/got" || [ $? -eq 1 ]
+    cmp "$room/wanted" "$room/got"
+  done
+else
+  echo "bindings/c/check: examples/parallel.sh is not tested, since there is no GNU parallel"
+fi
+ICU_CALENDAR_LIBRARY=$shared PYTHONPATH=$top/bindings/python python3 -m unittest discover -s "$top/bindings/python/tests" -q
+echo "bindings/c/check: the examples in C and the Python module agree with the cases"
