@@ -25,7 +25,7 @@ pub struct AlternatingYear {
 ghost use Rattle.arith_tests.specs.AlternatingYears.{alternating_years};
 ghost use Rattle.arith_tests.specs.laws.AlternatingYearLaws.{stored-year};
 
-/// Whether a month is a plain month from 1 to 12.
+/// Returns whether a month is a plain month from 1 to 12.
 fn is_plain_month(month: Month) -> bool
     ensures { result ≡ is_plain (month_parts month) }
 {
@@ -60,7 +60,7 @@ impl PackWithMD for AlternatingYear {
     }
 }
 
-/// The number of a day in its year, from 1.
+/// Returns the number of a day in its year, from 1.
 fn day_of_year(month: u8, day: u8) -> u16
     requires { (1 ≤ month) × (month ≤ 12) }
     ensures { result ≡ 29 * (month - 1) + month / 2 + day }

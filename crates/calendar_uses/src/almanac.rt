@@ -1,4 +1,4 @@
-//! What an almanac asks of the years that it has published.
+//! An almanac, which has published years of its own.
 
 ghost use Rattle.std.specs.Prelude.{IfOk};
 ghost use Rattle.icu_calendar.specs.IsoSystem.{iso_date};
@@ -12,18 +12,22 @@ use thiserror::Error;
 /// Why an almanac has no new year.
 #[derive(Clone, Copy, Debug, PartialEq, Error)]
 pub enum AlmanacError {
-    /// Its text isn't one of rows.
+    /// The text isn't rows.
     #[error(transparent)]
     Text(RowsError),
-    /// The rows of its text aren't accepted.
+    /// The rows aren't accepted.
     #[error(transparent)]
     Rows(TableRefusal),
-    /// There is no such year.
+    /// The year doesn't exist.
     #[error(transparent)]
     Year(LunisolarDateError),
 }
 
-/// An almanac: the Chinese new year of a year, shown in ISO, where the rows of a text stand in place of computed years.
+/// Returns the Chinese new year of a year, in ISO, with the rows of a text in place of computed years.
+///
+/// # Errors
+///
+/// - [`AlmanacError`] if the text isn't rows, if its rows aren't accepted, or if the year doesn't exist.
 pub fn new_year_by_rows(alloc: Global, text: &[u8], year: i32) -> Result<Date<Iso>, AlmanacError>
     ensures { IfOk result (λ d. IsNewYearByRows text.now year (iso_date d.inner)) }
 {

@@ -1,4 +1,4 @@
-//! What a family, a payroll and a society ask of the days to come.
+//! A family, a payroll and a society, which list days to come.
 
 ghost use Rattle.std.specs.Prelude.{◌≡◌, ◌≤◌, IfOk, take};
 ghost use Rattle.icu_calendar.specs.HebrewSystem.{hebrew_date};
@@ -11,8 +11,12 @@ use icu_calendar::{
 };
 use std::alloc::{AllocError, Global};
 
-/// A family: the next birthdays of someone born on a day of Adar I, the first three in a window. In a year without Adar
-/// I they are in Adar.
+/// Returns the next birthdays of someone born on a day of Adar I: the first three in a window. In a year without Adar I
+/// they are in Adar.
+///
+/// # Errors
+///
+/// - [`AllocError`] if there is no memory for the list.
 pub fn next_birthdays(alloc: Global, day: u8, window: Window) -> Result<Vec<RataDie>, AllocError>
     requires from_1 { 1 ≤ day }
     requires to_31 { day ≤ 31 }
@@ -25,8 +29,12 @@ pub fn next_birthdays(alloc: Global, day: u8, window: Window) -> Result<Vec<Rata
     }
 }
 
-/// A payroll: the paydays in a window, one a month from the first one on. A month that lacks the first one's day has
-/// its payday on its last day.
+/// Returns the paydays in a window, one a month from the first one on. In a month without the first one's day, the
+/// payday is the month's last day.
+///
+/// # Errors
+///
+/// - [`AllocError`] if there is no memory for the list.
 pub fn paydays(
     alloc: Global,
     first: &Date<Iso>,
@@ -41,8 +49,12 @@ pub fn paydays(
     }
 }
 
-/// A society: its reunions in a window, every second Hebrew year from the first one on. A year that lacks the first
-/// one's month or its day has none.
+/// Returns a society's reunions in a window, every second Hebrew year from the first one on. A year without the first
+/// one's month or day has none.
+///
+/// # Errors
+///
+/// - [`AllocError`] if there is no memory for the list.
 pub fn reunions(
     alloc: Global,
     first: &Date<Hebrew>,

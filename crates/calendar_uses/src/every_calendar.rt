@@ -106,7 +106,7 @@ fn print_lunisolar(rt: &HostRuntime, day: &Date<Iso>) -> io::Result<()> {
     print_east_asian(rt, last_day, day)
 }
 
-/// A date of each calendar, and the refusal of a month that isn't there.
+/// Prints a date of each calendar, and the error of a month that doesn't exist.
 pub fn print_every_calendar(rt: &HostRuntime) -> io::Result<()> {
     let day = Date::from_rata_die(RataDie::new(738946), Iso);
     print_gregorian(rt, &day)?;

@@ -1,4 +1,4 @@
-//! What an archive asks of a date text, and a planner of Easter.
+//! An archive, which reads texts of dates, and a planner, who needs Easter.
 
 ghost use Rattle.std.specs.Prelude.{IfOk};
 ghost use Rattle.icu_calendar.specs.CalendarList.{day_number};
@@ -8,8 +8,11 @@ ghost use Rattle.calendar_uses.specs.Feasts.{IsDayOfText, IsNextEaster};
 use crate::uses::is_earlier;
 use icu_calendar::{Date, Gregorian, Hebrew, ParseError, easter_gregorian};
 
-/// An archive: the day that a text names in the Hebrew calendar, as `2024-03-01[u-ca=hebrew]`, shown in the Gregorian
-/// one.
+/// Returns the Gregorian date of a text that names a Hebrew date, as `2024-03-01[u-ca=hebrew]`.
+///
+/// # Errors
+///
+/// - [`ParseError`] as in [`Date::try_from_str`].
 pub fn hebrew_text_in_gregorian(text: &str) -> Result<Date<Gregorian>, ParseError>
     ensures { IfOk result (λ d. IsDayOfText text.now (gregorian_date d.inner)) }
 {
@@ -19,7 +22,7 @@ pub fn hebrew_text_in_gregorian(text: &str) -> Result<Date<Gregorian>, ParseErro
     }
 }
 
-/// A planner: the next Easter after a date, that of its year or that of the next one.
+/// Returns the next Easter after a date, in its year or the next one.
 pub fn next_easter(date: &Date<Gregorian>) -> Date<Gregorian>
     ensures { let t = gregorian_date date.now.inner in
         IsNextEaster t.year (day_number gregorian_system.list t) (gregorian_date result.inner) }

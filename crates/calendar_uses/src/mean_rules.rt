@@ -7,7 +7,7 @@ ghost use Rattle.icu_calendar.specs.declared.EcmaReferenceYearError.TheVariants.
 use icu_calendar::east_asian::{EastAsianTraditionalYear, Rules};
 use icu_calendar::{CalendarAlgorithm, EcmaReferenceYearError, Month, UnstableSealed, mean_year};
 
-/// The mean years at an offset from Greenwich, in milliseconds.
+/// Mean years at an offset from Greenwich, in milliseconds.
 #[derive(Clone, Copy, Debug)]
 pub struct MeanRules {
     utc_offset: i64,
@@ -19,7 +19,7 @@ pub struct MeanRules {
 pub struct OtherOffset;
 
 impl MeanRules {
-    /// The mean years at an offset from 27940000 to 32400000.
+    /// Creates the rules for an offset from 27940000 to 32400000.
     pub fn new(utc_offset: i64) -> MeanRules
         requires { IsOffset utc_offset }
         ensures { result.utc_offset ≡ utc_offset }
@@ -31,7 +31,7 @@ impl MeanRules {
 impl UnstableSealed for MeanRules {}
 
 impl Rules for MeanRules {
-    ghost use Rattle.std.specs.Prelude.{None, codes};
+    ghost use Rattle.std.specs.Prelude.{None, codes, refl};
     ghost use Rattle.std.specs.Ordering.{int_eq};
     ghost use Rattle.std.specs.Cmp.{on_equiv, int_eq_equiv};
     ghost use Rattle.icu_calendar.specs.MeanTraditionalYears.{mean_traditional_year};
@@ -87,4 +87,8 @@ impl Rules for MeanRules {
     ghost alike = { on_equiv (λ s. s.utc_offset) int_eq_equiv };
 
     ghost shared = { λ s t y h _. mean-shared s.utc_offset t.utc_offset s.offset t.offset h y };
+
+    ghost shared_references = { λ _ _ _ _ _. refl };
+
+    ghost shared_names = { λ _ _ _. (refl, refl) };
 }

@@ -1,4 +1,4 @@
-//! What becomes of stored dates when the rows of a further year are published.
+//! Stored dates, after the rows of a further year were published.
 
 ghost use Rattle.std.specs.Prelude.{◌≡◌, ◌↔◌, false, IsOk, IfOk};
 ghost use Rattle.icu_calendar.specs.HijriLengthening.{IsNotAdded, Lengthens, list_with};
@@ -9,9 +9,12 @@ use icu_calendar::laws::hijri_date_kept;
 use icu_calendar::rows::TableRows;
 use icu_calendar::{Date, Hijri, HijriTable, LengthenFault, Rebased, UmmAlQura};
 
-/// A date of Umm al-Qura that was stored under a table, when rows arrive that have the table's and those of further
-/// years: the date of its day under the longer table. Where its year isn't among the rows that were added, it hasn't
-/// moved.
+/// Converts a stored date of Umm al-Qura to a longer table, once rows of further years have arrived. If its year isn't
+/// among the added rows, its fields don't change.
+///
+/// # Errors
+///
+/// - `LengthenFault` if the rows don't begin with the table's, or aren't accepted.
 pub fn updated_date<'u>(
     stored: &Date<Hijri<UmmAlQura<'_>>>,
     table: &HijriTable<'_>,

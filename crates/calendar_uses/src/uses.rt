@@ -1,4 +1,4 @@
-//! What a form, a settings page, a recurrence rule, an age, an undo and a list of events ask of dates.
+//! A form, a settings page, a recurrence rule, an age, an undo and a list of events.
 
 ghost use Rattle.std.specs.Prelude.{◌≡◌, ◌↔◌, ◌<◌, ◌<ℤ◌, IsTrue, IfOk, Err};
 ghost use Rattle.icu_calendar.specs.CalendarList.{day_number};
@@ -19,8 +19,11 @@ use icu_calendar::{
     Gregorian, Iso, Month, Overflow,
 };
 
-/// A form: the date that a year, the number of a month and a day name in a calendar, or the first thing that is
-/// wrong with them.
+/// Creates a date from what was entered into a form: a year, a month's number and a day.
+///
+/// # Errors
+///
+/// - The first invalid field, as [`Date::try_from_fields`] reports it.
 pub fn date_of_form<'t>(
     extended_year: i32,
     month: u8,
@@ -40,7 +43,7 @@ pub fn date_of_form<'t>(
     Date::try_from_fields(fields, reject, calendar)
 }
 
-/// A settings page: the same day in the calendar that a reader chose.
+/// Converts a date to the calendar that a reader chose on a settings page.
 pub fn in_chosen_calendar<'t>(date: &Date<Iso>, calendar: AnyCalendar<'t>) -> Date<AnyCalendar<'t>>
     ensures { let shown = day_number (any_system calendar.entry).list (any_date calendar.entry result.inner) in
         shown ≡ day_number iso_list (iso_date date.now.inner) }
@@ -48,8 +51,11 @@ pub fn in_chosen_calendar<'t>(date: &Date<Iso>, calendar: AnyCalendar<'t>) -> Da
     date.to_calendar(calendar)
 }
 
-/// A recurrence rule: the date so many months after the first one. A month that lacks the first one's day has
-/// none, and the refusal names the month's last day.
+/// Returns the date some months after the first one. A month without the first one's day has none.
+///
+/// # Errors
+///
+/// - `DateAddError`, which names the month's last day, if the month doesn't have the first one's day.
 pub fn months_later<'t>(
     first: Date<AnyCalendar<'t>>,
     months: u32,
@@ -75,7 +81,7 @@ pub fn months_later<'t>(
     first.try_added_with_options(later, reject)
 }
 
-/// An age: the years, months and days from one date to another.
+/// Returns an age: the years, months and days from one date to another.
 pub fn age(birth: &Date<Gregorian>, today: &Date<Gregorian>) -> DateDuration
     ensures { let list = gregorian_system.list in
         let from = gregorian_date birth.now.inner in
@@ -91,7 +97,7 @@ pub fn age(birth: &Date<Gregorian>, today: &Date<Gregorian>) -> DateDuration
     }
 }
 
-/// An undo: the difference from one date to another, added to the first, is the other.
+/// Adds the difference from one date to another back to the first, as an undo does. The result is the other date.
 pub fn there_and_back(first: Date<Gregorian>, second: &Date<Gregorian>) -> Date<Gregorian>
     ensures { gregorian_date result.inner ≡ gregorian_date second.now.inner }
 {
@@ -102,7 +108,7 @@ pub fn there_and_back(first: Date<Gregorian>, second: &Date<Gregorian>) -> Date<
     }
 }
 
-/// A list of events: whether one day comes before another, in whatever calendars they are written.
+/// Returns `true` if one day comes before another, in whatever calendars the two are written.
 pub fn is_earlier<A: AsCalendar, B: AsCalendar>(first: &Date<A>, second: &Date<B>) -> bool
 where
     A::Calendar: Calendar,

@@ -13,7 +13,7 @@ use cal_types::{DateDurationUnit, Leaping, Month, Window};
 use std::marker::Brand;
 use std::sync::ledger::{Blank, Ledger};
 
-/// The first month's first day of each year, in the days from a first to a last one.
+/// Returns the first month's first day of each year, in the days from a first to a last one.
 fn first_days<C: Calendar + Copy>(first: i64, last: i64, calendar: C) -> Option<Anniversaries<C>>
     requires first { IsValidDay first }
     requires last { IsValidDay last }
@@ -25,8 +25,8 @@ fn first_days<C: Calendar + Copy>(first: i64, last: i64, calendar: C) -> Option<
     }
 }
 
-/// The sum of the days that a list of first days gives in so many turns. The turn that finds the list's end begins it
-/// again.
+/// Returns the sum of the days that a list of first days gives in so many turns. The turn that finds the list's end
+/// begins it again.
 fn sum_of_first_days<C: Calendar + Copy>(turns: u32, first: i64, last: i64, calendar: C) -> i64
     requires first { IsValidDay first }
     requires last { IsValidDay last }
@@ -47,18 +47,18 @@ fn sum_of_first_days<C: Calendar + Copy>(turns: u32, first: i64, last: i64, cale
     sum
 }
 
-/// The sum of the first days of the years from 1643 to 2465, listed again and again.
+/// Returns the sum of the first days of the years from 1643 to 2465, listed again and again.
 pub(crate) fn sum_of_anniversaries<C: Calendar + Copy>(turns: u32, calendar: C) -> i64 {
     sum_of_first_days(turns, 600000, 899999, calendar)
 }
 
-/// The sum of the first days of published years, from May 1912 to December 2097, listed again and again.
+/// Returns the sum of the first days of published years, from May 1912 to December 2097, listed again and again.
 pub(crate) fn sum_of_published_anniversaries<C: Calendar + Copy>(turns: u32, calendar: C) -> i64 {
     sum_of_first_days(turns, 698100, 765899, calendar)
 }
 
-/// The day of an occurrence of a rule from a day on, with an index below 1024 that changes with the day, and 0 where
-/// there is none.
+/// Returns the day of an occurrence of a rule from a day on, with an index below 1024 that changes with the day, and 0
+/// where there is none.
 fn day_of_occurrence<C: Calendar, L: Ledger>(
     day: u64,
     rule: Rule,
@@ -74,8 +74,8 @@ fn day_of_occurrence<C: Calendar, L: Ledger>(
     }
 }
 
-/// The first index that isn't before a day, of a rule from a day nearly two million years earlier on, and 0 where there
-/// is none.
+/// Returns the first index that isn't before a day, of a rule from a day nearly two million years earlier on, and 0
+/// where there is none.
 fn first_index_after<C: Calendar, L: Ledger>(
     day: u64,
     rule: Rule,
@@ -91,7 +91,8 @@ fn first_index_after<C: Calendar, L: Ledger>(
     }
 }
 
-/// The sum of the days of an occurrence of every month from the day of each turn on, by a counter that nobody reads.
+/// Returns the sum of the days of an occurrence of every month from the day of each turn on, by a counter that nobody
+/// reads.
 fn sum_of_days_with<C: Calendar + Copy, L: Ledger>(turns: u32, calendar: C, blank: Blank) -> i64
     requires name { blank.name ≡ L.name }
     requires parts { blank.parts ≡ L.parts }
@@ -109,7 +110,7 @@ fn sum_of_days_with<C: Calendar + Copy, L: Ledger>(turns: u32, calendar: C, blan
     sum
 }
 
-/// The sum of the first indices of every month, one of each turn, by a counter that nobody reads.
+/// Returns the sum of the first indices of every month, one of each turn, by a counter that nobody reads.
 fn sum_of_indices_with<C: Calendar + Copy, L: Ledger>(turns: u32, calendar: C, blank: Blank) -> i64
     requires name { blank.name ≡ L.name }
     requires parts { blank.parts ≡ L.parts }
@@ -127,12 +128,13 @@ fn sum_of_indices_with<C: Calendar + Copy, L: Ledger>(turns: u32, calendar: C, b
     sum
 }
 
-/// The sum of the days of an occurrence of every month from the day of each turn on.
+/// Returns the sum of the days of an occurrence of every month from the day of each turn on.
 pub(crate) fn sum_of_occurrences<C: Calendar + Copy>(turns: u32, calendar: C) -> i64 {
     sum_of_days_with::<C, Brand>(turns, calendar, Blank::new(1))
 }
 
-/// The sum of the first indices of every month, from a start nearly two million years before a day, one of each turn.
+/// Returns the sum of the first indices of every month, from a start nearly two million years before a day, one of each
+/// turn.
 pub(crate) fn sum_of_first_indices<C: Calendar + Copy>(turns: u32, calendar: C) -> i64 {
     sum_of_indices_with::<C, Brand>(turns, calendar, Blank::new(1))
 }

@@ -28,12 +28,12 @@ use std::env;
 use std::process::ExitCode;
 use words::{CalendarName, Operation, Work, Years, read_words};
 
-/// The tabular Hijri calendar with these leap years, from Friday on.
+/// Returns the tabular Hijri calendar with these leap years, from Friday on.
 fn tabular(leap_years: TabularAlgorithmLeapYears) -> Hijri<TabularAlgorithm> {
     Hijri::new_tabular(leap_years, TabularAlgorithmEpoch::Friday)
 }
 
-/// The Umm al-Qura calendar over these years.
+/// Returns the Umm al-Qura calendar over these years.
 fn umm_al_qura_over(years: Years) -> Hijri<UmmAlQura<'static>> {
     match years {
         Years::Computed => Hijri::new_umm_al_qura(HijriTable::none()),
@@ -41,7 +41,7 @@ fn umm_al_qura_over(years: Years) -> Hijri<UmmAlQura<'static>> {
     }
 }
 
-/// The Chinese calendar over these years.
+/// Returns the Chinese calendar over these years.
 fn chinese_over(years: Years) -> ChineseTraditional<'static> {
     match years {
         Years::Computed => ChineseTraditional::new(EastAsianTable::none(Side::China)),
@@ -49,7 +49,7 @@ fn chinese_over(years: Years) -> ChineseTraditional<'static> {
     }
 }
 
-/// The Korean calendar over these years.
+/// Returns the Korean calendar over these years.
 fn korean_over(years: Years) -> KoreanTraditional<'static> {
     match years {
         Years::Computed => KoreanTraditional::new(EastAsianTable::none(Side::Korea)),
@@ -57,7 +57,7 @@ fn korean_over(years: Years) -> KoreanTraditional<'static> {
     }
 }
 
-/// The checksum of the work in a Hijri calendar.
+/// Returns the checksum of the work in a Hijri calendar.
 fn measure_in_hijri<R: HijriRules + Copy>(
     operation: Operation,
     count: u32,
@@ -66,7 +66,7 @@ fn measure_in_hijri<R: HijriRules + Copy>(
     measure(operation, count, calendar)
 }
 
-/// The checksum of the work in the Chinese or the Korean calendar.
+/// Returns the checksum of the work in the Chinese or the Korean calendar.
 fn measure_in_east_asian<R: EastAsianRules + Copy>(
     operation: Operation,
     count: u32,
@@ -75,7 +75,7 @@ fn measure_in_east_asian<R: EastAsianRules + Copy>(
     measure(operation, count, calendar)
 }
 
-/// The checksum of the work.
+/// Returns the checksum of the work.
 fn checksum(work: Work) -> i64 {
     let Work {
         operation,

@@ -24,7 +24,7 @@ const TEXTS: [&[u8]; 4] = [b"1643-01-05", b"1992-09-02", b"2024-02-29", b"2465-1
 /// The months of nearly two million years.
 const FAR_MONTHS: i32 = 23400000;
 
-/// The date of a valid day.
+/// Returns the date of a valid day.
 fn date_on<A: AsCalendar + Copy>(day: i64, calendar: A) -> Date<A>
 where
     A::Calendar: Calendar,
@@ -36,7 +36,7 @@ where
     Date::from_rata_die(RataDie::new(day), calendar)
 }
 
-/// The day number, from the date that it was turned into.
+/// Returns the day number, from the date that it was turned into.
 fn day_and_back<A: AsCalendar + Copy>(day: i64, calendar: A) -> i64
 where
     A::Calendar: Calendar,
@@ -46,7 +46,9 @@ where
     date_on(day, calendar).to_rata_die().to_i64_date()
 }
 
-/// The day number of a date with a duration added, and 0 where there is no such date.
+/// Returns the day number of a date with a duration added, and 0 where there is no such date.
+// Inlined as `date_on` is, so that both loops begin alike.
+#[inline(always)]
 fn day_of_sum<A: AsCalendar + Copy>(day: i64, duration: DateDuration, calendar: A) -> i64
 where
     A::Calendar: Calendar,
@@ -58,7 +60,7 @@ where
     }
 }
 
-/// The sum of the parts of the difference of the dates of two days, and 0 where there is no difference.
+/// Returns the sum of the parts of the difference of the dates of two days, and 0 where there is no difference.
 fn parts_between<A: AsCalendar + Copy>(
     from: i64,
     to: i64,
@@ -81,7 +83,7 @@ where
     }
 }
 
-/// The sum of the days of the month of the dates of two days.
+/// Returns the sum of the days of the month of the dates of two days.
 fn days_of_both<A: AsCalendar + Copy>(first: i64, second: i64, calendar: A) -> i64
 where
     A::Calendar: Calendar,
@@ -93,7 +95,7 @@ where
     i64::from(first) + i64::from(second)
 }
 
-/// The day number of the date that a text names, and 0 where it names none.
+/// Returns the day number of the date that a text names, and 0 where it names none.
 fn day_of_text<A: AsCalendar + Copy>(turn_day: u64, calendar: A) -> i64
 where
     A::Calendar: Calendar,
@@ -116,7 +118,7 @@ macro_rules! sum_of {
     }};
 }
 
-/// The sum of the results of adding a duration.
+/// Returns the sum of the results of adding a duration.
 fn sum_of_sums<A: AsCalendar + Copy>(turns: u32, duration: DateDuration, calendar: A) -> i64
 where
     A::Calendar: Calendar,
@@ -124,7 +126,8 @@ where
     sum_of!(turns, day => day_of_sum(day as i64, duration, calendar))
 }
 
-/// The sum of the day numbers of the first turns in published years, each from the date that it was turned into.
+/// Returns the sum of the day numbers of the first turns in published years, each from the date that it was turned
+/// into.
 fn sum_of_published_days<A: AsCalendar + Copy>(turns: u32, calendar: A) -> i64
 where
     A::Calendar: Calendar,
@@ -137,7 +140,7 @@ where
     sum
 }
 
-/// The sum of the results of an operation on the days of the first turns.
+/// Returns the sum of the results of an operation on the days of the first turns.
 pub fn measure<A: AsCalendar + Copy>(operation: Operation, turns: u32, calendar: A) -> i64
 where
     A::Calendar: Calendar + Copy,

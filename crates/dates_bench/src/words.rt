@@ -143,7 +143,7 @@ fn read_calendar(word: &str) -> Option<CalendarName> {
     }
 }
 
-/// The number that a word of one to nine decimal digits spells.
+/// Returns the number that a word of one to nine decimal digits spells.
 fn read_count(word: &[u8]) -> Option<u32> {
     if word.is_empty() || word.len() > 9 {
         return None;
@@ -158,7 +158,7 @@ fn read_count(word: &[u8]) -> Option<u32> {
     Some(value)
 }
 
-/// The work that the words name: an operation, a calendar, and a count of one to nine digits.
+/// Returns the work that the words name: an operation, a calendar, and a count of one to nine digits.
 pub fn read_words(words: &[String]) -> Option<Work> {
     match words {
         [first, second, third] => Some(Work {

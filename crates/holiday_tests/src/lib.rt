@@ -1,5 +1,6 @@
-//! Tests of `cal_holidays`: books that are read, records that are refused, and lists that are known.
+//! Tests of `cal_holidays`: valid books, invalid records, and known lists.
 #![tactic(auto)]
 
+pub mod equality;
 #[cfg(test)]
 mod tests;

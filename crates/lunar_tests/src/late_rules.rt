@@ -108,4 +108,8 @@ impl Rules for Late {
     ghost alike = { all_alike };
 
     ghost shared = { λ _ _ _ _ _. refl };
+
+    ghost shared_references = { λ _ _ _ _ _. refl };
+
+    ghost shared_names = { λ _ _ _. (refl, refl) };
 }

@@ -32,7 +32,7 @@ impl MeanRules {
 impl UnstableSealed for MeanRules {}
 
 impl Rules for MeanRules {
-    ghost use Rattle.std.specs.Prelude.{None, codes};
+    ghost use Rattle.std.specs.Prelude.{None, codes, refl};
     ghost use Rattle.std.specs.Ordering.{int_eq};
     ghost use Rattle.std.specs.Cmp.{on_equiv, int_eq_equiv};
     ghost use Rattle.cal_east_asian.specs.MeanTraditionalYears.{mean_traditional_year};
@@ -88,4 +88,8 @@ impl Rules for MeanRules {
     ghost alike = { on_equiv (λ s. s.utc_offset) int_eq_equiv };
 
     ghost shared = { λ s t y h _. mean-shared s.utc_offset t.utc_offset s.offset t.offset h y };
+
+    ghost shared_references = { λ _ _ _ _ _. refl };
+
+    ghost shared_names = { λ _ _ _. (refl, refl) };
 }

@@ -1,4 +1,4 @@
-//! Callers of recurrences, with what they can say of their answers.
+//! Callers of recurrences, and what they can promise.
 
 ghost use Rattle.std.specs.Prelude.{◌≡◌, ◌++◌, IsTrue, IfOk};
 ghost use Rattle.cal_recur.specs.Listing.{occurrences, occurrences_left};
@@ -8,7 +8,7 @@ use cal_recur::{Occurrence, Rule, recur};
 use cal_types::Window;
 use std::alloc::{AllocError, Global};
 
-/// All occurrences in a window.
+/// Collects all occurrences in a window.
 pub fn all_items<C: Calendar + Copy>(
     alloc: Global,
     calendar: C,
@@ -23,8 +23,8 @@ pub fn all_items<C: Calendar + Copy>(
     recur(calendar, start, rule, window).collect(alloc)
 }
 
-/// The first items in a window, at most `count`, and the days that are left for a later call: the list over the
-/// window is these items and then the list over the days that are left.
+/// Collects at most `count` items in a window, and returns them with the rest of the window. The list over the window is
+/// these items, followed by the list over the rest.
 pub fn first_items<C: Calendar + Copy>(
     alloc: Global,
     calendar: C,

@@ -1,4 +1,4 @@
-//! Recurrences of which the days are known.
+//! Recurrences with known days.
 
 ghost use Rattle.std.specs.Prelude.{◌≡◌, ◌<◌, IsTrue};
 ghost use Rattle.cal_days.specs.Day.{IsValidDay};
@@ -19,7 +19,7 @@ use std::marker::Brand;
 use std::process::Abort;
 use std::sync::ledger::{Blank, Ledger};
 
-/// A rule that isn't every 0 units.
+/// Creates a rule.
 fn rule_of(rt: &impl Abort, unit: DateDurationUnit, every: u32, missing: Missing) -> Rule {
     let found = Rule::try_new(unit, every, missing);
     assert!(rt; found.is_some());
@@ -29,7 +29,7 @@ fn rule_of(rt: &impl Abort, unit: DateDurationUnit, every: u32, missing: Missing
     }
 }
 
-/// The days from one to another.
+/// Creates the window from one day to another.
 fn window_of(rt: &impl Abort, first: i64, last: i64) -> Window {
     assert_day(rt, first);
     assert_day(rt, last);
@@ -41,13 +41,13 @@ fn window_of(rt: &impl Abort, first: i64, last: i64) -> Window {
     }
 }
 
-/// The index and the day's number of an item.
+/// Returns the index and the day number of an item.
 fn parts(item: Option<Occurrence>) -> Option<(u32, i64)> {
     let it = item?;
     Some((it.index, it.day.to_i64_date()))
 }
 
-/// That a recurrence gives these items, and then no more.
+/// Asserts that a recurrence has exactly these items.
 fn assert_items<C: Calendar + Copy>(
     rt: &impl Abort,
     mut items: Recurrence<C>,
@@ -60,7 +60,7 @@ fn assert_items<C: Calendar + Copy>(
     assert_same(rt, items.rest(), None);
 }
 
-/// That a rule gives these items of one calendar in a window.
+/// Asserts that a rule has exactly these items in a window, in one calendar.
 fn assert_listed<C: Calendar + Copy>(
     rt: &impl Abort,
     calendar: C,
@@ -121,7 +121,7 @@ fn what_makes_no_rule_and_no_window(rt: HostRuntime) {
     );
 }
 
-/// The first index that isn't before a day, and the occurrence with an index.
+/// Returns the first index on or after a day, and the day of the occurrence with an index.
 fn found<C: Calendar, L: Ledger>(
     calendar: &C,
     start: i64,
@@ -143,7 +143,7 @@ fn found<C: Calendar, L: Ledger>(
     (first, on.map(|it| it.to_i64_date()))
 }
 
-/// That the first index that isn't before a day, and the day of the occurrence with an index, are these.
+/// Asserts the first index on or after a day, and the day of the occurrence with an index.
 fn assert_found<C: Calendar>(
     rt: &impl Abort,
     calendar: &C,
@@ -167,7 +167,7 @@ fn the_first_index(rt: HostRuntime) {
     }
 }
 
-/// That a rule has no occurrence after the start, ten days before the last valid day.
+/// Asserts that a rule has no occurrence after a start ten days before the last valid day.
 fn assert_alone(rt: &impl Abort, unit: DateDurationUnit, every: u32) {
     let rule = rule_of(rt, unit, every, Missing::Constrain);
     assert_found(rt, &Iso, 365242124, rule, (365242125, 1), (None, None));
@@ -190,7 +190,7 @@ fn past_the_last_valid_day(rt: HostRuntime) {
     }
 }
 
-/// That a rule gives so many items from a start on, up to the last valid day.
+/// Asserts how many items a rule has from a start to the last valid day.
 fn assert_counted(rt: &impl Abort, start: i64, rule: Rule, expected: (u32, i64)) {
     assert_day(rt, start);
     let date = Iso.from_rata_die(RataDie::new(start));
@@ -216,7 +216,7 @@ fn february_29_or_28_of_each_fifth_year(rt: HostRuntime) {
     assert_counted(&rt, -365241345, rule, (400000, 365241828));
 }
 
-/// The first item in the days that some items leave.
+/// Returns the first item in the rest after some items.
 fn first_left<C: Calendar + Copy>(
     calendar: C,
     start: C::DateInner,
@@ -229,7 +229,7 @@ fn first_left<C: Calendar + Copy>(
     recur(calendar, start, rule, window).next()
 }
 
-/// That the items in a window are those of the whole range that lie in it, also where they are resumed after each.
+/// Asserts that the items in a window are those of the whole range that lie in it, even if resumed after each item.
 fn assert_part<C: Calendar + Copy>(
     rt: &impl Abort,
     calendar: C,
@@ -256,7 +256,7 @@ fn assert_part<C: Calendar + Copy>(
     assert_at(rt, (start, first, last), parts(items.next()), None);
 }
 
-/// The same in windows of 800 days, from before the start on.
+/// Does the same for windows of 800 days, beginning before the start.
 fn assert_parts(rt: &impl Abort, start: i64, rule: Rule) {
     assert_day(rt, start);
     for from in 0..12u8 {

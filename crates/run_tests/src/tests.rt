@@ -1,10 +1,12 @@
 //! Lines of all kinds, requests and rows of tables, and what is written for them; what words spell; and sources and sinks.
 
+mod equalities;
 mod faults;
 mod holidays;
 mod lines;
 mod lists;
 mod own_rows;
+mod programs;
 mod requests;
 mod rows;
 mod runs;

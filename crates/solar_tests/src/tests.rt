@@ -1,5 +1,6 @@
 //! Dates of which the days are known, eras and corrections that may be given, and defaults.
 
+mod derived;
 mod ethiopian;
 mod expected;
 mod gregorian;

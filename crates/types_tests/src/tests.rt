@@ -2,6 +2,7 @@
 
 mod algorithms;
 mod bags;
+mod derived;
 mod durations;
 mod easter;
 mod errors;

@@ -1,4 +1,4 @@
-//! What tests assert.
+//! The assertions of the tests.
 
 use cal_anniversary::{Anniversaries, AnniversaryError, anniversaries};
 use cal_base::Calendar;
@@ -6,7 +6,7 @@ use cal_days::RataDie;
 use cal_types::{Leaping, Month, Window};
 use std::process::Abort;
 
-/// A day of each year that is asked for, in a window.
+/// A month and a day, and the first and last day of a window.
 #[derive(Clone, Copy, Debug)]
 pub(super) struct Asked {
     pub(super) month: Month,
@@ -16,7 +16,7 @@ pub(super) struct Asked {
     pub(super) last: i64,
 }
 
-/// The anniversaries that are asked for, where the window, the month and the day are accepted.
+/// Returns the anniversaries if the window, the month and the day are valid.
 pub(super) fn listed<C: Calendar>(
     calendar: C,
     asked: Asked,
@@ -34,7 +34,7 @@ pub(super) fn listed<C: Calendar>(
     }
 }
 
-/// That these days are listed, and that after each the days behind it are left.
+/// Asserts that these days are listed, and that the rest after each of them starts on the next day.
 pub(super) fn assert_days<C: Calendar>(rt: &impl Abort, calendar: C, asked: Asked, days: &[i64]) {
     match listed(calendar, asked) {
         Ok(mut list) => {
@@ -56,7 +56,7 @@ pub(super) fn assert_days<C: Calendar>(rt: &impl Abort, calendar: C, asked: Aske
     }
 }
 
-/// The first and the last day of a window.
+/// Returns the first and the last day of a window.
 fn ends(window: Option<Window>) -> Option<(i64, i64)> {
     match window {
         Some(window) => Some((window.first().to_i64_date(), window.last().to_i64_date())),
@@ -64,7 +64,7 @@ fn ends(window: Option<Window>) -> Option<(i64, i64)> {
     }
 }
 
-/// The number of a day.
+/// Returns the number of a day.
 fn number(day: Option<RataDie>) -> Option<i64> {
     match day {
         Some(day) => Some(day.to_i64_date()),

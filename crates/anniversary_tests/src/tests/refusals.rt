@@ -1,4 +1,4 @@
-//! Months and days that are refused.
+//! Invalid months and days.
 
 use crate::tests::expected::{Asked, listed};
 use cal_anniversary::AnniversaryError;
@@ -7,7 +7,7 @@ use cal_days::RataDie;
 use cal_hebrew::Hebrew;
 use cal_types::{Leaping, Month, Window};
 
-/// The fault of a month and a day, if there is one.
+/// Returns the error for a month and a day, if there is one.
 fn fault_of<C: Calendar>(calendar: C, month: Month, day: u8) -> Option<AnniversaryError> {
     let asked = Asked {
         month,

@@ -1,4 +1,4 @@
-//! A list that is taken up again behind its first days.
+//! A list that is continued after its first days.
 
 use crate::callers::{all_days, first_days};
 use crate::tests::expected::{Asked, listed};

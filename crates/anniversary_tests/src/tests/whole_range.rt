@@ -1,4 +1,4 @@
-//! All anniversaries from the first valid day to the last one.
+//! All anniversaries in the valid range.
 
 use crate::tests::expected::{Asked, listed};
 use cal_anniversary::Anniversaries;
@@ -7,7 +7,7 @@ use cal_days::ranges::{FIRST_VALID_DAY, LAST_VALID_DAY};
 use cal_hebrew::Hebrew;
 use cal_types::{Leaping, Month};
 
-/// How many days are listed, with the first and the last of them.
+/// Counts the listed days, and returns the first and the last of them.
 fn summary<C: Calendar>(list: Anniversaries<C>) -> (u32, Option<i64>, Option<i64>) {
     let mut count: u32 = 0;
     let mut first = None;
@@ -22,7 +22,7 @@ fn summary<C: Calendar>(list: Anniversaries<C>) -> (u32, Option<i64>, Option<i64
     (count, first, last)
 }
 
-/// The same of the whole valid range.
+/// Does the same for the whole valid range.
 fn whole<C: Calendar>(
     calendar: C,
     month: Month,

@@ -21,7 +21,7 @@ use std::marker::Brand;
 use std::process::Abort;
 use std::sync::ledger::{Blank, Ledger};
 
-/// The extended year, the month's place, the day of the month and the day of the year.
+/// Returns the extended year, the month's place, the day of the month and the day of the year.
 fn parts<C: Calendar>(cal: &C, rd: i64) -> (i32, u8, u8, u16)
     requires { IsValidDay rd }
 {
@@ -34,7 +34,7 @@ fn parts<C: Calendar>(cal: &C, rd: i64) -> (i32, u8, u8, u16)
     )
 }
 
-/// The months and days of the year, the days of the month, and whether the year is a leap year.
+/// Returns the months and days of the year, the days of the month, and whether the year is a leap year.
 fn lengths<C: Calendar>(cal: &C, rd: i64) -> (u8, u16, u8, bool)
     requires { IsValidDay rd }
 {
@@ -47,7 +47,7 @@ fn lengths<C: Calendar>(cal: &C, rd: i64) -> (u8, u16, u8, bool)
     )
 }
 
-/// The day number by way of an ISO date and back, and whether the date is the calendar's own.
+/// Returns the day number by way of an ISO date and back, and whether the date is the calendar's own.
 fn day_by_iso<C: Calendar>(cal: &C, rd: i64) -> (i64, bool)
     requires { IsValidDay rd }
 {
@@ -96,7 +96,7 @@ fn a_day_has_its_date(rt: HostRuntime) {
     }
 }
 
-/// The day number of the date of a year, a month and a day.
+/// Returns the day number of the date of a year, a month and a day.
 fn made<C: Calendar>(
     cal: &C,
     year: YearInput<'_>,
@@ -107,7 +107,7 @@ fn made<C: Calendar>(
     Ok(cal.to_rata_die(&date).to_i64_date())
 }
 
-/// The day number of the date that an extended year, a month and a day name.
+/// Returns the day number of the date that an extended year, a month and a day name.
 fn resolved<C: Calendar>(
     cal: &C,
     year: i32,
@@ -224,7 +224,7 @@ fn duration(is_negative: bool, years: u32, months: u32, weeks: u32, days: u32) -
     }
 }
 
-/// The day number of a sum.
+/// Returns the day number of a sum.
 fn sum<C: Calendar>(
     cal: &C,
     rd: i64,
@@ -299,7 +299,7 @@ fn a_sum_is_that_of_a_slow_count(rt: HostRuntime) {
     }
 }
 
-/// The difference of the dates of two day numbers, without a counter and with one.
+/// Returns the difference of the dates of two day numbers, without a counter and with one.
 fn differences<C: Calendar, L: Ledger>(
     cal: &C,
     from: i64,
@@ -325,7 +325,7 @@ fn differences<C: Calendar, L: Ledger>(
     )
 }
 
-/// The same two by a counter that nobody reads.
+/// Returns the same two by a counter that nobody reads.
 fn both_differences<C: Calendar>(
     cal: &C,
     from: i64,
@@ -414,7 +414,7 @@ fn a_year_and_a_month_have_their_names(rt: HostRuntime) {
     assert_same(&rt, month.formatting_code.0.as_str(), "M09");
 }
 
-/// The name of the calendar that a value leads to.
+/// Returns the name of the calendar that a value leads to.
 fn name_at<A: AsCalendar>(calendar: &A) -> &'static str
 where
     A::Calendar: Calendar,

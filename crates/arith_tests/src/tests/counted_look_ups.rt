@@ -140,7 +140,7 @@ impl DateFieldsResolver for CountedLookUps {
     ghost reference_of_leap_month = { λ _ m d e. reference_of_known-stands (is_plain m) (pos 1) e };
 }
 
-/// The difference of two dates by a counter that starts at 0.
+/// Returns the difference of two dates by a counter that starts at 0.
 fn difference<L: Ledger>(
     from: i64,
     to: i64,

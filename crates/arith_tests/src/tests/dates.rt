@@ -10,7 +10,7 @@ use cal_types::{
 };
 use std::cmp::Ordering;
 
-/// A duration forward.
+/// Returns a duration forward.
 fn forward(years: u32, months: u32, weeks: u32, days: u32) -> DateDuration {
     DateDuration {
         is_negative: false,

@@ -5,7 +5,7 @@ use crate::tests::expected::{assert_at, refuse_fault};
 use cal_arith::ArithmeticDate;
 use cal_types::{DateError, LunisolarDateError, Month, RangeError};
 
-/// An argument that is out of its range.
+/// Returns an argument that is out of its range.
 fn out_of_range(field: &'static str, value: i32, min: i32, max: i32) -> RangeError {
     RangeError {
         field,

@@ -37,7 +37,7 @@ where
     A::Calendar: Calendar,
 {
     assert_same(rt, date, counted, number);
-    let again = counted.clone().expect(rt, "pointers are cloned");
+    let again = counted.try_clone().expect(rt, "pointers are cloned");
     assert_same(rt, counted, &again, number);
     assert_same(rt, counted, &again.as_borrowed(), number);
     let shown = date.to_calendar(Ref(counted.calendar_wrapper()));

@@ -1,10 +1,10 @@
 //! The examples of the docs: what dates say, and what is made of them.
 
 use icu_calendar::{
-    AnyCalendar, AnyCalendarKind, Buddhist, Date, DateAddOptions, DateDifferenceOptions,
-    DateDuration, DateDurationUnit, DateFields, DateFromFieldsOptions, DateRecord, Gregorian,
-    Hebrew, Iso, IxdtfRecord, Missing, Month, Overflow, RataDie, Rule, Weekday, Window,
-    easter_gregorian, easter_julian, laws, published, recur,
+    AnyCalendar, AnyCalendarKind, AsCalendar, Buddhist, Calendar, CyclicYear, Date, DateAddOptions,
+    DateDifferenceOptions, DateDuration, DateDurationUnit, DateFields, DateFromFieldsOptions,
+    DateRecord, Gregorian, Hebrew, Iso, IxdtfRecord, Missing, Month, MonthInfo, Overflow, RataDie,
+    Rule, Weekday, Window, easter_gregorian, easter_julian, laws, published, recur,
 };
 use std::cmp::Ordering;
 use std::process::Abort;
@@ -26,44 +26,58 @@ fn dates_of_fields(rt: HostRuntime) -> Result<(), Fail> {
     Ok(())
 }
 
-#[test]
-fn days_and_years(rt: HostRuntime) {
-    let date = Date::from_rata_die(RataDie::new(738946), Iso);
+/// The examples of getters, in ISO.
+fn show_iso<A: AsCalendar>(rt: &impl Abort, date: &Date<A>)
+where
+    A::Calendar: Calendar,
+{
     assert!(rt; date.year().extended_year() == 2024);
     assert!(rt; date.month().number() == 3);
+    assert!(rt; date.day_of_year().0 == 61);
+    assert!(rt; date.weekday() == Weekday::Friday);
+}
+
+/// The examples of getters, in the Gregorian calendar.
+fn show_gregorian<A: AsCalendar>(rt: &impl Abort, date: &Date<A>)
+where
+    A::Calendar: Calendar,
+{
+    assert!(rt; date.is_in_leap_year());
+    assert!(rt; date.days_in_year() == 366);
+}
+
+/// The examples of getters, in the Hebrew calendar.
+fn show_hebrew<A: AsCalendar>(rt: &impl Abort, date: &Date<A>)
+where
+    A::Calendar: Calendar,
+{
+    assert!(rt; date.to_rata_die().to_i64_date() == 738946);
+    assert!(rt; date.months_in_year() == 13);
+    assert!(rt; date.days_in_month() == 30);
+    assert!(rt; date.day_of_month().0 == 21);
+}
+
+/// The example of a month.
+fn show_month(rt: &impl Abort, month: MonthInfo) {
+    assert!(rt; month.to_input() == Month::leap(5)); // Adar I
+}
+
+#[test]
+fn getters(rt: HostRuntime) {
+    let date = Date::from_rata_die(RataDie::new(738946), Iso);
+    show_iso(&rt, &date);
+
+    let date = Date::from_rata_die(RataDie::new(738946), Gregorian);
+    show_gregorian(&rt, &date);
 
     let date = Date::from_rata_die(RataDie::new(738946), Hebrew);
-    assert!(rt; date.to_rata_die().to_i64_date() == 738946);
+    show_hebrew(&rt, &date);
 
     let date = Date::from_rata_die(RataDie::new(738946), Buddhist);
     assert!(rt; date.year().era_year_or_related_iso() == 2567);
 
-    let date = Date::from_rata_die(RataDie::new(738946), Gregorian);
-    assert!(rt; date.is_in_leap_year());
-
-    let date = Date::from_rata_die(RataDie::new(738946), Gregorian);
-    assert!(rt; date.days_in_year() == 366);
-}
-
-#[test]
-fn months_and_days(rt: HostRuntime) {
-    let date = Date::from_rata_die(RataDie::new(738946), Hebrew);
-    assert!(rt; date.months_in_year() == 13);
-
-    let date = Date::from_rata_die(RataDie::new(738946), Hebrew);
-    assert!(rt; date.days_in_month() == 30);
-
     let month = Date::from_rata_die(RataDie::new(738946), Hebrew).month();
-    assert!(rt; month.to_input() == Month::leap(5)); // Adar I
-
-    let date = Date::from_rata_die(RataDie::new(738946), Hebrew);
-    assert!(rt; date.day_of_month().0 == 21);
-
-    let date = Date::from_rata_die(RataDie::new(738946), Iso);
-    assert!(rt; date.day_of_year().0 == 61);
-
-    let date = Date::from_rata_die(RataDie::new(738946), Iso);
-    assert!(rt; date.weekday() == Weekday::Friday);
+    show_month(&rt, month);
 }
 
 #[test]
@@ -106,13 +120,21 @@ fn sums(rt: HostRuntime) -> Result<(), Fail> {
     Ok(())
 }
 
+/// The example of a year of the cycle.
+fn show_cycle<A: AsCalendar>(rt: &impl Abort, date: &Date<A>)
+where
+    A::Calendar: Calendar<Year = CyclicYear>,
+{
+    assert!(rt; date.cyclic_year().year == 41); // of 2024
+}
+
 #[test]
 fn eras_cycles_and_weeks(rt: HostRuntime) {
     let year = Date::from_rata_die(RataDie::new(738946), Buddhist).era_year();
     assert!(rt; year.year == 2567 && year.era.as_str() == "be");
 
     let date = Date::from_rata_die(RataDie::new(738946), published::chinese());
-    assert!(rt; date.cyclic_year().year == 41); // of 2024
+    show_cycle(&rt, &date);
 
     let week = Date::from_rata_die(RataDie::new(739250), Iso).week_of_year(); // 2024-12-30
     assert!(rt; week.week_number == 1 && week.iso_year == 2025);
@@ -223,7 +245,10 @@ fn records(rt: HostRuntime) -> Result<(), Fail> {
 #[test]
 fn copies(rt: HostRuntime) -> Result<(), Fail> {
     let date = Date::from_rata_die(RataDie::new(738946), Iso);
-    let again = date.clone()?;
+    let again = date.clone();
+    assert!(rt; again.same_date(&date));
+
+    let again = date.try_clone()?;
     assert!(rt; again.same_date(&date));
 
     let date = Date::from_rata_die(RataDie::new(738946), Hebrew);

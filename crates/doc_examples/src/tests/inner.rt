@@ -2,12 +2,14 @@
 
 ghost use Rattle.std.specs.Prelude.{◌≡◌, ◌<◌};
 
+use icu_calendar::east_asian::Rules as EastAsianRules;
+use icu_calendar::hijri::Rules;
 use icu_calendar::{
-    AstronomicalSimulation, Calendar, China, Date, DateDifferenceOptions, DateDurationUnit,
-    EastAsianTable, EastAsianTraditional, Hijri, HijriTable, Indian, Iso, JapaneseEras, Julian,
-    Korea, Missing, PersianCorrections, RataDie, Rule, Side, Steps, Tables, TabularAlgorithm,
-    TabularAlgorithmEpoch, TabularAlgorithmLeapYears, UmmAlQura, first_index_counted,
-    occurrence_counted,
+    AsCalendar, AstronomicalSimulation, Calendar, China, Date, DateDifferenceOptions,
+    DateDurationUnit, EastAsianTable, EastAsianTraditional, Hijri, HijriTable, Indian, Iso,
+    JapaneseEras, Julian, Korea, Missing, PersianCorrections, RataDie, Rule, Side, Steps, Tables,
+    TabularAlgorithm, TabularAlgorithmEpoch, TabularAlgorithmLeapYears, UmmAlQura,
+    first_index_counted, occurrence_counted,
 };
 use std::marker::Brand;
 use std::process::Abort;
@@ -53,33 +55,54 @@ fn counted_calls(rt: HostRuntime) {
     assert!(rt; show_counted_calls::<Brand>(&rt, Blank::new(1)).is_some());
 }
 
+/// The examples of rules.
+fn show_rules<R: Rules>(rt: &impl Abort, rules: R) {
+    let date = Date::from_rata_die(RataDie::new(738750), Hijri(rules)); // 2023-08-18
+    assert!(rt; date.day_of_month().0 == 1);
+}
+
+/// The examples of computed Hijri years.
+fn show_hijri<R: Rules>(rt: &impl Abort, computed: Hijri<R>) {
+    let date = Date::from_rata_die(RataDie::new(738946), computed);
+    assert!(rt; date.year().extended_year() == 1445);
+}
+
+/// The examples of computed Chinese and Korean years.
+fn show_east_asian<R: EastAsianRules>(rt: &impl Abort, computed: EastAsianTraditional<R>) {
+    let date = Date::from_rata_die(RataDie::new(738946), computed);
+    assert!(rt; date.year().extended_year() == 2024);
+}
+
+/// The year of a date at Mecca.
+fn show_mecca<A: AsCalendar>(rt: &impl Abort, date: &Date<A>)
+where
+    A::Calendar: Calendar,
+{
+    assert!(rt; date.year().extended_year() == 1445);
+}
+
 #[test]
 fn rules_of_calendars(rt: HostRuntime) {
     let rules = TabularAlgorithm::new(
         TabularAlgorithmLeapYears::TypeII,
         TabularAlgorithmEpoch::Friday,
     );
-    let date = Date::from_rata_die(RataDie::new(738750), Hijri(rules)); // 2023-08-18
-    assert!(rt; date.day_of_month().0 == 1);
+    show_rules(&rt, rules);
 
     let computed = Hijri(UmmAlQura::new(HijriTable::none()));
-    let date = Date::from_rata_die(RataDie::new(738946), computed);
-    assert!(rt; date.year().extended_year() == 1445);
+    show_hijri(&rt, computed);
 
     let computed = Hijri(AstronomicalSimulation::new(HijriTable::none()));
-    let date = Date::from_rata_die(RataDie::new(738946), computed);
-    assert!(rt; date.year().extended_year() == 1445);
+    show_hijri(&rt, computed);
 }
 
 #[test]
 fn east_asian_rules(rt: HostRuntime) {
     let computed = EastAsianTraditional(China::new(EastAsianTable::none(Side::China)));
-    let date = Date::from_rata_die(RataDie::new(738946), computed);
-    assert!(rt; date.year().extended_year() == 2024);
+    show_east_asian(&rt, computed);
 
     let computed = EastAsianTraditional(Korea::new(EastAsianTable::none(Side::Korea)));
-    let date = Date::from_rata_die(RataDie::new(738946), computed);
-    assert!(rt; date.year().extended_year() == 2024);
+    show_east_asian(&rt, computed);
 }
 
 /// The examples of [`tables_of_ones_own`].
@@ -95,7 +118,7 @@ fn show_tables_of_ones_own(rt: &impl Abort) -> Option<()> {
     assert!(rt; date.era_year().year == 6); // of Reiwa
 
     let date = Date::from_rata_die(RataDie::new(738946), Tables::none().simulated_mecca());
-    assert!(rt; date.year().extended_year() == 1445);
+    show_mecca(rt, &date);
     Some(())
 }
 

@@ -1,43 +1,117 @@
 //! The examples of the docs: published years, and rows of a text.
 
+use icu_calendar::hijri::Rules;
 use icu_calendar::rows::TableRows;
 use icu_calendar::{
-    AnyCalendar, AnyCalendarKind, ChineseTraditional, Date, EastAsianTable, Hijri, HijriRow,
-    HijriTable, Month, Persian, RataDie, Side, Tables, laws, published,
+    AnyCalendar, AnyCalendarKind, AsCalendar, Calendar, ChineseTraditional, Date, DateNewError,
+    EastAsianTable, Hijri, HijriRow, HijriTable, Month, Persian, RataDie, Side, Tables, laws,
+    published,
 };
+use std::process::Abort;
 use std::test::Fail;
+
+/// The examples of published Chinese years.
+fn show_chinese<A: AsCalendar + Copy>(rt: &impl Abort, chinese: A) -> Result<(), DateNewError>
+where
+    A::Calendar: Calendar,
+{
+    let new_year = Date::try_new(2023.into(), Month::new(1), 1, chinese)?;
+    assert!(rt; new_year.to_rata_die().to_i64_date() == 738542); // 2023-01-22
+
+    let date = Date::from_rata_die(RataDie::new(738542), chinese);
+    assert!(rt; date.day_of_year().0 == 1); // 2023-01-22
+    Ok(())
+}
+
+/// The examples of published Korean years.
+fn show_korean<A: AsCalendar + Copy>(rt: &impl Abort, korean: A) -> Result<(), DateNewError>
+where
+    A::Calendar: Calendar,
+{
+    let new_year = Date::try_new(2027.into(), Month::new(1), 1, korean)?;
+    assert!(rt; new_year.to_rata_die().to_i64_date() == 740019); // 2027-02-07, a day after China's
+
+    let date = Date::from_rata_die(RataDie::new(740019), korean);
+    assert!(rt; date.day_of_year().0 == 1); // 2027-02-07
+    Ok(())
+}
+
+/// The examples of corrected Persian years.
+fn show_persian<A: AsCalendar + Copy>(rt: &impl Abort, persian: A) -> Result<(), DateNewError>
+where
+    A::Calendar: Calendar,
+{
+    let new_year = Date::try_new(1404.into(), Month::new(1), 1, persian)?;
+    assert!(rt; new_year.to_rata_die().to_i64_date() == 739331); // 2025-03-21
+
+    let date = Date::from_rata_die(RataDie::new(739331), persian);
+    assert!(rt; date.day_of_year().0 == 1); // 2025-03-21
+    Ok(())
+}
+
+/// The examples of published Umm al-Qura years.
+fn show_umm_al_qura<A: AsCalendar + Copy>(
+    rt: &impl Abort,
+    umm_al_qura: A,
+) -> Result<(), DateNewError>
+where
+    A::Calendar: Calendar,
+{
+    let ramadan = Date::try_new(1446.into(), Month::new(9), 1, umm_al_qura)?;
+    assert!(rt; ramadan.to_rata_die().to_i64_date() == 739311); // 2025-03-01
+
+    let date = Date::from_rata_die(RataDie::new(739311), umm_al_qura);
+    assert!(rt; date.month().number() == 9); // 2025-03-01, the first day of Ramadan
+    Ok(())
+}
+
+/// The day of a date in 1912.
+fn show_day_1912<A: AsCalendar>(rt: &impl Abort, date: &Date<A>)
+where
+    A::Calendar: Calendar,
+{
+    assert!(rt; date.to_rata_die().to_i64_date() == 698055); // 1912-03-18
+}
+
+/// The examples of a Chinese year of a row.
+fn show_row_1912<A: AsCalendar>(rt: &impl Abort, chinese: A)
+where
+    A::Calendar: Calendar,
+{
+    let date = Date::from_rata_die(RataDie::new(698055), chinese);
+    assert!(rt; date.day_of_month().0 == 30); // 1912-03-18
+}
 
 #[test]
 fn published_years_of_calendars(rt: HostRuntime) -> Result<(), Fail> {
     let chinese = published_years::chinese();
-    let new_year = Date::try_new(2023.into(), Month::new(1), 1, chinese)?;
-    assert!(rt; new_year.to_rata_die().to_i64_date() == 738542); // 2023-01-22
+    show_chinese(&rt, chinese)?;
+    let chinese = published::tables().chinese();
 
     let korean = published_years::korean();
-    let new_year = Date::try_new(2027.into(), Month::new(1), 1, korean)?;
-    assert!(rt; new_year.to_rata_die().to_i64_date() == 740019); // 2027-02-07, a day after China's
+    show_korean(&rt, korean)?;
+    let korean = published::tables().korean();
 
     let persian = published_years::persian();
-    let new_year = Date::try_new(1404.into(), Month::new(1), 1, persian)?;
-    assert!(rt; new_year.to_rata_die().to_i64_date() == 739331); // 2025-03-21
-
+    show_persian(&rt, persian)?;
     let persian = Persian::new(published_years::persian_corrections());
-    let new_year = Date::try_new(1404.into(), Month::new(1), 1, persian)?;
-    assert!(rt; new_year.to_rata_die().to_i64_date() == 739331); // 2025-03-21
+    let persian = published::tables().persian();
 
     let umm_al_qura = published_years::umm_al_qura();
-    let ramadan = Date::try_new(1446.into(), Month::new(9), 1, umm_al_qura)?;
-    assert!(rt; ramadan.to_rata_die().to_i64_date() == 739311); // 2025-03-01
+    show_umm_al_qura(&rt, umm_al_qura)?;
+    let umm_al_qura = published::tables().umm_al_qura();
     Ok(())
 }
 
 #[test]
 fn published_years_of_a_kind(rt: HostRuntime) -> Result<(), Fail> {
     let new_year = Date::try_new(2023.into(), Month::new(1), 1, published::chinese())?;
-    assert!(rt; new_year.to_rata_die().to_i64_date() == 738542); // 2023-01-22
 
     let calendar = AnyCalendar::new(AnyCalendarKind::Chinese, published_years::tables());
     assert!(rt; calendar.kind() == AnyCalendarKind::Chinese);
+
+    let computed = AnyCalendar::new(AnyCalendarKind::Chinese, Tables::none());
+    let published = AnyCalendar::new(AnyCalendarKind::Chinese, published::tables());
     Ok(())
 }
 
@@ -47,7 +121,7 @@ fn rows_of_text(rt: HostRuntime) -> Result<(), Fail> {
     let rows = TableRows::try_read(alloc, b"row china 1912 698026 lslslslslsls 0\n")?;
     let tables = rows.tables()?;
     let date = Date::try_new(1912.into(), Month::new(1), 30, tables.chinese())?;
-    assert!(rt; date.to_rata_die().to_i64_date() == 698055); // 1912-03-18
+    show_day_1912(&rt, &date);
     Ok(())
 }
 
@@ -65,8 +139,6 @@ fn rows_of_lines(rt: HostRuntime) -> Result<(), Fail> {
 
     let rows = TableRows::try_read(alloc, b"row persian 1502\n")?;
     let persian = rows.tables()?.persian();
-    let date = Date::from_rata_die(RataDie::new(739331), persian);
-    assert!(rt; date.day_of_year().0 == 1); // 2025-03-21
     Ok(())
 }
 
@@ -76,8 +148,7 @@ fn rows_of_tables(rt: HostRuntime) -> Result<(), Fail> {
     let rows = TableRows::try_read(alloc, b"row china 1912 698026 lslslslslsls 0\n")?;
     assert!(rt; rows.china().len() == 1);
     let chinese = rows.tables()?.chinese();
-    let date = Date::from_rata_die(RataDie::new(698055), chinese);
-    assert!(rt; date.day_of_month().0 == 30); // 1912-03-18
+    show_row_1912(&rt, chinese);
 
     let rows = TableRows::try_read(alloc, b"row korea 1912 698026 lslslslslsls 0\n")?;
     assert!(rt; rows.korea().len() == 1);
@@ -85,28 +156,6 @@ fn rows_of_tables(rt: HostRuntime) -> Result<(), Fail> {
     let rows = TableRows::try_read(alloc, b"row hijri 1445 738720 sllslslslsll\n")?;
     assert!(rt; rows.umm_al_qura().len() == 1);
     Ok(())
-}
-
-#[test]
-fn calendars_over_tables(rt: HostRuntime) {
-    let computed = AnyCalendar::new(AnyCalendarKind::Chinese, Tables::none());
-    let published = AnyCalendar::new(AnyCalendarKind::Chinese, published::tables());
-
-    let chinese = published::tables().chinese();
-    let date = Date::from_rata_die(RataDie::new(738542), chinese);
-    assert!(rt; date.day_of_year().0 == 1); // 2023-01-22
-
-    let korean = published::tables().korean();
-    let date = Date::from_rata_die(RataDie::new(740019), korean);
-    assert!(rt; date.day_of_year().0 == 1); // 2027-02-07
-
-    let umm_al_qura = published::tables().umm_al_qura();
-    let date = Date::from_rata_die(RataDie::new(739311), umm_al_qura);
-    assert!(rt; date.month().number() == 9); // 2025-03-01, the first day of Ramadan
-
-    let persian = published::tables().persian();
-    let date = Date::from_rata_die(RataDie::new(739331), persian);
-    assert!(rt; date.day_of_year().0 == 1); // 2025-03-21
 }
 
 /// `row hijri 1445 738720 sllslslslsll`
@@ -123,22 +172,32 @@ const YEAR_1446: HijriRow = HijriRow {
     start_offset: 6,
 };
 
+/// The date that was stored.
+fn store<R: Rules>(before: Hijri<R>) -> Result<Date<Hijri<R>>, DateNewError> {
+    let stored = Date::try_new(1446.into(), Month::new(2), 1, before)?;
+    Ok(stored)
+}
+
+/// The date under the longer table.
+fn show_rebased<R: Rules>(rt: &impl Abort, stored: &Date<Hijri<R>>, longer: Hijri<R>) {
+    let rebased = stored.rebase(longer);
+    assert!(rt; rebased.moved && rebased.date.day_of_month().0 == 2);
+}
+
 #[test]
 fn stored_dates(rt: HostRuntime) -> Result<(), Fail> {
     let table = HijriTable::try_new(&[YEAR_1445])?;
     let before = Hijri::new_umm_al_qura(table);
-    let stored = Date::try_new(1446.into(), Month::new(2), 1, before)?;
+    let stored = store(before)?;
     let rows = [YEAR_1445, YEAR_1446];
     let longer = Hijri::new_umm_al_qura(table.lengthened(&rows)?);
-    let rebased = stored.rebase(longer);
-    assert!(rt; rebased.moved && rebased.date.day_of_month().0 == 2);
+    show_rebased(&rt, &stored, longer);
 
     let alloc = rt.alloc();
     let text = b"row hijri 1445 738720 sllslslslsll\nrow hijri 1446 739075 sllslslslsls\n";
     let rows = TableRows::try_read(alloc, text)?; // the rows of 1445 and of 1446
     let longer = Hijri::new_umm_al_qura(table.lengthened(rows.umm_al_qura())?);
-    let rebased = stored.rebase(longer);
-    assert!(rt; rebased.moved);
+    show_rebased(&rt, &stored, longer);
     Ok(())
 }
 

@@ -1,4 +1,4 @@
-//! What books hold.
+//! The names and rules of books.
 
 use super::FOUR;
 use cal_holidays::{Book, HolidayRule};

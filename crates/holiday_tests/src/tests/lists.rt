@@ -1,15 +1,15 @@
-//! The holidays of windows, in order, and what is left of them.
+//! The holidays in windows, in order, and the rest after each of them.
 
 use super::{FOUR, window_of};
 use cal_holidays::{Book, Rest, holidays};
 use cal_tables::Tables;
 use std::process::Abort;
 
-/// Three rules of the same day.
+/// Three rules that name the same day.
 const ONE_DAY: &[u8] =
     b"easter,A,gregorian,,0,\nweekday,B,iso,M03,-1,sunday\nfixed,C,iso,M03,31,exact\n";
 
-/// The last Thursday and the fifth of February, and the last Sunday of the days behind the twelve Coptic months.
+/// The last and the fifth Thursday of February, and the last Sunday of the thirteenth Coptic month.
 const WEEKDAYS: &[u8] =
     b"weekday,A,iso,M02,-1,thursday\nweekday,B,iso,M02,5,thursday\nweekday,C,coptic,M13,-1,sunday\n";
 
@@ -17,8 +17,8 @@ const WEEKDAYS: &[u8] =
 const LAST_DAYS: &[u8] =
     b"weekday,A,hebrew,M01,1,monday\nweekday,B,chinese,M12,-1,monday\nfixed,C,iso,M12,31,exact\n";
 
-/// That the holidays of a window, but the rules before one on its first day, are these days and rules, and that what is
-/// left after each of them goes on with the next one.
+/// Asserts that the holidays in a window are these days and rules, without the rules before one on the first day. Asserts
+/// that the rest after each of them continues with the next.
 fn assert_listed(
     rt: &impl Abort,
     book: &Book,

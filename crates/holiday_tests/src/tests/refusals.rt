@@ -1,11 +1,12 @@
-//! The records that aren't of a book, by their number and their first bad field.
+//! Invalid records, by their number and their first invalid field.
 
 use cal_holidays::{Book, BookError};
 
-/// Texts, and the number and the field that are told.
-const REFUSED: [(&[u8], usize, u8); 17] = [
+/// Texts, and the number and the field of the error.
+const REFUSED: [(&[u8], usize, u8); 18] = [
     (b"fixed,X,klingon,M01,1,exact", 1, 3),
     (b"easter,X,gregorian", 1, 0),
+    (b"easter,X,gregorian,,0,\neaster,Y,gregorian", 2, 0),
     (b"easter,X,gregorian,,0,,", 1, 0),
     (
         b"easter,X,gregorian,,0,\nfixed,,iso,M01,1,exact\n\nfree",
@@ -27,7 +28,7 @@ const REFUSED: [(&[u8], usize, u8); 17] = [
     (b"weekday,X,iso,M02,1,day", 1, 6),
 ];
 
-/// Texts of one record that is read.
+/// Texts with one valid record.
 const READ: [&[u8]; 7] = [
     b"fixed,X,coptic,M13,1,exact",
     b"fixed,X,hebrew,M05L,1,exact",

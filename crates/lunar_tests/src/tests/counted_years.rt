@@ -98,6 +98,10 @@ impl<'c, R: Rules> Rules for Counted<'c, R> {
     ghost alike = { on_equiv (λ s. s.rules) R.alike };
 
     ghost shared = { λ s t. R.shared s.rules t.rules };
+
+    ghost shared_references = { λ s t. R.shared_references s.rules t.rules };
+
+    ghost shared_names = { λ s t. R.shared_names s.rules t.rules };
 }
 
 impl<'c, R: cal_hijri::Rules> cal_hijri::Rules for Counted<'c, R> {
@@ -147,6 +151,10 @@ impl<'c, R: cal_hijri::Rules> cal_hijri::Rules for Counted<'c, R> {
     ghost alike = { on_equiv (λ s. s.rules) R.alike };
 
     ghost shared = { λ s t. R.shared s.rules t.rules };
+
+    ghost shared_references = { λ s t. R.shared_references s.rules t.rules };
+
+    ghost shared_names = { λ s t. R.shared_names s.rules t.rules };
 }
 
 /// The row of a tabular year.

@@ -663,6 +663,60 @@ fn a_row_is_read_as_the_nearest_year(rt: HostRuntime) {
     }
 }
 
+/// A row of these fields.
+fn row_with(related_iso: i32, long_months: u16, leap_month: u8, start_offset: u8) -> EastAsianRow {
+    EastAsianRow {
+        related_iso,
+        long_months,
+        leap_month,
+        start_offset,
+    }
+}
+
+/// A row that names no year is refused as such, whatever else its table breaks.
+#[test]
+fn a_row_that_names_no_year_is_refused_first(rt: HostRuntime) {
+    let own = row_of_1912(&rt);
+    for &row in &[
+        row_with(1912, 0x555, 0, 35),
+        row_with(1912, 0x555, 0, 255),
+        row_with(1912, 0x1555, 0, 30),
+        row_with(1912, 0x2555, 2, 30),
+        row_with(1912, 0x555, 1, 30),
+        row_with(1912, 0x555, 14, 30),
+        row_with(1912, 0x555, 255, 30),
+        row_with(8000001, 0x555, 0, 30),
+        row_with(-8000001, 0x555, 0, 30),
+    ] {
+        let part = TablePart::Range;
+        let first = EastAsianTable::try_new(Side::China, &[row]).err();
+        assert_at(&rt, row, first, Some(TableFault { row: 1, part }));
+        let second = EastAsianTable::try_new(Side::Korea, &[own, row]).err();
+        assert_at(&rt, row, second, Some(TableFault { row: 2, part }));
+    }
+}
+
+#[test]
+fn a_year_has_one_row(rt: HostRuntime) {
+    for &(number, bits, place, start) in &[
+        (1912, 0x555, 0, 30),
+        (1912, 0xfff, 0, 0),
+        (2023, 0x15b2, 3, 3),
+        (2023, 0x1fff, 13, 34),
+        (-8000000, 0, 2, 34),
+        (8000000, 1, 0, 34),
+    ] {
+        let row = row_with(number, bits, place, start).year().row();
+        let fields = (
+            row.related_iso,
+            row.long_months,
+            row.leap_month,
+            row.start_offset,
+        );
+        assert_at(&rt, number, fields, (number, bits, place, start));
+    }
+}
+
 /// That a year may start on a day, and its last month have so many.
 fn assert_start_and_end(rt: &impl Abort, first: i64, last: i64)
     ensures first { IsBetween (pos 0) (pos 4000000) first }

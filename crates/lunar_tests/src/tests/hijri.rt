@@ -21,6 +21,8 @@ use cal_types::{
     DateFields, DateFromFieldsError, DateFromFieldsOptions, MissingFieldsStrategy, Month,
     TableFault, TablePart, YearInput,
 };
+use std::fmt::Debug;
+use std::hash::{DefaultHasher, Hash, Hasher};
 use std::process::Abort;
 
 /// The date of an extended year, a month and a day.
@@ -306,6 +308,112 @@ fn a_row_is_read_as_the_nearest_year(rt: HostRuntime) {
         };
         assert_at(&rt, extended_year, row.year().extended_year(), number);
     }
+}
+
+/// The row of 1445, with other values of its fields.
+fn changed_row(extended_year: i32, long_months: u16, start_offset: u8) -> HijriRow {
+    HijriRow {
+        extended_year,
+        long_months,
+        start_offset,
+    }
+}
+
+/// A row that names no year is refused as such, whatever else its table breaks.
+#[test]
+fn a_row_that_names_no_year_is_refused_first(rt: HostRuntime) {
+    let own = changed_row(1445, 0xd56, 5);
+    assert_holds(&rt, "the row", HijriTable::try_new(&[own]).is_ok());
+    for &row in &[
+        changed_row(1445, 0xd56, 11),
+        changed_row(1445, 0xd56, 255),
+        changed_row(1445, 0x1d56, 5),
+        changed_row(1445, 0xfd56, 5),
+        changed_row(8000001, 0xd56, 5),
+        changed_row(-8000001, 0xd56, 5),
+        changed_row(1, 0xf000, 34),
+    ] {
+        let part = TablePart::Range;
+        let first = HijriTable::try_new(&[row]).err();
+        assert_at(&rt, row, first, Some(TableFault { row: 1, part }));
+        let second = HijriTable::try_new(&[own, row]).err();
+        assert_at(&rt, row, second, Some(TableFault { row: 2, part }));
+    }
+}
+
+/// The fields of a row.
+fn fields_of(row: HijriRow) -> (i32, u16, u8) {
+    (row.extended_year, row.long_months, row.start_offset)
+}
+
+#[test]
+fn a_year_has_one_row(rt: HostRuntime) {
+    for &(number, bits, start) in &[
+        (1445, 0xd56, 5),
+        (1445, 0, 0),
+        (-8000000, 4095, 10),
+        (8000000, 1, 10),
+    ] {
+        let row = changed_row(number, bits, start).year().row();
+        let row = row.expect(&rt, "the row is there");
+        assert_at(&rt, number, fields_of(row), (number, bits, start));
+    }
+}
+
+/// The hash of a value.
+fn hash_of<T: Hash>(value: &T) -> u64 {
+    let mut state = DefaultHasher::new();
+    value.hash(&mut state);
+    state.finish()
+}
+
+/// That each value is below those behind it, is equal to itself alone, and has a hash of its own.
+fn assert_in_order<T: Ord + Hash + Debug + Copy>(rt: &impl Abort, values: &[T]) {
+    for (i, a) in values.iter().enumerate() {
+        for (j, b) in values.iter().enumerate() {
+            assert_at(rt, (i, j), *a < *b, i < j);
+            assert_at(rt, (i, j), *a == *b, i == j);
+            assert_at(rt, (i, j), hash_of(a) == hash_of(b), i == j);
+        }
+    }
+}
+
+#[test]
+fn rules_are_ordered_and_hashed_by_leap_years_then_epoch(rt: HostRuntime) {
+    let (first, second) = (
+        TabularAlgorithmLeapYears::TypeII,
+        TabularAlgorithmLeapYears::TypeI,
+    );
+    let (thursday, friday) = (
+        TabularAlgorithmEpoch::Thursday,
+        TabularAlgorithmEpoch::Friday,
+    );
+    assert_in_order(&rt, &[first, second]);
+    assert_in_order(&rt, &[thursday, friday]);
+    assert_in_order(
+        &rt,
+        &[
+            TabularAlgorithm::new(first, thursday),
+            TabularAlgorithm::new(first, friday),
+            TabularAlgorithm::new(second, thursday),
+            TabularAlgorithm::new(second, friday),
+        ],
+    );
+}
+
+#[test]
+fn dates_are_ordered_and_hashed_by_year_month_and_day(rt: HostRuntime) {
+    let hijri = type_ii(TabularAlgorithmEpoch::Friday);
+    assert_in_order(
+        &rt,
+        &[
+            dated(&rt, &hijri, (-1, Month::new(12), 29)),
+            dated(&rt, &hijri, (1444, Month::new(12), 29)),
+            dated(&rt, &hijri, (1445, Month::new(1), 1)),
+            dated(&rt, &hijri, (1445, Month::new(1), 30)),
+            dated(&rt, &hijri, (1445, Month::new(2), 1)),
+        ],
+    );
 }
 
 #[test]

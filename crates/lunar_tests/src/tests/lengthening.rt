@@ -36,7 +36,7 @@ const LATE_1446: HijriRow = HijriRow {
     start_offset: 6,
 };
 
-/// The bits above the twelfth month's are of no month.
+/// The bits above the twelfth month's are of no month, so the row names no year.
 const SAME_1445: HijriRow = HijriRow {
     extended_year: 1445,
     long_months: 0xfd56,
@@ -67,7 +67,7 @@ const YEAR_1914: EastAsianRow = EastAsianRow {
     start_offset: 7,
 };
 
-/// The bit above the twelfth month's is of no month, and no year has a leap month in the place 1.
+/// The bit above the twelfth month's is of no month, and no year has a leap month in the place 1: the row names no year.
 const SAME_1912: EastAsianRow = EastAsianRow {
     related_iso: 1912,
     long_months: 0x1b25,
@@ -105,13 +105,9 @@ fn rows_lengthen_a_hijri_table_or_have_a_fault(rt: HostRuntime) {
     let differs = Some(LengthenFault::Differs { row: 1 });
     assert_lengthens(&rt, table, "a year more", &[YEAR_1445, YEAR_1446], None);
     assert_lengthens(&rt, table, "no year more", &[YEAR_1445], None);
-    assert_lengthens(
-        &rt,
-        table,
-        "the same lengths",
-        &[SAME_1445, YEAR_1446],
-        None,
-    );
+    let no_year = fault_in(1, TablePart::Range);
+    let rows = [SAME_1445, YEAR_1446];
+    assert_lengthens(&rt, table, "a row of no year", &rows, no_year);
     assert_lengthens(&rt, table, "another year 1445", &[TABULAR_1445], differs);
     assert_lengthens(&rt, table, "no rows", &[], differs);
     let late = fault_in(2, TablePart::End);
@@ -150,7 +146,13 @@ fn rows_lengthen_an_east_asian_table_or_have_a_fault(rt: HostRuntime) {
     let short = fault_in(2, TablePart::End);
     let late_korean = fault_in(3, TablePart::End);
     assert_lengthens_side(&rt, Side::China, &published, None);
-    assert_lengthens_side(&rt, Side::China, &[SAME_1912, YEAR_1913, YEAR_1914], None);
+    let no_year = fault_in(1, TablePart::Range);
+    assert_lengthens_side(
+        &rt,
+        Side::China,
+        &[SAME_1912, YEAR_1913, YEAR_1914],
+        no_year,
+    );
     assert_lengthens_side(&rt, Side::China, &[OTHER_1912], differs);
     assert_lengthens_side(&rt, Side::China, &[], differs);
     assert_lengthens_side(&rt, Side::China, &[YEAR_1912, YEAR_1913], short);

@@ -10,7 +10,7 @@ use cal_types::{
     YearAmbiguity, YearInput,
 };
 
-/// The fields of a year, a month and a day alone.
+/// Returns the fields of a year, a month and a day alone.
 fn fields(year: i32, month: Month, day: u8) -> DateFields<'static> {
     DateFields::from_year_month_day(year, month, day)
 }

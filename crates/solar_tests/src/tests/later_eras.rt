@@ -7,12 +7,12 @@ use cal_gregory::{EraStartDate, Japanese, JapaneseEras};
 use cal_types::{Month, TinyAsciiStr, YearInput};
 use std::process::Abort;
 
-/// The start of an era on a day.
+/// Returns the start of an era on a day.
 fn start(year: i32, month: u8, day: u8) -> EraStartDate {
     EraStartDate { year, month, day }
 }
 
-/// The eras with a last one that starts on a day, if it may be listed.
+/// Returns the eras with a last one that starts on a day, if it may be listed.
 fn eras_with(start: EraStartDate, code: &[u8], index: u8) -> Option<JapaneseEras> {
     let code = TinyAsciiStr::try_from_utf8(code).ok()?;
     JapaneseEras::with_last_era(start, code, index)

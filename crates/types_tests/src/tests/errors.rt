@@ -160,6 +160,7 @@ fn parse_errors_print_their_texts(rt: HostRuntime) -> Result<(), AllocError> {
 #[test]
 fn table_parts_print_their_texts(rt: HostRuntime) -> Result<(), AllocError> {
     let cases = &[
+        (TablePart::Range, "range"),
         (TablePart::Year, "year"),
         (TablePart::Join, "join"),
         (TablePart::End, "end"),

@@ -16,7 +16,8 @@ pub(crate) struct CountedFrom {
 impl GregorianYears for CountedFrom {
     ghost use Rattle.std.specs.Prelude.{codes, refl, None};
     ghost use Rattle.cal_types.specs.Eras.{only_era_reads};
-    ghost use Rattle.cal_types.proofs.EraLemmas.{only_era_reads-in_range, only_era_reads-covered};
+    ghost use Rattle.cal_types.proofs.EraLemmas.{only_era_reads-in_range};
+    ghost use Rattle.cal_base.specs.laws.EraYearLaws.{only_era_reads-near};
     ghost use Rattle.cal_base.specs.IsoEra.{iso_era_year};
 
     ghost offset = { λ s. s.iso_year };
@@ -59,12 +60,12 @@ impl GregorianYears for CountedFrom {
 
     ghost era_in_range = { λ _ era n y. only_era_reads-in_range (codes "default") era n y };
 
-    ghost era_covered = { λ _ era n y. only_era_reads-covered (codes "default") era n y };
+    ghost era_near = { λ _ era n y. only_era_reads-near (codes "default") era n y };
 
     ghost named = { λ _ t. refl };
 }
 
-/// The calendar of the Republic of China.
+/// Returns the calendar of the Republic of China.
 pub(crate) fn minguo() -> AbstractGregorian<CountedFrom> {
     AbstractGregorian(CountedFrom { iso_year: 1911 })
 }

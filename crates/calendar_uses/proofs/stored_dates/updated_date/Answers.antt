@@ -16,7 +16,7 @@ pub returns-in-Ok-clause-stays : goal.returns-in-Ok-clause-stays
 returns-in-Ok-clause-stays c same free =
     let old = c.args.table.now.rows.now in
     let longer = c.args.rows.now.hijri.items in
-    let lengthens : Lengthens old longer = subst (Lengthens old) c.umm_al_qura.ensures (c.in-Ok.ensures.exact.0 refl) in
-    let made = ap (λ (table : HijriTable). table.rows.now) c.new_umm_al_qura.ensures ∙ (c.in-Ok.ensures.first ∙ c.umm_al_qura.ensures) in
+    let lengthens : Lengthens old longer = subst (Lengthens old) c.umm_al_qura.ensures.rows (c.in-Ok.ensures.exact.0 refl) in
+    let made = ap (λ (table : HijriTable). table.rows.now) c.new_umm_al_qura.ensures ∙ (c.in-Ok.ensures.first ∙ c.umm_al_qura.ensures.rows) in
     kept c.args.stored.now.calendar.0.table.rows.now old _ longer (kept_date c.args.stored.now.inner.0.parts).year c.hijri_date_kept.result.moved
     same made lengthens free c.hijri_date_kept.ensures.stays
