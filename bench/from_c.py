@@ -4,7 +4,7 @@
 
 The C call answers all that a date says, its era or cycle among it, where `day` reads the year, the month and the day. Both programs are run in
 turns with two counts, as bench/operations.py has it, and the least time of each counts. Build them first: `rt run -- day iso 1000` in
-crates/dates_bench, and build/shared.sh.
+crates/dates_bench, and bindings/c/build.sh.
 """
 
 import argparse
@@ -37,7 +37,7 @@ def heap() -> Path:
 
 def compiled(archive: Path, folder: Path) -> Path:
     program = folder / "from_c"
-    words = ["-std=c11", "-O2", "-I", LIBRARY / "include", TOP / "bench/from_c.c", archive, heap(), "-o", program]
+    words = ["-std=c11", "-O2", "-I", TOP / "bindings/c/include", TOP / "bench/from_c.c", archive, heap(), "-o", program]
     subprocess.run([os.environ.get("CC", "cc"), *words], check=True)
     return program
 

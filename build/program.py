@@ -1,7 +1,7 @@
 #!/usr/bin/env python3
 """Proves and builds the program `calspan`: each crate that it stands on once, crates that don't stand on one another side by side.
 With names of libraries as arguments, it proves these and what they stand on in its place; of a static library it builds the archive, and of
-the one for WebAssembly the module `web/icu_calendar.wasm`. With
+the one for WebAssembly the module `bindings/web/icu_calendar.wasm`. With
 `--progress` first, it says on standard error how far it is: how many of the crates are proved, and how many minutes have gone.
 
 A crate is built as soon as the crates below it are. Where one crate has by far the longest chain of others behind it, the chain decides
@@ -271,7 +271,7 @@ def link(tools: Kit, room: Path) -> int:
 def link_module(tools: Kit, archive: Path) -> int:
     """Links the archive for WebAssembly into a module, and answers the linker's status."""
     words = [tools.linker, "--target", MODULE_TARGET, "--toolchain", tools.toolchain, "--stack", str(MODULE_STACK)]
-    return subprocess.run([*words, "-o", TOP / "web/icu_calendar.wasm", archive], stdin=subprocess.DEVNULL).returncode
+    return subprocess.run([*words, "-o", TOP / "bindings/web/icu_calendar.wasm", archive], stdin=subprocess.DEVNULL).returncode
 
 
 def hand_out(room: Path, tops: list[str]) -> None:

@@ -1,0 +1,31 @@
+#!/usr/bin/env python3
+"""Runs a benchmark by its name, with the options that follow; `--help` behind a name lists them.
+
+- `operations`: operations on dates in each calendar, in nanoseconds (build first: `rt run -- day iso 1000` in crates/dates_bench).
+- `requests`: requests a second of the program, and instructions for each.
+- `lists`: items a second of long lists of days.
+- `holidays`: a book of a hundred rules over a century.
+- `from_c`: a conversion from C beside the same in Rattle (build first: the above, and bindings/c/build.sh).
+
+Nothing else should run beside it.
+"""
+
+import importlib
+import sys
+from pathlib import Path
+
+NAMES = ["operations", "requests", "lists", "holidays", "from_c"]
+
+
+def main() -> int:
+    name = sys.argv[1] if len(sys.argv) > 1 else ""
+    if name not in NAMES:
+        print(__doc__)
+        return 2
+    sys.path.insert(0, str(Path(__file__).resolve().parent))
+    del sys.argv[1]
+    return importlib.import_module(name).main()
+
+
+if __name__ == "__main__":
+    sys.exit(main())

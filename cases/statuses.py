@@ -1,0 +1,74 @@
+#!/usr/bin/env python3
+"""Runs the linked program once for each exit status, and compares the status and what is written.
+
+A read fails on a folder as standard input, a write on /dev/full, and memory for a book under a limit of the process's memory.
+"""
+
+import resource
+import subprocess
+import sys
+import tempfile
+from pathlib import Path
+from typing import NamedTuple
+
+TOP = Path(__file__).resolve().parent.parent
+PROGRAM = TOP / "crates/calspan/out/calspan"
+LIMIT = 16777216
+# A process of this many bytes of memory starts, and can't hold a book of half as many.
+LITTLE_MEMORY = 24 << 20
+REQUEST = b"span iso iso days reject none from year=2024 month=M01 day=1 to year=2024 month=M02 day=%d\n"
+ROW = b"row china 2024\n"
+
+
+class Run(NamedTuple):
+    status: int
+    words: list[str]
+    source: bytes | None
+    begins: bytes
+
+
+RUNS = [
+    Run(0, ["gen", "1"], None, b"gen 1 ok 1 err 0 "),
+    Run(0, ["span"], REQUEST % 1, b"ok 2024/"),
+    Run(1, ["span"], REQUEST % 30, b"err to InvalidDay 29\n"),
+    Run(2, [], None, b""),
+    Run(2, ["spam"], None, b""),
+    Run(2, ["span", "span"], None, b""),
+    Run(6, ["span"], ROW, b"table line 1 syntax\n"),
+    Run(7, ["span"], b"#" * LIMIT + b"#\n", b""),
+]
+
+
+def ends_with(wanted: int, begins: bytes, words: list[str], **options) -> bool:
+    run = subprocess.run([PROGRAM, *words], timeout=60, check=False, stderr=subprocess.PIPE, **options)
+    written = run.stdout or b""
+    if run.returncode == wanted and written.startswith(begins) and (begins or not written) and not run.stderr:
+        return True
+    print(f"{words}: status {run.returncode} in place of {wanted}, {written[:80]!r}, {run.stderr[:80]!r}", file=sys.stderr)
+    return False
+
+
+def limit_memory() -> None:
+    resource.setrlimit(resource.RLIMIT_AS, (LITTLE_MEMORY, LITTLE_MEMORY))
+
+
+def main() -> int:
+    good = []
+    for it in RUNS:
+        source = {"stdin": subprocess.DEVNULL} if it.source is None else {"input": it.source}
+        good.append(ends_with(it.status, it.begins, it.words, stdout=subprocess.PIPE, **source))
+    with tempfile.TemporaryDirectory() as folder:
+        # A folder can be opened and not read.
+        with subprocess.Popen(["bash", "-c", 'exec "$0" span < "$1"', PROGRAM, folder], stdout=subprocess.PIPE) as run:
+            written = run.stdout.read()
+        good.append(run.returncode == 3 and not written)
+    with open("/dev/full", "wb") as full:
+        good.append(ends_with(4, b"", ["gen", "1"], stdout=full, stdin=subprocess.DEVNULL))
+    book = b"fixed,A,iso,M01,1,exact\n" * (LITTLE_MEMORY // 48)
+    good.append(ends_with(5, b"", ["holidays", "1", "2"], stdout=subprocess.PIPE, input=book, preexec_fn=limit_memory))
+    print(f"statuses: {len(good)} runs, {good.count(False)} end otherwise")
+    return int(not all(good))
+
+
+if __name__ == "__main__":
+    sys.exit(main())
