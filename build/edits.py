@@ -47,7 +47,10 @@ def check() -> int:
 def main(names: list[str]) -> int:
     if names == ["--check"]:
         return check()
-    wanted = names or sorted(it.parent.name for it in TOP.glob("crates/*/edits-apart"))
+    crates = sorted(it.parent.name for it in TOP.glob("crates/*/edits-apart"))
+    if unknown := [it for it in names if it not in crates]:
+        sys.exit(f"no edits stand apart in {', '.join(unknown)}")
+    wanted = names or crates
     with tempfile.TemporaryDirectory() as room:
         copy = Path(room) / "repository"
         shutil.copytree(TOP, copy, ignore=shutil.ignore_patterns("out", ".git"))
