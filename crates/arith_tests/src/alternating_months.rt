@@ -157,7 +157,7 @@ impl DateFieldsResolver for AlternatingMonths {
     ghost use Rattle.arith_tests.specs.AlternatingMonths.{alternating_names};
     ghost use Rattle.arith_tests.specs.laws.AlternatingMonthLaws.{alternating_reference-kind};
     ghost use Rattle.std.specs.Prelude.{codes};
-    ghost use Rattle.cal_types.proofs.EraLemmas.{only_era_reads-in_range, only_era_reads-covered};
+    ghost use Rattle.cal_types.proofs.EraLemmas.{only_era_reads-in_range, only_era_reads-near};
     ghost use Rattle.cal_types.proofs.YearNameLemmas.{reference_of_known-stands};
 
     ghost names = { λ _. alternating_names };
@@ -184,7 +184,7 @@ impl DateFieldsResolver for AlternatingMonths {
 
     ghost era_in_range = { λ _ era n y. only_era_reads-in_range (codes "am") era n y };
 
-    ghost era_covered = { λ _ era n y. only_era_reads-covered (codes "am") era n y };
+    ghost era_near = { λ _ era n y. only_era_reads-near (codes "am") era n y };
 
     ghost reference_of_kind = { λ _ m d. alternating_reference-kind m d };
 

@@ -2,7 +2,7 @@
 
 ghost use Rattle.std.specs.Prelude.{◌≡◌, ℕ, ℤ, ◌+◌, ◌<◌, ◌≤◌, ◌↔◌, ◌≤ℤ◌, ◌<ℤ◌, ◌+ℤ◌, ◌-ℤ◌, pos, neg_ℤ, unsigned_abs, false, Some, Err, IfOk, IsTrue, List};
 ghost use Rattle.std.specs.Ordering.{int_cmp, int_eq};
-ghost use Rattle.cal_days.specs.Day.{IsBetween, IsValidDay, IsFieldYear, IsRuleYear, IsCoveredYear, IsConstructorYear};
+ghost use Rattle.cal_days.specs.Day.{IsBetween, IsValidDay, IsFieldYear, IsRuleYear, IsCoveredYear, IsConstructorYear, IsNearEra};
 ghost use Rattle.cal_days.specs.Sums.{total};
 ghost use Rattle.cal_types.specs.Month.{MonthParts};
 ghost use Rattle.cal_types.specs.MonthParts.{month_parts};
@@ -285,7 +285,7 @@ pub trait DateFieldsResolver: Years {
 
     /// Returns the extended year of an era year, from -1040000 to 1040000, in the era of a code (CLDR, UTS 35).
     ///
-    /// For an era year from -9999 to 9999 the days of the extended year are valid: it lies from -980000 to 980000.
+    /// An era year from -9999 to 9999 has an extended year from -20000 to 20000, whose days are valid.
     ///
     /// # Errors
     ///
@@ -318,10 +318,10 @@ pub trait DateFieldsResolver: Years {
     ghost era_in_range: { (s : Self) (era : List ℕ) (n y : ℤ) → IsFieldYear n
         → (names s).reads era n ≡ Some y → IsRuleYear y };
 
-    /// An era's year near its start has valid days: this is all that a constructor needs of it. An era within 10000
-    /// years of year 0 reads years from -9999 to 9999 as ones from -20000 to 20000, far within.
-    ghost era_covered: { (s : Self) (era : List ℕ) (n y : ℤ) → IsConstructorYear n
-        → (names s).reads era n ≡ Some y → IsCoveredYear y };
+    /// An era year from -9999 to 9999 reads as an extended year from -20000 to 20000: every era of CLDR begins within
+    /// 10000 years of year 0. So its days are valid.
+    ghost era_near: { (s : Self) (era : List ℕ) (n y : ℤ) → IsConstructorYear n
+        → (names s).reads era n ≡ Some y → IsNearEra y };
 
     /// A month that no year of the calendar has is refused as such, and no other is.
     ghost reference_of_kind: { (s : Self) (m : MonthParts) (d : ℕ)

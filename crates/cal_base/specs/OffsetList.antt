@@ -1,6 +1,5 @@
 -- The calendars with the months of the proleptic Gregorian calendar, whose years are counted from a year of their own.
 use Rattle.std.specs.Prelude.{ℤ, pos, neg_ℤ, ◌+ℤ◌, ◌-ℤ◌}
-use Rattle.cal_days.specs.Day.{IsBetween}
 use Rattle.cal_types.specs.CalendarList.{CalendarList}
 use Rattle.cal_types.specs.Renumbered.{renumbered}
 use Rattle.cal_types.specs.RenumberedBounds.{IsShift}
@@ -15,10 +14,6 @@ offset_list offset = renumbered offset gregorian_list
 -- how far the extended years of a calendar may lie from the ISO years: 9999 years at most
 abbrev pub IsOffset : ℤ → Type 0
 IsOffset offset = IsShift offset
-
--- the extended years that an era year of at most four digits may read as: an era begins within 10000 years of year 0
-abbrev pub IsNearEra : ℤ → Type 0
-IsNearEra y = IsBetween (neg_ℤ (pos 20000)) (pos 20000) y
 
 -- the ISO year of an extended year
 abbrev pub iso_year_of : ℤ → ℤ → NumberedYear

@@ -7,4 +7,3 @@ pub mod MarchMonths
 pub mod PlainPlaceLaws
 pub mod NumberedYears
 pub mod Compatibility
-pub mod EraYearLaws

@@ -137,7 +137,6 @@ impl<Y: GregorianYears> DateFieldsResolver for AbstractGregorian<Y> {
     ghost use Rattle.cal_types.specs.PlainMonths.{is_plain_month};
     ghost use Rattle.cal_types.proofs.YearNameLemmas.{reference_of_known-stands, reference_of_known-tested};
     ghost use Rattle.cal_base.specs.OffsetSystem.{offset_names};
-    ghost use Rattle.cal_base.specs.laws.EraYearLaws.{near_era-covered};
     ghost use Rattle.cal_base.specs.laws.OffsetListLaws.{offset_list-plain};
 
     ghost names = { λ s. offset_names (Y.offset s.0) (Y.reads s.0) };
@@ -164,7 +163,7 @@ impl<Y: GregorianYears> DateFieldsResolver for AbstractGregorian<Y> {
 
     ghost era_in_range = { λ s era n y. Y.era_in_range s.0 era n y };
 
-    ghost era_covered = { λ s era n y h e. near_era-covered y (Y.era_near s.0 era n y h e) };
+    ghost era_near = { λ s era n y. Y.era_near s.0 era n y };
 
     ghost reference_of_kind = { λ s m d. reference_of_known-tested (is_plain_month 12 m) _ (pos 1972 -ℤ Y.offset s.0)
         ((offset_list-plain (Y.offset s.0)).kind m) };

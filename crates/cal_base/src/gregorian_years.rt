@@ -2,12 +2,12 @@
 //! own. Start at [`GregorianYears`]; [`AbstractGregorian`](crate::AbstractGregorian) makes a calendar of it.
 
 ghost use Rattle.std.specs.Prelude.{◌≡◌, ℕ, ℤ, List, Option, Some};
-ghost use Rattle.cal_days.specs.Day.{IsFieldYear, IsRuleYear, IsConstructorYear};
+ghost use Rattle.cal_days.specs.Day.{IsFieldYear, IsRuleYear, IsConstructorYear, IsNearEra};
 ghost use Rattle.cal_errors.specs.declared.algorithm.CalendarAlgorithm.{CalendarAlgorithm};
 ghost use Rattle.cal_types.specs.declared.year.EraYear.{EraYear};
 ghost use Rattle.cal_types.specs.CalendarList.{Date, date, IsValidDate};
 ghost use Rattle.cal_arith.specs.FieldNames.{era_read};
-ghost use Rattle.cal_base.specs.OffsetList.{offset_list, IsNearEra, IsOffset};
+ghost use Rattle.cal_base.specs.OffsetList.{offset_list, IsOffset};
 
 use cal_types::{CalendarAlgorithm, EraYear, UnknownEraError};
 use std::fmt::Debug;

@@ -47,8 +47,7 @@ pub struct IsoYears;
 impl GregorianYears for IsoYears {
     ghost use Rattle.std.specs.Prelude.{codes, pos, Some, None, refl};
     ghost use Rattle.cal_types.specs.Eras.{only_era_reads};
-    ghost use Rattle.cal_types.proofs.EraLemmas.{only_era_reads-in_range};
-    ghost use Rattle.cal_base.specs.laws.EraYearLaws.{only_era_reads-near};
+    ghost use Rattle.cal_types.proofs.EraLemmas.{only_era_reads-in_range, only_era_reads-near};
     ghost use Rattle.cal_base.specs.IsoEra.{iso_era_year};
     ghost use Rattle.cal_base.specs.laws.OffsetListLaws.{true-offset};
 

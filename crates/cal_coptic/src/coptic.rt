@@ -132,7 +132,7 @@ impl Years for Coptic {
 impl DateFieldsResolver for Coptic {
     ghost use Rattle.std.specs.Prelude.{codes};
     ghost use Rattle.cal_types.specs.PlainMonths.{is_plain_month};
-    ghost use Rattle.cal_types.proofs.EraLemmas.{only_era_reads-in_range, only_era_reads-covered};
+    ghost use Rattle.cal_types.proofs.EraLemmas.{only_era_reads-in_range, only_era_reads-near};
     ghost use Rattle.cal_types.proofs.YearNameLemmas.{reference_of_known-stands, reference_of_known-tested};
     ghost use Rattle.cal_coptic.specs.laws.CopticLaws.{coptic_list-plain};
     ghost use Rattle.cal_coptic.specs.CopticNames.{coptic_names, coptic_reference_year};
@@ -161,7 +161,7 @@ impl DateFieldsResolver for Coptic {
 
     ghost era_in_range = { λ _ era n y. only_era_reads-in_range (codes "am") era n y };
 
-    ghost era_covered = { λ _ era n y. only_era_reads-covered (codes "am") era n y };
+    ghost era_near = { λ _ era n y. only_era_reads-near (codes "am") era n y };
 
     ghost reference_of_kind = { λ _ m d. reference_of_known-tested (is_plain_month 13 m) _
         (coptic_reference_year m.number d) (coptic_list-plain.kind m) };

@@ -249,7 +249,7 @@ impl DateFieldsResolver for Ethiopian {
     ghost use Rattle.cal_coptic.specs.CopticNames.{coptic_reference_year};
     ghost use Rattle.cal_coptic.specs.EthiopianList.{coptic_offset};
     ghost use Rattle.cal_coptic.specs.EthiopianNames.{ethiopian_names};
-    ghost use Rattle.cal_coptic.specs.laws.EthiopianLaws.{ethiopian_list-plain, ethiopian_reads-covered, ethiopian_reads-in_range};
+    ghost use Rattle.cal_coptic.specs.laws.EthiopianLaws.{ethiopian_list-plain, ethiopian_reads-near, ethiopian_reads-in_range};
 
     ghost names = { λ s. ethiopian_names s.era_style };
 
@@ -278,7 +278,7 @@ impl DateFieldsResolver for Ethiopian {
 
     ghost era_in_range = { λ s era n y. ethiopian_reads-in_range s.era_style era n y };
 
-    ghost era_covered = { λ s era n y. ethiopian_reads-covered s.era_style era n y };
+    ghost era_near = { λ s era n y. ethiopian_reads-near s.era_style era n y };
 
     ghost reference_of_kind = { λ s m d. reference_of_known-tested (is_plain_month 13 m) _
         (coptic_reference_year m.number d -ℤ coptic_offset s.era_style)

@@ -39,6 +39,10 @@ IsConstructorYear y = IsBetween (neg_ℤ (pos 9999)) (pos 9999) y
 abbrev pub is_constructor_year : ℤ → Bool
 is_constructor_year y = is_between (neg_ℤ (pos 9999)) (pos 9999) y
 
+-- the extended years that such a year of an era may read as: an era begins within 10000 years of year 0
+abbrev pub IsNearEra : ℤ → Type 0
+IsNearEra y = IsBetween (neg_ℤ (pos 20000)) (pos 20000) y
+
 -- the years whose days are valid in every calendar, and the test of one:
 -- so much less than 1000000 that it makes no difference where a calendar counts its years from, nor how long they are
 abbrev pub IsCoveredYear : ℤ → Type 0

@@ -142,7 +142,7 @@ impl<R: Rules> Years for EastAsianTraditional<R> {
 
 impl<R: Rules> DateFieldsResolver for EastAsianTraditional<R> {
     ghost use Rattle.cal_types.proofs.YearNameLemmas.{no_era-some};
-    ghost use Rattle.cal_days.specs.Day.{IsCoveredYear, IsRuleYear};
+    ghost use Rattle.cal_days.specs.Day.{IsNearEra, IsRuleYear};
     ghost use Rattle.cal_east_asian.specs.EastAsianSystem.{east_asian_names};
     ghost use Rattle.cal_east_asian.specs.laws.EastAsianNameLaws.{reference-of_kind, reference-of_leap_month};
 
@@ -172,7 +172,7 @@ impl<R: Rules> DateFieldsResolver for EastAsianTraditional<R> {
 
     ghost era_in_range = { λ _ _ _ y _. no_era-some IsRuleYear y };
 
-    ghost era_covered = { λ _ _ _ y _. no_era-some IsCoveredYear y };
+    ghost era_near = { λ _ _ _ y _. no_era-some IsNearEra y };
 
     ghost reference_of_kind = { λ s m d. reference-of_kind (R.year_of s.0) (R.reference s.0)
         (R.reference_of_kind s.0) m d };

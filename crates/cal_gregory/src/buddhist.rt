@@ -33,8 +33,7 @@ impl GregorianYears for BuddhistEraYears {
     ghost use Rattle.std.specs.Prelude.{codes, refl, Some};
     ghost use Rattle.cal_errors.specs.declared.algorithm.CalendarAlgorithm.TheVariants as algorithms;
     ghost use Rattle.cal_types.specs.Eras.{only_era_reads};
-    ghost use Rattle.cal_types.proofs.EraLemmas.{only_era_reads-in_range};
-    ghost use Rattle.cal_base.specs.laws.EraYearLaws.{only_era_reads-near};
+    ghost use Rattle.cal_types.proofs.EraLemmas.{only_era_reads-in_range, only_era_reads-near};
     ghost use Rattle.cal_base.specs.laws.OffsetListLaws.{true-offset};
     ghost use Rattle.cal_gregory.specs.BuddhistEra.{buddhist_offset, buddhist_era_year};
 

@@ -71,8 +71,7 @@ impl GregorianYears for CommonEraYears {
     ghost use Rattle.std.specs.Prelude.{codes, pos, refl, Some};
     ghost use Rattle.cal_errors.specs.declared.algorithm.CalendarAlgorithm.TheVariants.{Gregory};
     ghost use Rattle.cal_types.specs.Eras.{common_era_reads};
-    ghost use Rattle.cal_types.proofs.EraLemmas.{common_era_reads-in_range};
-    ghost use Rattle.cal_base.specs.laws.EraYearLaws.{common_era_reads-near};
+    ghost use Rattle.cal_types.proofs.EraLemmas.{common_era_reads-in_range, common_era_reads-near};
     ghost use Rattle.cal_base.specs.laws.OffsetListLaws.{true-offset};
     ghost use Rattle.cal_gregory.specs.laws.CommonEraLaws.{common_era-named};
 

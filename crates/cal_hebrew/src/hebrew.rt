@@ -201,7 +201,7 @@ fn reference_year(month: Month, day: u8) -> i32
 
 impl DateFieldsResolver for Hebrew {
     ghost use Rattle.std.specs.Prelude.{codes};
-    ghost use Rattle.cal_types.proofs.EraLemmas.{only_era_reads-in_range, only_era_reads-covered};
+    ghost use Rattle.cal_types.proofs.EraLemmas.{only_era_reads-in_range, only_era_reads-near};
     ghost use Rattle.cal_types.proofs.YearNameLemmas.{reference_of_known-stands, reference_of_known-tested};
     ghost use Rattle.cal_hebrew.specs.HebrewList.{is_hebrew_month};
     ghost use Rattle.cal_hebrew.specs.laws.HebrewMonths.{is_of_kind-hebrew};
@@ -231,7 +231,7 @@ impl DateFieldsResolver for Hebrew {
 
     ghost era_in_range = { λ _ era n y. only_era_reads-in_range (codes "am") era n y };
 
-    ghost era_covered = { λ _ era n y. only_era_reads-covered (codes "am") era n y };
+    ghost era_near = { λ _ era n y. only_era_reads-near (codes "am") era n y };
 
     ghost reference_of_kind = { λ _ m d. reference_of_known-tested (is_hebrew_month m) _
         (hebrew_reference_year m d) (is_of_kind-hebrew m) };

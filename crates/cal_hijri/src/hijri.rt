@@ -206,7 +206,7 @@ fn year_in_era(era: &[u8], year: i32) -> Result<i32, UnknownEraError>
 impl<R: Rules> DateFieldsResolver for Hijri<R> {
     ghost use Rattle.std.specs.Prelude.{refl};
     ghost use Rattle.cal_hijri.specs.HijriNames.{hijri_names};
-    ghost use Rattle.cal_hijri.specs.laws.HijriNameLaws.{hijri_reads-in_range, hijri_reads-covered, reference_of_kind as tested_kind, reference_of_leap_month as no_leap_month};
+    ghost use Rattle.cal_hijri.specs.laws.HijriNameLaws.{hijri_reads-in_range, hijri_reads-near, reference_of_kind as tested_kind, reference_of_leap_month as no_leap_month};
     ghost use Rattle.cal_hijri.specs.laws.HijriShapes.{hijri_list-plain};
 
     ghost names = { λ s. hijri_names (R.reference s.0) };
@@ -235,7 +235,7 @@ impl<R: Rules> DateFieldsResolver for Hijri<R> {
 
     ghost era_in_range = { λ _ era n y. hijri_reads-in_range era n y };
 
-    ghost era_covered = { λ _ era n y. hijri_reads-covered era n y };
+    ghost era_near = { λ _ era n y. hijri_reads-near era n y };
 
     ghost reference_of_kind = { λ s m d. tested_kind (R.reference s.0) (R.references s.0) m d _
         ((hijri_list-plain (R.year_of s.0)).kind m) };

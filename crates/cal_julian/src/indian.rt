@@ -312,7 +312,7 @@ fn reference_year(month: u8, day: u8) -> i32
 impl DateFieldsResolver for Indian {
     ghost use Rattle.std.specs.Prelude.{codes};
     ghost use Rattle.cal_types.specs.PlainMonths.{is_plain_month};
-    ghost use Rattle.cal_types.proofs.EraLemmas.{only_era_reads-in_range, only_era_reads-covered};
+    ghost use Rattle.cal_types.proofs.EraLemmas.{only_era_reads-in_range, only_era_reads-near};
     ghost use Rattle.cal_types.proofs.YearNameLemmas.{reference_of_known-stands, reference_of_known-tested};
     ghost use Rattle.cal_julian.specs.laws.IndianLaws.{indian_list-plain};
     ghost use Rattle.cal_julian.specs.IndianNames.{indian_names, indian_reference_year};
@@ -343,7 +343,7 @@ impl DateFieldsResolver for Indian {
 
     ghost era_in_range = { λ _ era n y. only_era_reads-in_range (codes "shaka") era n y };
 
-    ghost era_covered = { λ _ era n y. only_era_reads-covered (codes "shaka") era n y };
+    ghost era_near = { λ _ era n y. only_era_reads-near (codes "shaka") era n y };
 
     ghost reference_of_kind = { λ _ m d. reference_of_known-tested (is_plain_month 12 m) _
         (indian_reference_year m.number d) (indian_list-plain.kind m) };

@@ -214,7 +214,7 @@ fn reference_year(month: u8, day: u8) -> i32
 
 impl DateFieldsResolver for Julian {
     ghost use Rattle.cal_types.specs.PlainMonths.{is_plain_month};
-    ghost use Rattle.cal_types.proofs.EraLemmas.{common_era_reads-in_range, common_era_reads-covered};
+    ghost use Rattle.cal_types.proofs.EraLemmas.{common_era_reads-in_range, common_era_reads-near};
     ghost use Rattle.cal_types.proofs.YearNameLemmas.{reference_of_known-stands, reference_of_known-tested};
     ghost use Rattle.cal_julian.specs.laws.JulianLaws.{julian_list-plain};
     ghost use Rattle.cal_julian.specs.JulianNames.{julian_names, julian_reference_year};
@@ -245,7 +245,7 @@ impl DateFieldsResolver for Julian {
 
     ghost era_in_range = { λ _ era n y. common_era_reads-in_range era n y };
 
-    ghost era_covered = { λ _ era n y. common_era_reads-covered era n y };
+    ghost era_near = { λ _ era n y. common_era_reads-near era n y };
 
     ghost reference_of_kind = { λ _ m d. reference_of_known-tested (is_plain_month 12 m) _
         (julian_reference_year m.number d) (julian_list-plain.kind m) };

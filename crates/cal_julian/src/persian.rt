@@ -183,7 +183,7 @@ fn reference_year(month: u8, day: u8) -> i32
 impl<'t> DateFieldsResolver for Persian<'t> {
     ghost use Rattle.cal_types.specs.PlainMonths.{is_plain_month};
     ghost use Rattle.std.specs.Prelude.{codes};
-    ghost use Rattle.cal_types.proofs.EraLemmas.{only_era_reads-in_range, only_era_reads-covered};
+    ghost use Rattle.cal_types.proofs.EraLemmas.{only_era_reads-in_range, only_era_reads-near};
     ghost use Rattle.cal_types.proofs.YearNameLemmas.{reference_of_known-stands, reference_of_known-tested};
     ghost use Rattle.cal_julian.specs.PersianCorrected.{corrected_years};
     ghost use Rattle.cal_julian.specs.laws.PersianLaws.{persian_list-plain};
@@ -215,7 +215,7 @@ impl<'t> DateFieldsResolver for Persian<'t> {
 
     ghost era_in_range = { λ _ era n y. only_era_reads-in_range (codes "ap") era n y };
 
-    ghost era_covered = { λ _ era n y. only_era_reads-covered (codes "ap") era n y };
+    ghost era_near = { λ _ era n y. only_era_reads-near (codes "ap") era n y };
 
     ghost reference_of_kind = { λ s m d. reference_of_known-tested (is_plain_month 12 m) _
         (persian_reference_year m.number d) ((persian_list-plain (corrected_years s)).kind m) };

@@ -108,7 +108,7 @@ impl Years for CountedLookUps {
 
 impl DateFieldsResolver for CountedLookUps {
     ghost use Rattle.std.specs.Prelude.{codes, pos};
-    ghost use Rattle.cal_types.proofs.EraLemmas.{only_era_reads-in_range, only_era_reads-covered};
+    ghost use Rattle.cal_types.proofs.EraLemmas.{only_era_reads-in_range, only_era_reads-near};
     ghost use Rattle.cal_types.proofs.YearNameLemmas.{reference_of_known-stands};
     ghost use Rattle.arith_tests.specs.AlternatingMonths.{alternating_names, is_plain};
     ghost use Rattle.arith_tests.specs.laws.AlternatingMonthLaws.{alternating_reference-kind};
@@ -133,7 +133,7 @@ impl DateFieldsResolver for CountedLookUps {
 
     ghost era_in_range = { λ _ era n y. only_era_reads-in_range (codes "am") era n y };
 
-    ghost era_covered = { λ _ era n y. only_era_reads-covered (codes "am") era n y };
+    ghost era_near = { λ _ era n y. only_era_reads-near (codes "am") era n y };
 
     ghost reference_of_kind = { λ _ m d. alternating_reference-kind m d };
 

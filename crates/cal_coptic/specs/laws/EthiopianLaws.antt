@@ -2,7 +2,7 @@
 use Rattle.std.proofs.Common.{◌≡◌, ◌↔◌, ℕ, Bool, true, false, List, None, Some, if◌then◌else◌, IsTrue, refl, sym, ap, subst, ◌∙◌, arith, ℤ, pos, ◌+ℤ◌, ◌-ℤ◌}
 use Rattle.std.specs.Prelude.{codes, int_lt}
 use Rattle.std.specs.Cmp.{IsEquivalence}
-use Rattle.cal_days.specs.Day.{IsConstructorYear, IsCoveredYear, IsFieldYear, IsRuleYear, IsShiftedYear}
+use Rattle.cal_days.specs.Day.{IsConstructorYear, IsNearEra, IsFieldYear, IsRuleYear, IsShiftedYear}
 use Rattle.cal_days.specs.Coptic.{coptic_start, coptic_year_length}
 use Rattle.cal_days.proofs.Signed.{signed}
 use Rattle.cal_types.specs.Year.{extended_year_of}
@@ -12,7 +12,7 @@ use Rattle.cal_types.specs.PlainMonths.{HasPlainMonths}
 use Rattle.cal_types.specs.CalendarList.{date, start_of_year, year_length, IsLawful, IsOn}
 use Rattle.cal_types.specs.RenumberedBounds.{IsShift}
 use Rattle.cal_types.specs.YearNames.{is_code}
-use Rattle.cal_types.proofs.EraLemmas.{only_era_reads-in_range, only_era_reads-covered}
+use Rattle.cal_types.proofs.EraLemmas.{only_era_reads-in_range, only_era_reads-near}
 use Rattle.cal_types.proofs.PlainMonthLemmas.{plain-lawful, renumbered-plain}
 use Rattle.cal_types.proofs.RenumberedLemmas.{start_of_year-renumbered, year_length-renumbered}
 use Rattle.cal_types.proofs.YearNameLemmas.{year_in_era-some, no_era-some}
@@ -80,18 +80,18 @@ incarnation_reads-in_range era n y h e =
     year_in_era-some IsRuleYear (is_code era (codes "am")) n _ (omega (arith, signed, h), omega (arith, signed, h))
     (year_in_era-some IsRuleYear (is_code era (codes "aa")) (n -ℤ pos 5500) None (omega (arith, signed, h), omega (arith, signed, h)) (no_era-some IsRuleYear)) y e
 
-incarnation_reads-covered : (era : List ℕ) (n y : ℤ) → IsConstructorYear n → incarnation_reads era n ≡ Some y → IsCoveredYear y
-incarnation_reads-covered era n y h e =
-    year_in_era-some IsCoveredYear (is_code era (codes "am")) n _ (omega (arith, signed, h), omega (arith, signed, h))
-    (year_in_era-some IsCoveredYear (is_code era (codes "aa")) (n -ℤ pos 5500) None (omega (arith, signed, h), omega (arith, signed, h)) (no_era-some IsCoveredYear)) y e
+incarnation_reads-near : (era : List ℕ) (n y : ℤ) → IsConstructorYear n → incarnation_reads era n ≡ Some y → IsNearEra y
+incarnation_reads-near era n y h e =
+    year_in_era-some IsNearEra (is_code era (codes "am")) n _ (omega (arith, signed, h), omega (arith, signed, h))
+    (year_in_era-some IsNearEra (is_code era (codes "aa")) (n -ℤ pos 5500) None (omega (arith, signed, h), omega (arith, signed, h)) (no_era-some IsNearEra)) y e
 
 pub ethiopian_reads-in_range : (style : EthiopianEraStyle) (era : List ℕ) (n y : ℤ) → IsFieldYear n → ethiopian_reads style era n ≡ Some y → IsRuleYear y
 ethiopian_reads-in_range AmeteMihret era n y h e = incarnation_reads-in_range era n y h e
 ethiopian_reads-in_range AmeteAlem era n y h e = only_era_reads-in_range (codes "aa") era n y h e
 
-pub ethiopian_reads-covered : (style : EthiopianEraStyle) (era : List ℕ) (n y : ℤ) → IsConstructorYear n → ethiopian_reads style era n ≡ Some y → IsCoveredYear y
-ethiopian_reads-covered AmeteMihret era n y h e = incarnation_reads-covered era n y h e
-ethiopian_reads-covered AmeteAlem era n y h e = only_era_reads-covered (codes "aa") era n y h e
+pub ethiopian_reads-near : (style : EthiopianEraStyle) (era : List ℕ) (n y : ℤ) → IsConstructorYear n → ethiopian_reads style era n ≡ Some y → IsNearEra y
+ethiopian_reads-near AmeteMihret era n y h e = incarnation_reads-near era n y h e
+ethiopian_reads-near AmeteAlem era n y h e = only_era_reads-near (codes "aa") era n y h e
 
 either_extended : (b : Bool) (p q : EraYear) (y : ℤ) → p.extended_year ≡ y → q.extended_year ≡ y → (if b then p else q).extended_year ≡ y
 either_extended true p q y e f = e

@@ -2,16 +2,14 @@
 use Rattle.std.proofs.Common.{◌≡◌, ℕ, ℤ, pos, ◌-ℤ◌, ◌+ℤ◌, List, [], ◌∷◌, Option, None, Some, Bool, true, false, if◌then◌else◌, refl, subst, arith}
 use Rattle.std.specs.Prelude.{IfSome, ◌&&◌, nat_le, take}
 use Rattle.std.specs.Option.{option_or}
-use Rattle.cal_days.specs.Day.{IsBetween, is_between, IsConstructorYear, IsCoveredYear, IsFieldYear, IsRuleYear}
+use Rattle.cal_days.specs.Day.{IsBetween, is_between, IsConstructorYear, IsCoveredYear, IsFieldYear, IsNearEra, IsRuleYear}
 use Rattle.cal_days.proofs.RangeLemmas.{is_between-true}
 use Rattle.cal_days.proofs.Signed.{signed}
 use Rattle.cal_types.specs.CalendarList.{Date}
 use Rattle.cal_types.specs.Eras.{common_era_reads}
 use Rattle.cal_types.specs.YearNames.{is_code}
 use Rattle.cal_types.proofs.DateTests.{and-left}
-use Rattle.cal_types.proofs.EraLemmas.{common_era_reads-in_range}
-use Rattle.cal_base.specs.OffsetList.{IsNearEra}
-use Rattle.cal_base.specs.laws.EraYearLaws.{common_era_reads-near, near_era-covered}
+use Rattle.cal_types.proofs.EraLemmas.{common_era_reads-in_range, common_era_reads-near, near_era-covered}
 use Rattle.cal_gregory.specs.laws.CommonEraLaws.{common_era_year-named, either_extended}
 use Rattle.cal_gregory.specs.JapaneseEraList.{IsStartYear, ListedEra, last_era, has_started, year_of_era, japanese_reads, is_early_meiji, year_printed, japanese_era_year}
 use Rattle.cal_gregory.specs.JapaneseEras.{later_eras, listed_eras}

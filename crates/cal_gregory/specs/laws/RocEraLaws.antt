@@ -1,12 +1,11 @@
 -- The ranges of what the eras of the Republic of China read as, and that a year in its era has its extended year.
 use Rattle.std.proofs.Common.{◌≡◌, ℕ, ℤ, pos, ◌-ℤ◌, List, None, Some, refl, arith}
 use Rattle.std.specs.Prelude.{codes, int_lt}
-use Rattle.cal_days.specs.Day.{IsConstructorYear, IsFieldYear, IsRuleYear}
+use Rattle.cal_days.specs.Day.{IsConstructorYear, IsFieldYear, IsNearEra, IsRuleYear}
 use Rattle.cal_days.proofs.Signed.{signed}
 use Rattle.cal_types.specs.CalendarList.{Date}
 use Rattle.cal_types.specs.YearNames.{is_code}
 use Rattle.cal_types.proofs.YearNameLemmas.{year_in_era-some, no_era-some}
-use Rattle.cal_base.specs.OffsetList.{IsNearEra}
 use Rattle.cal_gregory.specs.laws.CommonEraLaws.{either_extended}
 use Rattle.cal_gregory.specs.RocEra.{roc_reads, roc_era_year}
 

@@ -1,7 +1,7 @@
 -- The eras of a Hijri calendar are in range, and its reference years are those of its months.
 use Rattle.std.specs.Prelude.{◌≡◌, ◌↔◌, ℕ, Bool, true, false, List, codes, Some, None, Result, Err, ℤ, pos, ◌-ℤ◌, int_lt}
 use Rattle.std.proofs.Common.{refl, sym, ◌∙◌, arith}
-use Rattle.cal_days.specs.Day.{IsFieldYear, IsRuleYear, IsCoveredYear, IsConstructorYear}
+use Rattle.cal_days.specs.Day.{IsFieldYear, IsRuleYear, IsNearEra, IsConstructorYear}
 use Rattle.cal_days.proofs.Signed.{signed}
 use Rattle.cal_types.specs.Month.{MonthParts}
 use Rattle.cal_types.specs.Year.{extended_year_of}
@@ -22,10 +22,10 @@ hijri_reads-in_range era n y h e =
     year_in_era-some IsRuleYear _ n _ (omega (arith, signed, h), omega (arith, signed, h))
     (year_in_era-some IsRuleYear (is_code era (codes "bh")) (pos 1 -ℤ n) None (omega (arith, signed, h), omega (arith, signed, h)) (no_era-some IsRuleYear)) y e
 
-pub hijri_reads-covered : (era : List ℕ) (n y : ℤ) → IsConstructorYear n → hijri_reads era n ≡ Some y → IsCoveredYear y
-hijri_reads-covered era n y h e =
-    year_in_era-some IsCoveredYear _ n _ (omega (arith, signed, h), omega (arith, signed, h))
-    (year_in_era-some IsCoveredYear (is_code era (codes "bh")) (pos 1 -ℤ n) None (omega (arith, signed, h), omega (arith, signed, h)) (no_era-some IsCoveredYear)) y e
+pub hijri_reads-near : (era : List ℕ) (n y : ℤ) → IsConstructorYear n → hijri_reads era n ≡ Some y → IsNearEra y
+hijri_reads-near era n y h e =
+    year_in_era-some IsNearEra _ n _ (omega (arith, signed, h), omega (arith, signed, h))
+    (year_in_era-some IsNearEra (is_code era (codes "bh")) (pos 1 -ℤ n) None (omega (arith, signed, h), omega (arith, signed, h)) (no_era-some IsNearEra)) y e
 
 named_by : (before : Bool) (y : ℤ) → extended_year_of (Era (era_year_by before y)) ≡ y
 named_by true y = refl

@@ -16,8 +16,7 @@ pub(crate) struct CountedFrom {
 impl GregorianYears for CountedFrom {
     ghost use Rattle.std.specs.Prelude.{codes, refl, None};
     ghost use Rattle.cal_types.specs.Eras.{only_era_reads};
-    ghost use Rattle.cal_types.proofs.EraLemmas.{only_era_reads-in_range};
-    ghost use Rattle.cal_base.specs.laws.EraYearLaws.{only_era_reads-near};
+    ghost use Rattle.cal_types.proofs.EraLemmas.{only_era_reads-in_range, only_era_reads-near};
     ghost use Rattle.cal_base.specs.IsoEra.{iso_era_year};
 
     ghost offset = { λ s. s.iso_year };
