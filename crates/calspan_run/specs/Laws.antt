@@ -5,12 +5,18 @@ use Rattle.cal_anniversary.specs.FallingOn.{AreAnniversaries}
 use Rattle.cal_holidays.specs.BookNames.{holidays_in}
 use Rattle.cal_holidays.specs.NamedDays.{AreHolidays}
 use Rattle.cal_holidays.specs.Rules.{NamedRule}
+use Rattle.cal_recur.specs.Listing.{AreOccurrences, occurrences}
+use Rattle.cal_recur.specs.declared.rule.Rule.{Rule}
 use Rattle.cal_tables.specs.Kinds.{TableContents, kind_system, no_contents}
 use Rattle.cal_types.specs.Anniversary.{anniversaries_between}
+use Rattle.cal_types.specs.CalendarList.{Date}
+use Rattle.cal_types.specs.CalendarSystem.{resolve_fields}
+use Rattle.table_rows.specs.TableRows.{TableRows, AreAccepted, contents_of}
 use Rattle.calspan_run.specs.Generator.{IsGenerated}
-use Rattle.calspan_run.specs.Asked.{AnniversaryAsked, HolidaysAsked}
+use Rattle.calspan_run.specs.Asked.{AnniversaryAsked, HolidaysAsked, RecurAsked}
 use Rattle.calspan_run.specs.HolidayRuns.{HolidayEnds}
 use Rattle.calspan_run.specs.ListEnds.{ListEnds}
+use Rattle.calspan_run.specs.Recurrences.{no_options}
 use Rattle.calspan_run.specs.Rules.{holiday_rules, list_rules}
 use Rattle.calspan_run.specs.Run.{Outside}
 use Rattle.calspan_run.specs.Serving.{Rules, Serves}
@@ -72,6 +78,16 @@ AnniversariesAreMeant =
     (a : AnniversaryAsked) (tables : TableContents) → let list = (kind_system tables a.calendar).list in
     AreAnniversaries list a.leaping a.month a.day a.first a.last
     (anniversaries_between list a.leaping a.month a.day a.first a.last)
+
+-- the items of `recur` are all occurrences of the rule in the window, with their indices, each once and in order
+abbrev pub OccurrencesAreMeant : Type 0
+OccurrencesAreMeant =
+    (a : RecurAsked) (rows : TableRows) → AreAccepted rows → (rule : Rule) (start : Date)
+    → let s = kind_system (contents_of rows) a.header.calendar in
+    let first = a.header.first in
+    let last = a.header.last in
+    resolve_fields s a.start no_options ≡ Ok start
+    → AreOccurrences s start rule first last (occurrences s start rule first last)
 
 -- the items of `holidays` are all days of the window that a rule of the book names, with its number, each once and in
 -- order

@@ -1,7 +1,7 @@
 //! Laws of the texts of the commands. Each is the contract of a function that does nothing.
 ghost use Rattle.calspan_run.specs.Answers.{IsAnswers};
 ghost use Rattle.calspan_run.specs.Asked.{AnniversaryAsked, HolidaysAsked, RecurAsked};
-ghost use Rattle.calspan_run.specs.Laws.{AnniversariesAreMeant, HolidaysAreMeant, EveryInputHas, IsUnique, PrefixesHavePrefixes, EveryNumberHasOneLine, EndsAsHolidays, EndsAsList};
+ghost use Rattle.calspan_run.specs.Laws.{AnniversariesAreMeant, HolidaysAreMeant, OccurrencesAreMeant, EveryInputHas, IsUnique, PrefixesHavePrefixes, EveryNumberHasOneLine, EndsAsHolidays, EndsAsList};
 ghost use Rattle.calspan_run.specs.ListTexts.{ListsAnniversaries, ListsOccurrences};
 ghost use Rattle.calspan_run.specs.Rules.{holiday_rules, list_rules};
 
@@ -41,6 +41,12 @@ pub fn anniversaries_are_meant()
 pub fn recurrences_have_one_text()
     ensures exists { (asked : RecurAsked) → EveryInputHas (list_rules (ListsOccurrences asked)).Says }
     ensures unique { (asked : RecurAsked) → IsUnique (list_rules (ListsOccurrences asked)).Says }
+{}
+
+/// Over accepted tables, the list of `recur` has exactly the occurrences of the rule in its window, with their indices,
+/// each once and in order.
+pub fn occurrences_are_meant()
+    ensures { OccurrencesAreMeant }
 {}
 
 /// All arguments of `holidays` and every input have exactly one text and one status.

@@ -9,7 +9,7 @@ mod limits;
 
 use crate::tests::expected::{assert_at, assert_day, assert_holds, assert_same};
 use cal_arith::Steps;
-use cal_base::{AsCalendar, Calendar, Iso, Ref};
+use cal_base::{AsCalendar, Calendar, Incompatible, Iso, NumberedYear, Ref};
 use cal_days::RataDie;
 use cal_types::{
     DateAddError, DateAddOptions, DateDifferenceOptions, DateDuration, DateDurationUnit,
@@ -447,4 +447,13 @@ fn a_calendar_and_its_dates_say_what_they_are(rt: HostRuntime) {
         "the order of dates",
         first < second && first == iso.from_rata_die(RataDie::new(1)),
     );
+}
+
+#[test]
+fn pointers_are_equal_if_what_they_point_to_is(rt: HostRuntime) {
+    let (first, again) = (NumberedYear { number: 1 }, NumberedYear { number: 1 });
+    let second = NumberedYear { number: 2 };
+    assert_holds(&rt, "the same", Ref(&first) == Ref(&again));
+    assert_holds(&rt, "another", Ref(&first) != Ref(&second));
+    assert_same(&rt, Incompatible, Incompatible);
 }

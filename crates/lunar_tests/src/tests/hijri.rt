@@ -10,7 +10,7 @@ ghost use Rattle.cal_hijri.specs.TableRules.{table_year, umm_al_qura_system};
 ghost use Rattle.cal_hijri.specs.TabularRules.{tabular_system, tabular_year};
 
 use crate::late_rules::Late;
-use crate::tests::expected::{assert_at, assert_day, assert_holds, assert_same};
+use crate::tests::expected::{assert_at, assert_day, assert_holds, assert_in_order, assert_same};
 use cal_base::{Calendar, Iso, IsoDateInner};
 use cal_days::RataDie;
 use cal_hijri::{
@@ -21,8 +21,6 @@ use cal_types::{
     DateFields, DateFromFieldsError, DateFromFieldsOptions, MissingFieldsStrategy, Month,
     TableFault, TablePart, YearInput,
 };
-use std::fmt::Debug;
-use std::hash::{DefaultHasher, Hash, Hasher};
 use std::process::Abort;
 
 /// The date of an extended year, a month and a day.
@@ -357,24 +355,6 @@ fn a_year_has_one_row(rt: HostRuntime) {
         let row = changed_row(number, bits, start).year().row();
         let row = row.expect(&rt, "the row is there");
         assert_at(&rt, number, fields_of(row), (number, bits, start));
-    }
-}
-
-/// The hash of a value.
-fn hash_of<T: Hash>(value: &T) -> u64 {
-    let mut state = DefaultHasher::new();
-    value.hash(&mut state);
-    state.finish()
-}
-
-/// That each value is below those behind it, is equal to itself alone, and has a hash of its own.
-fn assert_in_order<T: Ord + Hash + Debug + Copy>(rt: &impl Abort, values: &[T]) {
-    for (i, a) in values.iter().enumerate() {
-        for (j, b) in values.iter().enumerate() {
-            assert_at(rt, (i, j), *a < *b, i < j);
-            assert_at(rt, (i, j), *a == *b, i == j);
-            assert_at(rt, (i, j), hash_of(a) == hash_of(b), i == j);
-        }
     }
 }
 

@@ -6,6 +6,7 @@ use cal_kinds::laws::order_of_kinds;
 use cal_types::{CalendarAlgorithm, HijriCalendarAlgorithm};
 use std::alloc::{AllocError, Global};
 use std::cmp::Ordering;
+use std::hash::{DefaultHasher, Hash, Hasher};
 use std::process::Abort;
 
 /// That a name is the program's for a kind.
@@ -158,6 +159,24 @@ fn assert_after(rt: &impl Abort, first: AnyCalendarKind, second: AnyCalendarKind
     assert_at(rt, second, order_of_kinds(second, first), Ordering::Greater);
     assert_at(rt, second, order_of_kinds(second, second), Ordering::Equal);
     assert_holds(rt, second, first < second);
+}
+
+/// The hash of a value.
+fn hash_of<T: Hash>(value: &T) -> u64 {
+    let mut state = DefaultHasher::new();
+    value.hash(&mut state);
+    state.finish()
+}
+
+#[test]
+fn kinds_are_hashed_apart(rt: HostRuntime) {
+    use AnyCalendarKind as Kind;
+    let kinds = [Kind::Buddhist, Kind::Chinese, Kind::Dangi, Kind::Hebrew, Kind::Iso, Kind::Roc];
+    for (i, a) in kinds.iter().enumerate() {
+        for (j, b) in kinds.iter().enumerate() {
+            assert_at(&rt, (i, j), hash_of(a) == hash_of(b), i == j);
+        }
+    }
 }
 
 #[test]
