@@ -1,4 +1,4 @@
-//! Adding a duration to a date, as ECMAScript Temporal's NonISODateAdd.
+//! Adding a duration to a date (ECMAScript Temporal, `NonISODateAdd`).
 
 ghost use Rattle.std.specs.Prelude.{◌≡◌, ◌+◌, ◌*◌, ◌≤◌, ◌+ℤ◌, pos, neg_ℤ, true, false, IfSome, IfNone, IfOk};
 ghost use Rattle.cal_days.specs.Day.{IsBetween, IsFieldYear, IsRuleYear, is_field_year};
@@ -20,7 +20,7 @@ use cal_days::ranges::{
 };
 use cal_types::{DateAddError, DateDuration, Overflow};
 
-/// Returns whether a duration is small enough to be added.
+/// Returns whether a duration has at most 2080000 years, 27040000 months, and 838240000 days with seven for a week.
 fn can_be_added(duration: DateDuration) -> bool
     ensures { result ≡ is_addable duration }
 {
@@ -30,7 +30,8 @@ fn can_be_added(duration: DateDuration) -> bool
         && are_addable_days(days)
 }
 
-/// Returns the date of a day number if it is valid. Out of line, so that sums within a month don't clear its locals.
+/// Returns the date of a day number, or [`DateAddError::Overflow`] if it isn't a valid day. Kept out of line so that
+/// sums within a month don't pay for clearing its locals.
 #[inline(never)]
 fn valid_date<C: Years>(day: RataDie, cal: &C) -> Result<Ymd<C::YearInfo>, DateAddError>
     ensures on { let y = C.years cal.now in IsValidOn y.list day (answer_of y result) }
@@ -42,7 +43,7 @@ fn valid_date<C: Years>(day: RataDie, cal: &C) -> Result<Ymd<C::YearInfo>, DateA
     Ok(from_rata_die(day, cal))
 }
 
-/// Returns the day so many days later, or earlier.
+/// Returns the day number `days` days later or earlier.
 fn days_away(day: RataDie, days: u32, direction: Direction) -> RataDie
     requires { IsBetween (neg_ℤ (pos 36028000000000000)) (pos 36028000000000000) day }
     ensures { result ≡ day +ℤ toward (is_backward direction) days }
@@ -54,7 +55,7 @@ fn days_away(day: RataDie, days: u32, direction: Direction) -> RataDie
     }
 }
 
-/// Returns the date itself if its day number is valid.
+/// Returns the date itself, or [`DateAddError::Overflow`] if its day number isn't valid.
 #[inline(always)]
 fn date_in_range<C: YearShapes>(
     date: Ymd<C::YearInfo>,
@@ -72,7 +73,8 @@ fn date_in_range<C: YearShapes>(
     }
 }
 
-/// Returns the day of a month so many days later, or earlier, if the month has it.
+/// Returns the day of the month `days` days later or earlier if it is in the same month, else `None`. `last` is the
+/// month's length; no month is longer than 31 days.
 fn day_in_month(day: u8, last: u8, days: u32, direction: Direction) -> Option<u8>
     requires { (1 ≤ day) × (day ≤ last) }
     ensures { IfSome result
@@ -89,7 +91,8 @@ fn day_in_month(day: u8, last: u8, days: u32, direction: Direction) -> Option<u8
     }
 }
 
-/// Returns the date `days` days later or earlier if its day number is valid. `last` is the length of the date's month.
+/// Returns the date `days` days later or earlier, or [`DateAddError::Overflow`] if its day number isn't valid. `last`
+/// is the length of the date's month.
 #[inline(always)]
 fn date_days_away<C: Years>(
     date: Ymd<C::YearInfo>,
@@ -121,7 +124,7 @@ fn date_days_away<C: Years>(
     }
 }
 
-/// Returns the year so many years later, or earlier.
+/// Returns the extended year `years` years later or earlier.
 fn moved_year(year: i32, years: u32, direction: Direction) -> i32
     requires year { IsFieldYear year }
     requires years { years ≤ 2080000 }
@@ -133,14 +136,15 @@ fn moved_year(year: i32, years: u32, direction: Direction) -> i32
     }
 }
 
-/// Returns whether fields may name a year: whether it lies from -1040000 to 1040000.
+/// Returns whether a year is from -1040000 to 1040000: whether fields may name it.
 pub fn can_be_named(year: i32) -> bool
     ensures { result ≡ is_field_year year }
 {
     is_field_year(year)
 }
 
-/// Returns the year so many years later, or earlier, if with the shift it is one that fields may name.
+/// Returns the extended year `years` years later or earlier, or `None` if that year plus `shift` isn't from -1040000
+/// to 1040000.
 fn field_year(year: i32, years: u32, direction: Direction, shift: i32) -> Option<i32>
     requires year { IsFieldYear year }
     requires years { years ≤ 2080000 }
@@ -157,7 +161,7 @@ fn field_year(year: i32, years: u32, direction: Direction, shift: i32) -> Option
     }
 }
 
-/// Returns the year of an extended year. If it is the number of `given`, that year isn't looked up again.
+/// Returns the year of an extended year, which is looked up only if it isn't the extended year of `given`.
 #[inline(always)]
 fn looked_up<C: Years>(given: C::YearInfo, extended_year: i32, cal: &C) -> C::YearInfo
     requires given { IsGiven (C.years cal.now) given }
@@ -171,8 +175,17 @@ fn looked_up<C: Years>(given: C::YearInfo, extended_year: i32, cal: &C) -> C::Ye
     }
 }
 
-/// Returns the date with a duration added, or the first error. The limit on years is tested on the year with the
-/// shift added.
+/// Returns the date with a duration added. The limit on years is tested on the year plus `shift`.
+///
+/// # Errors
+///
+/// Fails with the first of these:
+/// - [`DateAddError::Overflow`] if the duration has more than 2080000 years, 27040000 months, or 838240000 days with
+///   seven for a week, or if the year after adding the years, plus `shift`, isn't from -1040000 to 1040000;
+/// - [`DateAddError::MonthNotInYear`] under [`Overflow::Reject`] if that year lacks the date's month;
+/// - [`DateAddError::InvalidDay`] under [`Overflow::Reject`] if the month after adding the months lacks the date's
+///   day;
+/// - [`DateAddError::Overflow`] if the sum isn't a valid day.
 #[inline(always)]
 pub(crate) fn added<C: Years>(
     from: Ymd<C::YearInfo>,
@@ -206,7 +219,7 @@ pub(crate) fn added<C: Years>(
     }
 }
 
-/// Returns the sum, counted from the month that years and months lead to.
+/// Returns the sum, counted from the month that is reached by adding the years and months.
 #[inline(always)]
 fn sum_from_month<C: Years>(
     reached: YearMonth<C::YearInfo>,

@@ -1,4 +1,4 @@
-//! Dates of any calendar, as they are kept. Start at [`ArithmeticDate`].
+//! Dates of any calendar as a year, an ordinal month and a day. Start at [`ArithmeticDate`].
 
 ghost use Rattle.std.specs.Prelude.{◌≡◌, ⊤, pos, ◌+◌, ◌≤◌, ◌<◌, ◌-ℤ◌, ◌++◌, ◌==◌, unsigned_abs, Ok, IfOk};
 ghost use Rattle.std.proofs.Common.{rules};
@@ -30,10 +30,10 @@ use std::hash::{Hash, Hasher};
 use std::marker::{Brand, PhantomData};
 use std::sync::ledger::{Blank, Ledger};
 
-/// A date of a calendar as it is kept: a year, the place of a month in it, and a day of that month.
+/// A date of a calendar: a year, an ordinal month, and a day of that month.
 ///
-/// It belongs to a calendar if the calendar gave its year, the calendar has the date, and its day number is in the
-/// valid range. Dates are equal and ordered by year, month's place and day.
+/// A date belongs to a calendar if its year is one of the calendar's years, the calendar has the date, and the day
+/// number is valid, from -365242499 to 365242134. Dates are equal and ordered by year, ordinal month and day.
 pub struct ArithmeticDate<C, Y = <C as YearShapes>::YearInfo> {
     pub(crate) parts: Ymd<Y>,
     pub(crate) of: PhantomData<C>,
@@ -63,7 +63,7 @@ impl<C, Y: Copy> ArithmeticDate<C, Y> {
         self.parts.year
     }
 
-    /// Returns the place of the month in its year, from 1.
+    /// Returns the ordinal month, from 1.
     pub fn month(self) -> u8
         ensures { result ≡ self.parts.month }
     {
@@ -77,7 +77,8 @@ impl<C, Y: Copy> ArithmeticDate<C, Y> {
         self.parts.day
     }
 
-    /// Returns the same parts as a date of another calendar that has the same years.
+    /// Returns a date of another calendar with the same year, ordinal month and day. Both calendars have the same
+    /// type of year.
     pub fn cast<D>(self) -> ArithmeticDate<D, Y>
         ensures { result.parts ≡ self.parts }
     {
@@ -87,7 +88,7 @@ impl<C, Y: Copy> ArithmeticDate<C, Y> {
         }
     }
 
-    /// Returns the date of these parts.
+    /// Creates a date from its year, ordinal month and day.
     pub(crate) fn of_parts(date: Ymd<Y>) -> ArithmeticDate<C, Y>
         ensures { result.parts ≡ date }
     {
@@ -100,6 +101,8 @@ impl<C, Y: Copy> ArithmeticDate<C, Y> {
 
 impl<C: Years> ArithmeticDate<C> {
     /// Returns the date of a valid day.
+    ///
+    /// `rd`: rata die, -365242499 to 365242134.
     pub fn from_rata_die(rd: RataDie, cal: &C) -> Self
         requires { IsValidDay rd }
         ensures on { let y = C.years cal.now in IsOn y.list rd (date_of y result.parts) }
@@ -110,16 +113,16 @@ impl<C: Years> ArithmeticDate<C> {
 
     /// Returns the date with a duration added (ECMAScript Temporal, `NonISODateAdd`).
     ///
-    /// The default of the option `overflow` is [`Overflow::Constrain`].
+    /// The date must belong to the calendar. The default of the option `overflow` is [`Overflow::Constrain`].
     ///
     /// # Errors
     ///
     /// Fails with the first of these:
     /// - [`DateAddError::Overflow`] if the duration has more than 2080000 years, 27040000 months, or 838240000 days
-    ///   with seven for a week, or if the years lead past the years from -1040000 to 1040000;
-    /// - [`DateAddError::MonthNotInYear`] if the year that the years lead to lacks the month and, under
-    ///   [`Overflow::Constrain`], no month stands in for it;
-    /// - [`DateAddError::InvalidDay`] if the month that the months lead to lacks the day, under [`Overflow::Reject`];
+    ///   with seven for a week, or if the extended year after adding the years isn't from -1040000 to 1040000;
+    /// - [`DateAddError::MonthNotInYear`] under [`Overflow::Reject`] if that year lacks the date's month;
+    /// - [`DateAddError::InvalidDay`] under [`Overflow::Reject`] if the month after adding the months lacks the
+    ///   date's day; `max` is the month's length;
     /// - [`DateAddError::Overflow`] if the sum isn't a valid day.
     #[inline(always)]
     pub fn added(
@@ -137,14 +140,14 @@ impl<C: Years> ArithmeticDate<C> {
         self.added_shifted(duration, cal, options, 0)
     }
 
-    /// Returns the date with a duration added, with the limit on years tested on the year plus `shift`.
+    /// Returns the date with a duration added, with the limit on years tested on the extended year plus `shift`.
     ///
-    /// `shift`: -1040000 to 1040000. A calendar that hands its dates down to another one passes what leads from its own
-    /// years to the other's.
+    /// `shift`: -1040000 to 1040000. A calendar that shares its dates with another calendar passes the difference
+    /// between the other calendar's years and its own.
     ///
     /// # Errors
     ///
-    /// Fails as [`ArithmeticDate::added`].
+    /// Fails as [`ArithmeticDate::added`], with `shift` added to the year when its limit is tested.
     #[inline(always)]
     pub fn added_shifted(
         &self,
@@ -169,7 +172,7 @@ impl<C: Years> ArithmeticDate<C> {
 }
 
 impl<C: YearShapes> ArithmeticDate<C> {
-    /// Returns the day number of a date that belongs to the calendar.
+    /// Returns the day number (rata die) of a date that belongs to the calendar.
     pub fn to_rata_die(self, cal: &C) -> RataDie
         requires { Belongs (C.years cal.now) self.parts }
         ensures { let y = C.years cal.now in result ≡ day_number y.list (date_of y self.parts) }
@@ -177,9 +180,17 @@ impl<C: YearShapes> ArithmeticDate<C> {
         to_rata_die(self.parts, cal)
     }
 
-    /// Returns the difference to another date, as ECMAScript Temporal's NonISODateUntil: years, then months, then
-    /// weeks and days, each as many as do not surpass the other date. The default of the option
-    /// `largest_unit` is days. Added to this date under [`Overflow::Constrain`], the result is the other date.
+    /// Returns the difference from this date to another (ECMAScript Temporal, `NonISODateUntil`). Both must belong to
+    /// the calendar.
+    ///
+    /// The default of the option `largest_unit` is days. Years are counted only if it is years, months if it is years
+    /// or months, weeks only if it is weeks, and days always. Each counted unit in turn, from the largest, is the
+    /// greatest number that doesn't surpass the other date. The duration is negative exactly if the other date is
+    /// earlier.
+    ///
+    /// Adding the difference to this date, with [`Overflow::Constrain`], returns the other date. The contract covers
+    /// this with the limit on years tested on stored years; [`crate::laws::added_back`] covers
+    /// [`ArithmeticDate::added`].
     pub fn until(&self, other: &Self, cal: &C, options: DateDifferenceOptions) -> DateDuration
         requires from { Belongs (C.years cal.now) self.now.parts }
         requires to { Belongs (C.years cal.now) other.now.parts }
@@ -190,8 +201,9 @@ impl<C: YearShapes> ArithmeticDate<C> {
         ArithmeticDate::<C>::until_with_blank::<Brand>(self, other, cal, options, Blank::new(1))
     }
 
-    /// Returns the duration of [`ArithmeticDate::until`]. It adds at most 8 ticks to the counter that is handed in;
-    /// if months are the largest unit, at most 8 and one more for each year between the dates.
+    /// Returns the difference of [`ArithmeticDate::until`], and counts the years that are looked up. It adds at most
+    /// 8 ticks to the counter; if months are the largest unit, at most 8 and one more for each year between the
+    /// dates.
     pub fn until_counted<L: Ledger>(
         &self,
         other: &Self,
@@ -213,7 +225,7 @@ impl<C: YearShapes> ArithmeticDate<C> {
         difference(from, to, largest_unit(options), cal, steps)
     }
 
-    /// Returns the difference by a counter that nobody reads.
+    /// Returns the difference of [`ArithmeticDate::until`], with a counter that nobody reads.
     fn until_with_blank<L: Ledger>(
         &self,
         other: &Self,
@@ -235,7 +247,7 @@ impl<C: YearShapes> ArithmeticDate<C> {
     }
 }
 
-/// Returns which overflow the options of adding ask for.
+/// Returns the overflow of the options, which is [`Overflow::Constrain`] by default.
 fn add_overflow(options: DateAddOptions) -> Overflow
     ensures { result ≡ add_overflow_of options.overflow }
 {
@@ -245,7 +257,7 @@ fn add_overflow(options: DateAddOptions) -> Overflow
     }
 }
 
-/// By year, month's place and day.
+/// Dates are equal exactly if their years, ordinal months and days are.
 impl<C, Y: Copy + PartialEq> PartialEq for ArithmeticDate<C, Y> {
     ghost eq = { eq_of_both (on (λ a. a.parts.year) Y.eq)
         (eq_of_both (on (λ a. a.parts.month) ◌==◌)
@@ -264,7 +276,7 @@ impl<C, Y: Copy + Eq> Eq for ArithmeticDate<C, Y> {
     ghost laws = { Prim.search (comparing, rules, Y.Eq.laws) };
 }
 
-/// By year, then month's place, then day.
+/// Dates are ordered by year, then ordinal month, then day.
 impl<C, Y: Copy + Ord> Ord for ArithmeticDate<C, Y> {
     ghost cmp = { then_cmp (on (λ a. a.parts.year) Y.cmp)
         (then_cmp (on (λ a. a.parts.month) nat_cmp)

@@ -1,4 +1,4 @@
-//! Dates of a year, a month and a day, as `Date::try_new` of icu_calendar makes them.
+//! Creating dates from a year, a month and a day, as `Date::try_new` of icu_calendar does.
 
 ghost use Rattle.std.specs.Prelude.{◌≡◌, Err, IfOk, ok_or, if◌then◌else◌};
 ghost use Rattle.cal_days.specs.Day.{IsCoveredYear, IsConstructorYear, is_constructor_year};
@@ -16,14 +16,18 @@ use crate::years::{DateFieldsResolver, YearShapes, Years};
 use cal_days::ranges::MAX_CONSTRUCTOR_YEAR;
 use cal_types::{DateNewError, Month, MonthError, Overflow, UnknownEraError, YearInput};
 
-/// Returns whether constructors take a year.
+/// Returns whether a year is from -9999 to 9999, the range that constructors take.
 pub(crate) fn is_small_year(year: i32) -> bool
     ensures { result ≡ is_constructor_year year }
 {
     -MAX_CONSTRUCTOR_YEAR <= year && year <= MAX_CONSTRUCTOR_YEAR
 }
 
-/// Returns the extended year of an era and a year in it, from -9999 to 9999.
+/// Returns the extended year of an era year from -9999 to 9999. It is from -980000 to 980000.
+///
+/// # Errors
+///
+/// - [`UnknownEraError`] if the era isn't one of the calendar's.
 pub(crate) fn year_in_era<C: DateFieldsResolver>(
     era: &str,
     year: i32,
@@ -39,7 +43,7 @@ pub(crate) fn year_in_era<C: DateFieldsResolver>(
     }
 }
 
-/// Returns the year of an era, with the error of a date that is made of a year, a month and a day.
+/// Returns the extended year of an era year from -9999 to 9999, or [`DateNewError::InvalidEra`].
 fn year_of_era<C: DateFieldsResolver>(era: &str, year: i32, cal: &C) -> Result<i32, DateNewError>
     requires { IsConstructorYear year }
     ensures year { result ≡ ok_or ((C.names cal.now).reads era.now year) InvalidEra }
@@ -51,7 +55,8 @@ fn year_of_era<C: DateFieldsResolver>(era: &str, year: i32, cal: &C) -> Result<i
     }
 }
 
-/// Returns the extended year of a year that constructors take, in its era or without one.
+/// Returns the extended year of a year in an era or without one. Fails with [`DateNewError::InvalidYear`] if it isn't
+/// from -9999 to 9999, else with [`DateNewError::InvalidEra`] if the era isn't one of the calendar's.
 fn extended_year_of<C: DateFieldsResolver>(
     year: YearInput<'_>,
     cal: &C,
@@ -67,7 +72,16 @@ fn extended_year_of<C: DateFieldsResolver>(
     }
 }
 
-/// Returns the date of a year, a month and a day, or the first error.
+/// Returns the date of a year, a month and a day, rejecting values out of range.
+///
+/// # Errors
+///
+/// Fails with the first of these:
+/// - [`DateNewError::InvalidYear`] if the year, in its era or without one, isn't from -9999 to 9999;
+/// - [`DateNewError::InvalidEra`] if the era isn't one of the calendar's;
+/// - [`DateNewError::MonthNotInCalendar`] if the month isn't one of the calendar's months;
+/// - [`DateNewError::MonthNotInYear`] if this year lacks the month;
+/// - [`DateNewError::InvalidDay`] if the day isn't from 1 to the month's length, `max`.
 #[tactic(auto, unfolding(cal_types::specs::Constructing::made_date))]
 pub(crate) fn date_of_input<C: DateFieldsResolver>(
     year: YearInput<'_>,
@@ -93,9 +107,9 @@ impl<C: DateFieldsResolver> ArithmeticDate<C> {
     /// Fails with the first of these:
     /// - [`DateNewError::InvalidYear`] if the year, in its era or without one, isn't from -9999 to 9999;
     /// - [`DateNewError::InvalidEra`] if the era isn't one of the calendar's;
-    /// - [`DateNewError::MonthNotInCalendar`] if no year has the month;
-    /// - [`DateNewError::MonthNotInYear`] if this year lacks it;
-    /// - [`DateNewError::InvalidDay`] if the day isn't from 1 to the month's length.
+    /// - [`DateNewError::MonthNotInCalendar`] if the month isn't one of the calendar's months;
+    /// - [`DateNewError::MonthNotInYear`] if this year lacks the month;
+    /// - [`DateNewError::InvalidDay`] if the day isn't from 1 to the month's length, `max`.
     pub fn from_input_year_month_code_day(
         year: YearInput<'_>,
         month: Month,
@@ -114,7 +128,7 @@ impl<C: DateFieldsResolver> ArithmeticDate<C> {
     }
 }
 
-/// Returns the date of a month and a day of a given year, or the first error.
+/// Returns the date of a month and a day of a year from -980000 to 980000, or the first error.
 fn made_in_year<C: YearShapes>(
     year: C::YearInfo,
     month: Month,
@@ -134,7 +148,8 @@ fn made_in_year<C: YearShapes>(
     }
 }
 
-/// Returns the date of a day of a month in its place, or the error.
+/// Returns the date of an ordinal month and a day of a year that has the month. Fails with
+/// [`DateNewError::InvalidDay`] if the day isn't from 1 to the month's length.
 fn made_in_month<C: YearShapes>(
     year: C::YearInfo,
     month: u8,

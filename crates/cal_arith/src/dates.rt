@@ -1,4 +1,4 @@
-//! Dates as a year, the place of a month and a day.
+//! Dates as a year, an ordinal month and a day, and their day numbers.
 
 ghost use Rattle.std.specs.Prelude.{◌≡◌, ◌<◌, ◌+ℤ◌, pos};
 ghost use Rattle.cal_types.specs.CalendarList.{HasPlace, IsOn, date, day_number, month_length, start_of_year, year_length};
@@ -9,18 +9,18 @@ ghost use Rattle.cal_arith.specs.Dates.{date_of, ymd, Belongs, IsGivenDate};
 use crate::years::{YearShapes, Years};
 use cal_days::RataDie;
 
-/// A year, the place of a month in it, and a day of that month, both from 1.
+/// A year, an ordinal month, and a day of that month.
 #[derive(Clone, Copy, Debug)]
 pub struct Ymd<Y> {
     /// The year.
     pub year: Y,
-    /// The place of the month in its year, from 1.
+    /// The ordinal month, from 1.
     pub month: u8,
     /// The day of the month, from 1.
     pub day: u8,
 }
 
-/// Returns the day number of a date.
+/// Returns the day number of a date that the calendar has.
 pub(crate) fn to_rata_die<C: YearShapes>(date: Ymd<C::YearInfo>, cal: &C) -> RataDie
     requires { IsGivenDate (C.years cal.now) date }
     ensures { let y = C.years cal.now in result ≡ day_number y.list (date_of y date) }
@@ -28,7 +28,7 @@ pub(crate) fn to_rata_die<C: YearShapes>(date: Ymd<C::YearInfo>, cal: &C) -> Rat
     cal.to_rata_die_inner(date.year, date.month, date.day)
 }
 
-/// Returns how many days the month in a place of a given year has.
+/// Returns the length of a given year's month in days.
 fn length_of_month<C: YearShapes>(year: C::YearInfo, month: u8, cal: &C) -> u16
     requires year { IsGiven (C.years cal.now) year }
     requires place { let y = C.years cal.now in HasPlace y.list (y.extended year) month }
@@ -37,8 +37,8 @@ fn length_of_month<C: YearShapes>(year: C::YearInfo, month: u8, cal: &C) -> u16
     u16::from(cal.days_in_provided_month(year, month))
 }
 
-/// Returns the place of the month and the day of the month of a day of a given year, which is counted from 0; each
-/// month before it is asked for its length.
+/// Returns the ordinal month and the day of the month for a day of a given year. `day_of_year` counts from 0. It asks
+/// for the length of each month up to the day's.
 pub(crate) fn month_by_month<C: YearShapes>(
     year: C::YearInfo,
     day_of_year: u16,
@@ -60,7 +60,7 @@ pub(crate) fn month_by_month<C: YearShapes>(
     (month, rest as u8 + 1)
 }
 
-/// Returns the date of a day number.
+/// Returns the date of a valid day.
 pub(crate) fn from_rata_die<C: Years>(rd: RataDie, cal: &C) -> Ymd<C::YearInfo>
     requires { IsValidDay rd }
     ensures on { let y = C.years cal.now in IsOn y.list rd (date_of y result) }

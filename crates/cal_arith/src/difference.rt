@@ -1,4 +1,4 @@
-//! The difference of two dates, as ECMAScript Temporal's NonISODateUntil.
+//! The difference of two dates (ECMAScript Temporal, `NonISODateUntil`).
 
 ghost use Rattle.std.specs.Prelude.{◌≡◌, ◌+◌, ◌-◌, ◌*◌, ◌<◌, ◌≤◌, ◌<ℤ◌, ◌-ℤ◌, unsigned_abs, IsTrue, false, ◌↔◌};
 ghost use Rattle.cal_types.specs.CalendarList.{date};
@@ -18,14 +18,14 @@ use cal_days::RataDie;
 use cal_types::{DateDifferenceOptions, DateDuration, DateDurationUnit, Overflow};
 use std::sync::ledger::Ledger;
 
-/// Returns the direction in which the second day lies from the first: backward if it lies before it.
+/// Returns the direction from the first day to the second: backward if the second is earlier, else forward.
 fn direction_between(first: RataDie, second: RataDie) -> Direction
     ensures { IsTrue (is_backward result) ↔ (second <ℤ first) }
 {
     Direction::from_sign(second < first)
 }
 
-/// Returns how many days lie between two days.
+/// Returns the number of days between two days, which must be below 4294967296.
 fn days_apart(first: RataDie, second: RataDie) -> u32
     requires { unsigned_abs (second -ℤ first) < 4294967296 }
     ensures { result ≡ unsigned_abs (second -ℤ first) }
@@ -33,7 +33,7 @@ fn days_apart(first: RataDie, second: RataDie) -> u32
     second.since(first).unsigned_abs() as u32
 }
 
-/// Returns the whole weeks of a number of days, if weeks are admitted.
+/// Returns the whole weeks in a number of days if weeks are the largest unit, else 0.
 fn admitted_weeks(days: u32, unit: DateDurationUnit) -> u32
     ensures weeks { IsTrue (admits_weeks unit) → (7 * result ≤ days) × (days < 7 * result + 7) }
     ensures none { admits_weeks unit ≡ false → result ≡ 0 }
@@ -44,8 +44,8 @@ fn admitted_weeks(days: u32, unit: DateDurationUnit) -> u32
     }
 }
 
-/// Returns the difference from one date to another: years, then months, then weeks and days, each as many as do not
-/// surpass the second date.
+/// Returns the difference from one date to another: years, then months, then weeks, then days. Each unit that the
+/// largest unit admits is the greatest number that doesn't surpass the second date.
 pub(crate) fn difference<C: YearShapes, L: Ledger>(
     from: Ymd<C::YearInfo>,
     to: Ymd<C::YearInfo>,
@@ -78,9 +78,11 @@ pub(crate) fn difference<C: YearShapes, L: Ledger>(
     }
 }
 
-/// Returns the duration of [`crate::ArithmeticDate::until`] between two dates, each a year, the place of a month and a
-/// day. It looks up at most 8 years; if months are the largest unit, at most 8 and one more for each year
-/// between the dates. Each look-up is a tick: [`YearShapes`] offers no other.
+/// Returns the difference of [`crate::ArithmeticDate::until`] between two dates, each a year, an ordinal month and a
+/// day. Both must belong to the calendar.
+///
+/// It looks up at most 8 years; if months are the largest unit, at most 8 and one more for each year between the
+/// dates. Each look-up is one tick: [`YearShapes`] offers no uncounted look-up.
 pub fn difference_counted<C: YearShapes, L: Ledger>(
     from: (C::YearInfo, u8, u8),
     to: (C::YearInfo, u8, u8),
@@ -110,7 +112,7 @@ pub fn difference_counted<C: YearShapes, L: Ledger>(
     difference(first, second, largest_unit(options), calendar, steps)
 }
 
-/// Returns which largest unit the options of a difference ask for.
+/// Returns the largest unit of the options, which is days by default.
 pub(crate) fn largest_unit(options: DateDifferenceOptions) -> DateDurationUnit
     ensures { result ≡ largest_unit_of options.largest_unit }
 {

@@ -13,7 +13,7 @@ pub(crate) enum Direction {
 }
 
 impl Direction {
-    /// Backward for a negative duration, else forward.
+    /// Returns [`Direction::Backward`] for a negative duration, else [`Direction::Forward`].
     pub(crate) fn from_sign(is_negative: bool) -> Self
         ensures { is_backward result ≡ is_negative }
     {

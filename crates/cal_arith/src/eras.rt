@@ -1,4 +1,4 @@
-//! The reading of eras that several calendars have. The codes are those of CLDR (UTS 35).
+//! Eras that several calendars share. The codes are CLDR's (UTS 35).
 
 ghost use Rattle.std.specs.Prelude.{◌≡◌};
 ghost use Rattle.cal_days.specs.Day.{IsFieldYear};
@@ -7,11 +7,13 @@ ghost use Rattle.cal_arith.specs.FieldNames.{era_read};
 
 use cal_types::UnknownEraError;
 
-/// Returns the extended year of a year in a calendar's only era, in which years are numbered as the extended years.
+/// Returns the extended year of a year in a calendar's only era: the year itself.
+///
+/// `code`: the code of the calendar's era; `era`: the code to look up.
 ///
 /// # Errors
 ///
-/// - [`UnknownEraError`] if the code isn't the era's.
+/// - [`UnknownEraError`] if `era` isn't `code`.
 pub fn year_in_only_era(code: &[u8], era: &[u8], year: i32) -> Result<i32, UnknownEraError>
     ensures { result ≡ era_read (only_era_reads code.now era.now year) }
 {
@@ -22,12 +24,14 @@ pub fn year_in_only_era(code: &[u8], era: &[u8], year: i32) -> Result<i32, Unkno
     }
 }
 
-/// Returns the extended year of a year, from -1040000 to 1040000, in the Common Era (`ce` or `ad`) or before it (`bce`
-/// or `bc`, which counts back: 1 BCE is year 0).
+/// Returns the extended year of a year in the Common Era (`ce` or `ad`) or before it (`bce` or `bc`). Years before it
+/// count back: 1 BCE is year 0.
+///
+/// `year`: -1040000 to 1040000.
 ///
 /// # Errors
 ///
-/// - [`UnknownEraError`] if the code is another one.
+/// - [`UnknownEraError`] if `era` is none of these four codes.
 pub fn year_in_common_era(era: &[u8], year: i32) -> Result<i32, UnknownEraError>
     requires { IsFieldYear year }
     ensures { result ≡ era_read (common_era_reads era.now year) }

@@ -1,5 +1,4 @@
-//! Dates that are built from bags of fields. The steps are those of ECMAScript Temporal's CalendarResolveFields and
-//! NonISOCalendarDateToISO.
+//! Creating dates from bags of fields (ECMAScript Temporal, `CalendarResolveFields` and `NonISOCalendarDateToISO`).
 
 ghost use Rattle.std.specs.Prelude.{◌≡◌, ◌≤◌, ◌&&◌, IfOk, IfSome, option_map};
 ghost use Rattle.cal_days.specs.Day.{IsRuleYear};
@@ -23,7 +22,7 @@ use cal_types::{
     MissingFieldsStrategy, Month, Overflow,
 };
 
-/// Returns how the options handle a month or a day that doesn't exist.
+/// Returns the overflow of the options, which is [`Overflow::Reject`] by default.
 fn fields_overflow(options: DateFromFieldsOptions) -> Overflow
     ensures { result ≡ overflow_of options.overflow }
 {
@@ -33,7 +32,7 @@ fn fields_overflow(options: DateFromFieldsOptions) -> Overflow
     }
 }
 
-/// Returns how the options handle missing fields.
+/// Returns the strategy for missing fields, which is [`MissingFieldsStrategy::Reject`] by default.
 fn missing_fields(options: DateFromFieldsOptions) -> MissingFieldsStrategy
     ensures { result ≡ missing_fields_of options.missing_fields_strategy }
 {
@@ -43,7 +42,7 @@ fn missing_fields(options: DateFromFieldsOptions) -> MissingFieldsStrategy
     }
 }
 
-/// Returns whether missing fields are supplied.
+/// Returns whether the strategy supplies missing fields.
 fn is_supplied(strategy: MissingFieldsStrategy) -> bool
     ensures { result ≡ is_ecma strategy }
 {
@@ -53,7 +52,8 @@ fn is_supplied(strategy: MissingFieldsStrategy) -> bool
     }
 }
 
-/// Returns the day that is asked for: the given one, or 1 if a missing one is supplied.
+/// Returns the given day, or 1 for a missing day if `supplied`; else fails with
+/// [`DateFromFieldsError::NotEnoughFields`].
 fn day_or_first(day: Option<u8>, supplied: bool) -> Result<u8, DateFromFieldsError>
     ensures { result ≡ day_or_first day supplied }
 {
@@ -64,7 +64,7 @@ fn day_or_first(day: Option<u8>, supplied: bool) -> Result<u8, DateFromFieldsErr
     }
 }
 
-/// Returns the year of an era, if an extended year beside it is the same.
+/// Returns the year, or [`DateFromFieldsError::InconsistentYear`] if the bag's extended year is another one.
 fn same_year(given: Option<i32>, year: i32) -> Result<i32, DateFromFieldsError>
     ensures { result ≡ same_year given year }
 {
@@ -74,7 +74,8 @@ fn same_year(given: Option<i32>, year: i32) -> Result<i32, DateFromFieldsError>
     }
 }
 
-/// Returns the extended year of an era and a year in it.
+/// Returns the extended year of an era year. Fails, in this order, with [`DateFromFieldsError::Overflow`] if the era
+/// year isn't from -1040000 to 1040000, `InvalidEra`, or `InconsistentYear` if `given` is another year.
 fn year_of_era<C: DateFieldsResolver>(
     era: &[u8],
     era_year: i32,
@@ -93,7 +94,8 @@ fn year_of_era<C: DateFieldsResolver>(
     }
 }
 
-/// Returns the year that a bag names, if it names one.
+/// Returns the extended year that a bag names, `None` if era, era year and extended year are all missing, or the
+/// first error.
 fn named_year<C: DateFieldsResolver>(
     era: Option<&[u8]>,
     era_year: Option<i32>,
@@ -121,7 +123,8 @@ fn named_year<C: DateFieldsResolver>(
     }
 }
 
-/// Returns the month that a name says, unless it is an ordinal month.
+/// Returns the month that is named by itself or by a month code. Fails with `MonthCodeInvalidSyntax`, or with
+/// [`DateFromFieldsError::NotEnoughFields`] for an ordinal month.
 fn month_said(name: NamedMonth<'_>) -> Result<Month, DateFromFieldsError>
     ensures { seen month_parts result ≡ month_said (month_name name.entry) }
 {
@@ -135,7 +138,7 @@ fn month_said(name: NamedMonth<'_>) -> Result<Month, DateFromFieldsError>
     }
 }
 
-/// Returns a month in its reference year.
+/// Returns a month in its reference year, or the error if it has none.
 fn month_in_reference_year<'a, C: DateFieldsResolver>(
     month: Month,
     day: u8,
@@ -154,8 +157,8 @@ fn month_in_reference_year<'a, C: DateFieldsResolver>(
     }
 }
 
-/// Returns a month in its reference year. Under [`Overflow::Constrain`] the plain month of its number takes the place
-/// of a leap month that has none.
+/// Returns a month in its reference year. Under [`Overflow::Constrain`], a leap month without a reference year is
+/// replaced by the plain month of its number.
 fn month_or_plain_month<'a, C: DateFieldsResolver>(
     month: Month,
     day: u8,
@@ -179,7 +182,8 @@ fn month_or_plain_month<'a, C: DateFieldsResolver>(
     }
 }
 
-/// Returns the reference year of a month and a day, if fields are supplied and no ordinal month is given.
+/// Returns the named month in its reference year, for a bag without a year. Fails with
+/// [`DateFromFieldsError::NotEnoughFields`] if missing fields aren't supplied or the bag has an ordinal month.
 fn without_year<'a, C: DateFieldsResolver>(
     month: NamedMonth<'a>,
     ordinal_month: Option<u8>,
@@ -201,7 +205,7 @@ fn without_year<'a, C: DateFieldsResolver>(
     }
 }
 
-/// Returns the year that a bag names, or a reference year.
+/// Returns the named month in the year of the bag, or in its reference year if the bag has no year.
 fn month_of_year<'a, C: DateFieldsResolver>(
     year: Option<i32>,
     month: NamedMonth<'a>,
@@ -225,7 +229,8 @@ fn month_of_year<'a, C: DateFieldsResolver>(
     }
 }
 
-/// Returns the place of a month, if an ordinal month beside it is the same.
+/// Returns the ordinal month `place`, or [`DateFromFieldsError::InconsistentMonth`] if the bag's ordinal month is
+/// another one.
 fn same_place(given: Option<u8>, place: u8) -> Result<u8, DateFromFieldsError>
     ensures { result ≡ same_place given place }
 {
@@ -235,7 +240,8 @@ fn same_place(given: Option<u8>, place: u8) -> Result<u8, DateFromFieldsError>
     }
 }
 
-/// Returns a number from 1 to a last one. Under [`Overflow::Constrain`] the nearest one takes the place of another.
+/// Returns the number if it is from 1 to `last`. Other numbers become the nearest one under [`Overflow::Constrain`],
+/// and fail with `fault` under [`Overflow::Reject`].
 fn number_within(
     number: u8,
     last: u8,
@@ -257,7 +263,7 @@ fn number_within(
     }
 }
 
-/// Returns the place of a month in a given year.
+/// Returns the ordinal month of a month in a given year, or the first error.
 fn place_of_month<C: YearShapes>(
     year: C::YearInfo,
     month: Month,
@@ -277,7 +283,7 @@ fn place_of_month<C: YearShapes>(
     }
 }
 
-/// Returns the place in its year of the month that a bag names.
+/// Returns the ordinal month of the named month in a given year, or the first error.
 fn place_in_year<C: YearShapes>(
     year: C::YearInfo,
     month: NamedMonth<'_>,
@@ -302,7 +308,8 @@ fn place_in_year<C: YearShapes>(
     }
 }
 
-/// Returns the date of a day of a month in its place, or the first error.
+/// Returns the date of an ordinal month and a day of a given year. A day that the month lacks is constrained or
+/// rejected; then the day number must be valid.
 fn date_in_month<C: Years>(
     year: C::YearInfo,
     month: u8,
@@ -324,7 +331,7 @@ fn date_in_month<C: Years>(
     }
 }
 
-/// Returns the date if its day number is in the valid range.
+/// Returns the date, or [`DateFromFieldsError::Overflow`] if its day number isn't valid.
 fn date_in_range<C: YearShapes>(
     date: Ymd<C::YearInfo>,
     cal: &C,
@@ -340,7 +347,7 @@ fn date_in_range<C: YearShapes>(
     }
 }
 
-/// Returns the date of the month that is named in a given year, and of a day.
+/// Returns the date of the named month and a day in a given year, or the first error.
 fn date_in_year<C: Years>(
     year: C::YearInfo,
     month: NamedMonth<'_>,
@@ -361,7 +368,7 @@ fn date_in_year<C: Years>(
     }
 }
 
-/// Returns the date of a bag, or the first error.
+/// Returns the date of a bag of fields, or the first error.
 #[tactic(auto, unfolding(cal_types::specs::Resolving::resolve))]
 fn date_of_fields<C: DateFieldsResolver>(
     fields: DateFields<'_>,
@@ -401,14 +408,36 @@ fn date_of_fields<C: DateFieldsResolver>(
 impl<C: DateFieldsResolver> ArithmeticDate<C> {
     /// Creates a date from a bag of fields (ECMAScript Temporal, `CalendarResolveFields`).
     ///
-    /// The default of the option `overflow` is [`Overflow::Reject`], and that of `missing_fields_strategy` is
-    /// [`MissingFieldsStrategy::Reject`].
+    /// The default of the option `overflow` is [`Overflow::Reject`], and the default of `missing_fields_strategy` is
+    /// [`MissingFieldsStrategy::Reject`]. [`MissingFieldsStrategy::Ecma`] supplies a missing day or year.
+    /// [`Overflow::Constrain`] uses the nearest ordinal month and day, and the month that stands in for one that the
+    /// year lacks.
     ///
     /// # Errors
     ///
-    /// Fails with the first invalid field, in the order of [`DateFromFieldsError`]'s steps: the day and the month are
-    /// given, the year, the month, the ordinal month, the day, and the day number. `Calendar::from_fields` of cal_base
-    /// lists the variants.
+    /// Fails with the first of these:
+    /// - [`DateFromFieldsError::NotEnoughFields`] if the day is missing, unless the strategy is `Ecma` and the bag
+    ///   has an extended year or an era year: then the day is 1;
+    /// - [`DateFromFieldsError::TooManyFields`] if the bag has both a month and a month code;
+    /// - [`DateFromFieldsError::NotEnoughFields`] if month, month code and ordinal month are all missing, or the bag
+    ///   has an era without an era year or the reverse;
+    /// - [`DateFromFieldsError::Overflow`] if the era year, or the extended year without an era, isn't from -1040000
+    ///   to 1040000;
+    /// - [`DateFromFieldsError::InvalidEra`] if the era isn't one of the calendar's;
+    /// - [`DateFromFieldsError::InconsistentYear`] if the era year and the extended year name different years;
+    /// - [`DateFromFieldsError::NotEnoughFields`] if the year is missing, unless the strategy is `Ecma` and the bag
+    ///   has no ordinal month: then the year is the month's reference year;
+    /// - [`DateFromFieldsError::MonthCodeInvalidSyntax`] if the month code isn't `M`, two digits and an optional `L`;
+    /// - [`DateFromFieldsError::MonthNotInCalendar`] if the month isn't one of the calendar's months;
+    /// - [`DateFromFieldsError::NotEnoughFields`] if the year is missing and the calendar has no reference years;
+    /// - [`DateFromFieldsError::MonthNotInYear`] under `Reject` if the year lacks the month, or the year is missing
+    ///   and the leap month has no reference year; under `Constrain` the plain month of its number is used instead,
+    ///   which can fail with the two errors above;
+    /// - [`DateFromFieldsError::InconsistentMonth`] if the month and the ordinal month differ;
+    /// - [`DateFromFieldsError::InvalidOrdinalMonth`] under `Reject` if only an ordinal month names the month and it
+    ///   isn't from 1 to `max`, the number of months in the year;
+    /// - [`DateFromFieldsError::InvalidDay`] under `Reject` if the day isn't from 1 to `max`, the month's length;
+    /// - [`DateFromFieldsError::Overflow`] if the day number isn't from -365242499 to 365242134.
     pub fn from_fields(
         fields: DateFields<'_>,
         options: DateFromFieldsOptions,

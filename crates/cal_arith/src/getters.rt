@@ -1,4 +1,4 @@
-//! What a date that belongs to its calendar shows of itself.
+//! Getters of dates that belong to their calendar.
 
 ghost use Rattle.std.specs.Prelude.{◌≡◌, ◌+◌, ◌+ℤ◌, pos, ◌&&◌, nat_le};
 ghost use Rattle.cal_days.specs.Day.{is_valid_day, is_covered_year};
@@ -15,7 +15,7 @@ use cal_days::ranges::{is_covered_year, is_valid_day};
 use cal_types::Month;
 
 impl<C: YearShapes> ArithmeticDate<C> {
-    /// Returns the extended year, which numbers the calendar's years without eras.
+    /// Returns the extended year: the calendar's own number of the year, without eras.
     pub fn extended_year(self, cal: &C) -> i32
         requires { Belongs (C.years cal.now) self.parts }
         ensures { result ≡ (C.years cal.now).extended self.parts.year }
@@ -23,7 +23,7 @@ impl<C: YearShapes> ArithmeticDate<C> {
         cal.extended_from_year_info(self.parts.year)
     }
 
-    /// Returns how many months the date's year has, 12 or 13.
+    /// Returns the number of months in the date's year, 12 or 13.
     pub fn months_in_year(self, cal: &C) -> u8
         requires { Belongs (C.years cal.now) self.parts }
         ensures { let y = C.years cal.now in
@@ -32,7 +32,7 @@ impl<C: YearShapes> ArithmeticDate<C> {
         cal.months_in_provided_year(self.parts.year)
     }
 
-    /// Returns how many days the date's year has, at most 403.
+    /// Returns the number of days in the date's year, at most 403.
     pub fn days_in_year(self, cal: &C) -> u16
         requires { Belongs (C.years cal.now) self.parts }
         ensures { let y = C.years cal.now in
@@ -41,7 +41,7 @@ impl<C: YearShapes> ArithmeticDate<C> {
         days_of_year(self.parts.year, cal)
     }
 
-    /// Returns how many days the date's month has, from 1 to 31.
+    /// Returns the number of days in the date's month, from 1 to 31.
     pub fn days_in_month(self, cal: &C) -> u8
         requires { Belongs (C.years cal.now) self.parts }
         ensures { let y = C.years cal.now in
@@ -51,7 +51,7 @@ impl<C: YearShapes> ArithmeticDate<C> {
         cal.days_in_provided_month(date.year, date.month)
     }
 
-    /// Returns the day's number in its year, from 1.
+    /// Returns the day of the year, from 1.
     pub fn day_of_year(self, cal: &C) -> u16
         requires { Belongs (C.years cal.now) self.parts }
         ensures { let y = C.years cal.now in start_of_year y.list (y.extended self.parts.year) +ℤ pos result
@@ -60,7 +60,7 @@ impl<C: YearShapes> ArithmeticDate<C> {
         day_in_year(self.parts, cal)
     }
 
-    /// Returns the month by its number, which is a leap month or not; its place in the year may be another number.
+    /// Returns the month: its number, and whether it is a leap month. The number can differ from the ordinal month.
     pub fn month_in_calendar(self, cal: &C) -> Month
         requires { Belongs (C.years cal.now) self.parts }
         ensures { let y = C.years cal.now in
@@ -70,8 +70,8 @@ impl<C: YearShapes> ArithmeticDate<C> {
         cal.month_from_ordinal(date.year, date.month)
     }
 
-    /// Returns whether the calendar has this date and its day number is in the valid range. The year is one that the
-    /// calendar gave; the month's place and the day may be any numbers.
+    /// Returns whether the calendar has this date and its day number is valid. The year must be one of the calendar's
+    /// years; the ordinal month and the day may be any numbers.
     pub fn is_date_of(self, cal: &C) -> bool
         requires { IsGiven (C.years cal.now) self.parts.year }
         ensures { let y = C.years cal.now in
@@ -82,7 +82,7 @@ impl<C: YearShapes> ArithmeticDate<C> {
     }
 }
 
-/// Returns how many days a given year has: from its first day to its last.
+/// Returns the number of days in a given year: the day of the year of its last day.
 fn days_of_year<C: YearShapes>(year: C::YearInfo, cal: &C) -> u16
     requires { IsGiven (C.years cal.now) year }
     ensures { let y = C.years cal.now in result ≡ year_length y.list (y.extended year) }
@@ -92,7 +92,7 @@ fn days_of_year<C: YearShapes>(year: C::YearInfo, cal: &C) -> u16
     day_in_year(Ymd { year, month, day }, cal)
 }
 
-/// Returns the number of a date's day in its year, from 1.
+/// Returns the day of the year of a date, from 1.
 fn day_in_year<C: YearShapes>(date: Ymd<C::YearInfo>, cal: &C) -> u16
     requires { IsGivenDate (C.years cal.now) date }
     ensures { let y = C.years cal.now in
@@ -103,14 +103,14 @@ fn day_in_year<C: YearShapes>(date: Ymd<C::YearInfo>, cal: &C) -> u16
     before + 1
 }
 
-/// Returns whether a number lies from 1 to a last one.
+/// Returns whether a number is from 1 to `last`.
 pub(crate) fn is_up_to(number: u8, last: u8) -> bool
     ensures { result ≡ (nat_le 1 number && nat_le number last) }
 {
     1 <= number && number <= last
 }
 
-/// Returns whether a given year has the month and the day.
+/// Returns whether a given year has the ordinal month and the day.
 fn is_listed<C: YearShapes>(date: Ymd<C::YearInfo>, cal: &C) -> bool
     requires { IsGiven (C.years cal.now) date.year }
     ensures { let y = C.years cal.now in result ≡ is_date y.list (date_of y date) }
@@ -119,8 +119,8 @@ fn is_listed<C: YearShapes>(date: Ymd<C::YearInfo>, cal: &C) -> bool
         && is_up_to(date.day, cal.days_in_provided_month(date.year, date.month))
 }
 
-/// Returns whether a date of the calendar has a valid day. Each date of the years from -980000 to 980000 has one, so
-/// that its day number isn't computed.
+/// Returns whether the day number of a date that the calendar has is valid. It is computed only for years outside of
+/// -980000 to 980000: in between, all days are valid.
 pub(crate) fn has_valid_day<C: YearShapes>(date: Ymd<C::YearInfo>, cal: &C) -> bool
     requires { IsGivenDate (C.years cal.now) date }
     ensures { let y = C.years cal.now in result ≡ is_valid_day (day_number y.list (date_of y date)) }
@@ -131,14 +131,14 @@ pub(crate) fn has_valid_day<C: YearShapes>(date: Ymd<C::YearInfo>, cal: &C) -> b
     is_in_range(to_rata_die(date, cal))
 }
 
-/// Returns whether a year lies from -980000 to 980000.
+/// Returns whether a year is from -980000 to 980000.
 fn is_covered(year: i32) -> bool
     ensures { result ≡ is_covered_year year }
 {
     is_covered_year(year)
 }
 
-/// Returns whether a day number is in the valid range.
+/// Returns whether a day number is valid, from -365242499 to 365242134.
 pub(crate) fn is_in_range(rd: RataDie) -> bool
     ensures { result ≡ is_valid_day rd }
 {

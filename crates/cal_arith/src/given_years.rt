@@ -1,4 +1,4 @@
-//! Looks up years by their numbers; each year is one that the calendar gave.
+//! Looking up given years: years that the calendar returns for extended years from -8000000 to 8000000.
 
 ghost use Rattle.std.specs.Prelude.{◌≡◌, ◌+◌, ◌≤ℤ◌, pos, neg_ℤ};
 ghost use Rattle.cal_arith.specs.Given.{IsGiven};

@@ -1,4 +1,4 @@
-//! Laws of the answers, each proved as the contract of a function that does nothing, or compares two dates.
+//! Laws of sums, differences and the order of dates. Each is the proved contract of a function.
 
 ghost use Rattle.std.specs.Prelude.{◌≡◌, ℤ, pos, Ok, Result, MatchResult};
 ghost use Rattle.std.specs.Ordering.{int_cmp, int_eq};
@@ -15,8 +15,8 @@ use cal_types::{
 };
 use std::cmp::Ordering;
 
-/// The difference of two valid dates, added to the first under [`Overflow::Constrain`], is the second,
-/// whether the limit on years is tested on the calendar's own years or on the stored ones.
+/// The difference of two valid dates, added to the first under [`Overflow::Constrain`], is the second. This holds
+/// with the limit on years tested on extended years and with it tested on stored years.
 pub fn difference_added_back<C: YearShapes>(cal: &C, duration: DateDuration, unit: DateDurationUnit)
     ensures own { let y = C.years cal.now in
         (t u : Date) → IsValidDate y.list t → IsValidDate y.list u
@@ -28,7 +28,7 @@ pub fn difference_added_back<C: YearShapes>(cal: &C, duration: DateDuration, uni
         → IsSum y.list y.offset t duration Overflow.Constrain (Ok u) }
 {}
 
-/// Returns whether two dates of a calendar are the same: exactly if their day numbers are.
+/// Two dates that belong to a calendar are equal exactly if their day numbers are.
 pub fn are_same_day<C: YearShapes>(
     first: &ArithmeticDate<C>,
     second: &ArithmeticDate<C>,
@@ -42,7 +42,7 @@ pub fn are_same_day<C: YearShapes>(
     first == second
 }
 
-/// Returns the order of two dates of a calendar: that of their day numbers.
+/// Two dates that belong to a calendar are ordered as their day numbers.
 pub fn order_of_days<C: YearShapes>(
     first: &ArithmeticDate<C>,
     second: &ArithmeticDate<C>,
@@ -56,15 +56,15 @@ pub fn order_of_days<C: YearShapes>(
     first.cmp(second)
 }
 
-/// A sum has one result, whatever is added to the year when its limit is tested.
+/// A sum has only one result for each shift, the number that is added to the year when its limit is tested.
 pub fn sum_has_one_answer<C: YearShapes>(cal: &C, duration: DateDuration, overflow: Overflow)
     ensures { let y = C.years cal.now in
         (shift : ℤ) (t : Date) (r s : Result Date DateAddError)
         → IsSum y.list shift t duration overflow r → IsSum y.list shift t duration overflow s → r ≡ s }
 {}
 
-/// Returns the first date with the difference of two dates, in any unit, added under [`Overflow::Constrain`]: always
-/// the second date.
+/// The difference of two dates that belong to a calendar, added to the first under [`Overflow::Constrain`], is the
+/// second date, for every largest unit.
 ///
 /// # Errors
 ///

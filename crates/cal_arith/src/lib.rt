@@ -1,7 +1,9 @@
-//! Arithmetic of dates over any calendar: adding a duration, and the difference of two dates.
+//! Date arithmetic over any calendar: creating dates, adding durations, differences, and getters.
 //!
-//! A calendar offers its years by [`years::Years`]; its list of years decides every answer here. The rules
-//! are those of ECMAScript Temporal's NonISODateAdd and NonISODateUntil.
+//! Start at [`ArithmeticDate`]. A calendar implements [`years::Years`], and [`years::DateFieldsResolver`] to create
+//! dates from a year, a month and a day or from fields. The contracts are stated over the calendar's list: its years,
+//! with their months and lengths. The rules come from ECMAScript Temporal (`NonISODateAdd`, `NonISODateUntil`,
+//! `CalendarResolveFields`).
 #![tactic(auto)]
 
 mod adding;

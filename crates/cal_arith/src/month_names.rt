@@ -7,18 +7,18 @@ ghost use Rattle.cal_arith.specs.FieldNames.{month_name, seen};
 
 use cal_types::{DateFromFieldsError, Month};
 
-/// How a bag of fields names its month.
+/// The field by which a bag names its month.
 #[derive(Clone, Copy, Debug)]
 pub enum NamedMonth<'a> {
-    /// By itself.
+    /// A month.
     Month(Month),
-    /// By its month code.
+    /// A month code, whose syntax isn't checked yet.
     Code(&'a [u8]),
-    /// By its place in the year alone.
+    /// An ordinal month, without a month or a month code.
     Ordinal(u8),
 }
 
-/// A year, and the month that is named in it.
+/// A year, and how its month is named.
 #[derive(Clone, Copy, Debug)]
 pub struct MonthOfYear<'a, Y> {
     /// The year.
@@ -27,8 +27,12 @@ pub struct MonthOfYear<'a, Y> {
     pub month: NamedMonth<'a>,
 }
 
-/// Returns the month that a bag names. A month and a month code exclude each other, and one of the three has to be
-/// there.
+/// Returns how a bag names its month. A month or a month code takes precedence over an ordinal month.
+///
+/// # Errors
+///
+/// - [`DateFromFieldsError::TooManyFields`] if the bag has both a month and a month code;
+/// - [`DateFromFieldsError::NotEnoughFields`] if month, month code and ordinal month are all missing.
 pub(crate) fn named_month<'a>(
     month: Option<Month>,
     month_code: Option<&'a [u8]>,

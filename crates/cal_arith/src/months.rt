@@ -1,4 +1,4 @@
-//! The sequence of all months.
+//! Counting in the sequence of all months, across years.
 
 ghost use Rattle.std.specs.Prelude.{◌≡◌, ◌≤◌, ◌<◌, ◌+◌, ◌*◌, IfSome, IsSome, pos, neg_ℤ, unsigned_abs, ◌+ℤ◌, ◌-ℤ◌, ◌*ℤ◌, ◌≤ℤ◌};
 ghost use Rattle.cal_types.specs.CalendarList.{IsMonthsAfter, month_count, month_number};
@@ -14,18 +14,19 @@ use crate::years::{YearShapes, Years};
 use std::marker::Brand;
 use std::sync::ledger::{Blank, Ledger};
 
-/// A year, and the place of a month in it.
+/// A year and an ordinal month.
 #[derive(Clone, Copy, Debug)]
 pub struct YearMonth<Y> {
     /// The year.
     pub year: Y,
-    /// The place of the month in its year, from 1.
+    /// The ordinal month, from 1.
     pub month: u8,
 }
 
-/// Returns how many months lie between the first day of a year and that of another which isn't before it.
+/// Returns the number of months from the start of one year to the start of another, which must not be earlier.
 ///
-/// Years whose months the calendar doesn't count by their numbers are looked up, at the cost of one tick each.
+/// The calendar counts as many years as it can by their numbers. Each other year is looked up, at the cost of one
+/// tick. There is at most one tick for each year in between.
 pub(crate) fn months_between_counted<C: YearShapes, L: Ledger>(
     first: C::YearInfo,
     last: C::YearInfo,
@@ -56,7 +57,7 @@ pub(crate) fn months_between_counted<C: YearShapes, L: Ledger>(
     count
 }
 
-/// Returns how many months lie between the first days of two years, by a counter that nobody reads.
+/// Returns the number of months from the start of one year to the start of another, with a counter that nobody reads.
 fn months_between_with_blank<C: YearShapes, L: Ledger>(
     first: C::YearInfo,
     last: C::YearInfo,
@@ -76,7 +77,7 @@ fn months_between_with_blank<C: YearShapes, L: Ledger>(
     months_between_counted(first, last, cal, &mut steps)
 }
 
-/// Returns how many months lie between the first days of two years.
+/// Returns the number of months from the start of one year to the start of another, which must not be earlier.
 fn months_between_years<C: YearShapes>(first: C::YearInfo, last: C::YearInfo, cal: &C) -> u32
     requires first { IsGiven (C.years cal.now) first }
     requires last { IsGiven (C.years cal.now) last }
@@ -87,15 +88,16 @@ fn months_between_years<C: YearShapes>(first: C::YearInfo, last: C::YearInfo, ca
     months_between_with_blank::<C, Brand>(first, last, cal, Blank::new(1))
 }
 
-/// A year, and a number of months from its first one.
+/// A year, and a number of months counted from its first month.
 #[derive(Clone, Copy)]
 struct MonthsFrom<Y> {
     year: Y,
     months: u32,
 }
 
-/// Returns the year so many years ahead, and the months from its first one to the month that some lead to from a year's
-/// first one. `None` if it begins past that month.
+/// Returns the year `ahead` years after `year`, and the months left from its first month to the month that is
+/// `months` after the first month of `year`. Returns `Some` if `months` is at least 13 times `ahead`; `None` if the
+/// later year begins after that month.
 fn years_ahead<C: Years>(
     year: C::YearInfo,
     months: u32,
@@ -121,11 +123,11 @@ fn years_ahead<C: Years>(
     })
 }
 
-/// Returns a later year from whose first month fewer months lead to the month that at least 26 lead to from a year's
-/// first one.
+/// Returns a later year, and the months left from its first month to the month that is `months` after the first month
+/// of `year`. Fewer months are left than `months`, which is at least 26.
 ///
-/// It is the year that the calendar estimates, or the one a thirteenth of the months ahead where the estimate is nearer
-/// or begins past the month: no year has more than 13.
+/// It tries the calendar's estimate, limited to between a thirteenth and a twelfth of the months. If that year begins
+/// too late, it takes a thirteenth: no year has more than 13 months.
 fn estimated<C: Years>(year: C::YearInfo, months: u32, cal: &C) -> MonthsFrom<C::YearInfo>
     requires year { IsGiven (C.years cal.now) year }
     requires range { (pos 12 *ℤ (C.years cal.now).extended year +ℤ pos months) ≤ℤ pos 95000000 }
@@ -143,8 +145,8 @@ fn estimated<C: Years>(year: C::YearInfo, months: u32, cal: &C) -> MonthsFrom<C:
     }
 }
 
-/// Returns a later year from whose first month fewer months lead to the month that some lead to from a year's first
-/// one. The months of that year are given, and do not lead past it.
+/// Returns a later year, and the months left from its first month to the month that is `months` after the first month
+/// of `year`. Fewer months are left than `months`. `count` is the number of months in `year`, at most `months`.
 fn jumped<C: Years>(year: C::YearInfo, months: u32, count: u32, cal: &C) -> MonthsFrom<C::YearInfo>
     requires year { IsGiven (C.years cal.now) year }
     requires range { (pos 12 *ℤ (C.years cal.now).extended year +ℤ pos months) ≤ℤ pos 95000000 }
@@ -162,8 +164,8 @@ fn jumped<C: Years>(year: C::YearInfo, months: u32, count: u32, cal: &C) -> Mont
     }
 }
 
-/// Returns the month so many months after the first one of a year. Where the calendar estimates well, one or two years
-/// are looked up; each jump leaves a thirteenth of the months at most.
+/// Returns the month that is `months` after the first month of a year. Each jump leaves at most a thirteenth of the
+/// months and 12 more. If the calendar estimates well, one or two jumps are enough.
 fn month_after_first<C: Years>(year: C::YearInfo, months: u32, cal: &C) -> YearMonth<C::YearInfo>
     requires year { IsGiven (C.years cal.now) year }
     requires range { (pos 12 *ℤ (C.years cal.now).extended year +ℤ pos months) ≤ℤ pos 95000000 }
@@ -186,7 +188,7 @@ fn month_after_first<C: Years>(year: C::YearInfo, months: u32, cal: &C) -> YearM
     }
 }
 
-/// Returns the month so many months later.
+/// Returns the month `months` months later.
 fn months_later<C: Years>(
     year: C::YearInfo,
     month: u8,
@@ -202,7 +204,7 @@ fn months_later<C: Years>(
     month_after_first(year, u32::from(month) - 1 + months, cal)
 }
 
-/// Returns the month so many months earlier, counted forward from a year that begins before it.
+/// Returns the month `months` months earlier, counted forward from the start of an earlier year.
 fn month_from_before<C: Years>(
     year: C::YearInfo,
     month: u8,
@@ -221,7 +223,7 @@ fn month_from_before<C: Years>(
     month_after_first(start, between + (u32::from(month) - 1) - months, cal)
 }
 
-/// Returns the month so many months earlier.
+/// Returns the month `months` months earlier.
 fn months_earlier<C: Years>(
     year: C::YearInfo,
     month: u8,

@@ -1,4 +1,4 @@
-//! The months of a difference, after its years, and the month that they lead to.
+//! The months of a difference, counted after its years, and the month that is reached.
 
 ghost use Rattle.std.specs.Prelude.{◌≡◌, ◌≤◌, ◌+◌, ◌+ℤ◌, ◌-ℤ◌, ◌≤ℤ◌, pos, unsigned_abs, IsTrue, false};
 ghost use Rattle.cal_days.specs.Day.{IsFieldYear};
@@ -20,18 +20,19 @@ use crate::years::YearShapes;
 use cal_types::DateDurationUnit;
 use std::sync::ledger::Ledger;
 
-/// A number of months, and the month that they lead to.
+/// A number of months, and the month that is reached by counting them.
 #[derive(Clone, Copy, Debug)]
 pub struct MonthsReached<Y> {
     /// The number of months.
     pub months: u32,
-    /// The year of the month that they lead to.
+    /// The year of the month that is reached.
     pub year: Y,
-    /// The place of that month in its year, from 1.
+    /// The ordinal month that is reached, from 1.
     pub month: u8,
 }
 
-/// Returns how many months the second month comes after the first.
+/// Returns the number of months from one month to another, which must not be earlier. It adds at most one tick for
+/// each year between them.
 fn months_apart<C: YearShapes, L: Ledger>(
     first: YearMonth<C::YearInfo>,
     last: YearMonth<C::YearInfo>,
@@ -55,7 +56,8 @@ fn months_apart<C: YearShapes, L: Ledger>(
     between + u32::from(last.month) - u32::from(first.month)
 }
 
-/// Returns how many months lie between a month and one that is not before it in the direction of counting.
+/// Returns the number of months from one month to another in the direction of counting. The second must not be before
+/// the first in that direction.
 fn months_toward<C: YearShapes, L: Ledger>(
     start: YearMonth<C::YearInfo>,
     end: YearMonth<C::YearInfo>,
@@ -82,7 +84,7 @@ fn months_toward<C: YearShapes, L: Ledger>(
     }
 }
 
-/// Returns the month after a month.
+/// Returns the month after a month. It adds at most one tick.
 fn next_month<C: YearShapes, L: Ledger>(
     here: YearMonth<C::YearInfo>,
     cal: &C,
@@ -108,7 +110,7 @@ fn next_month<C: YearShapes, L: Ledger>(
     }
 }
 
-/// Returns the month before a month.
+/// Returns the month before a month. It adds at most one tick.
 fn previous_month<C: YearShapes, L: Ledger>(
     here: YearMonth<C::YearInfo>,
     cal: &C,
@@ -135,7 +137,7 @@ fn previous_month<C: YearShapes, L: Ledger>(
     }
 }
 
-/// Returns the month from which one more month in the direction of counting leads here.
+/// Returns the month that is one month before `here` in the direction of counting. It adds at most one tick.
 fn month_short_of<C: YearShapes, L: Ledger>(
     here: YearMonth<C::YearInfo>,
     direction: Direction,
@@ -156,7 +158,8 @@ fn month_short_of<C: YearShapes, L: Ledger>(
     }
 }
 
-/// Returns the greatest number of months, after the years, that does not surpass the second date.
+/// Returns the greatest number of months, counted after the years, that doesn't surpass the second date. It also
+/// returns the month that is reached. `start` is the month that is reached by the years.
 fn months_between<C: YearShapes, L: Ledger>(
     from: Ymd<C::YearInfo>,
     to: Ymd<C::YearInfo>,
@@ -201,7 +204,8 @@ fn months_between<C: YearShapes, L: Ledger>(
     }
 }
 
-/// Returns the number of months of a difference, by its largest unit, and the month that it leads to.
+/// Returns the number of months of a difference, and the month that is reached. The number is 0 unless the largest
+/// unit is years or months: then it is the greatest that doesn't surpass the second date.
 pub(crate) fn admitted_months<C: YearShapes, L: Ledger>(
     from: Ymd<C::YearInfo>,
     to: Ymd<C::YearInfo>,

@@ -1,4 +1,4 @@
-//! Whether a date lies past another of the same year in the direction of counting.
+//! Tests of whether a date is past another in the same year, in the direction of counting.
 
 ghost use Rattle.std.specs.Prelude.{◌≡◌, ◌↔◌, IsTrue};
 ghost use Rattle.cal_types.specs.Month.{month_rank};
@@ -13,14 +13,15 @@ use crate::direction::Direction;
 use crate::years::YearShapes;
 use cal_types::Month;
 
-/// Where a month stands in the order of months.
+/// Returns the rank of a month in the order of months: by number, with a leap month after the plain month of its
+/// number.
 fn rank(month: Month) -> u16
     ensures { result ≡ month_rank (month_parts month) }
 {
     2 * u16::from(month.number()) + if month.is_leap() { 1 } else { 0 }
 }
 
-/// Returns whether a month and day come after others of the same year, or before them if counting goes backward.
+/// Returns whether a month and a day are after others in the same year, or before them if counting goes backward.
 fn is_past(direction: Direction, month: u16, day: u8, other_month: u16, other_day: u8) -> bool
     ensures { IsTrue result ↔ IsPast (is_backward direction) month day other_month other_day }
 {
@@ -30,7 +31,7 @@ fn is_past(direction: Direction, month: u16, day: u8, other_month: u16, other_da
     }
 }
 
-/// Returns whether a day comes after another of the same month, or before it if counting goes backward.
+/// Returns whether a day is after another in the same month, or before it if counting goes backward.
 pub(crate) fn is_past_day(direction: Direction, day: u8, other: u8) -> bool
     ensures { IsTrue result ↔ IsPastDay (is_backward direction) day other }
 {
@@ -40,8 +41,10 @@ pub(crate) fn is_past_day(direction: Direction, day: u8, other: u8) -> bool
     }
 }
 
-/// Returns whether as many years as lie between the years of two dates lead past the second, by the order of months
-/// or by the place of the first date's month in the second's year.
+/// Returns whether the first date, moved to the second date's year, is past the second date in the direction of
+/// counting. Months are compared by the order of months and as ordinal months; being past by either is enough.
+///
+/// `place`: the ordinal month of the first date's month in the second date's year.
 pub(crate) fn surpasses_in_year<C: YearShapes>(
     from: Ymd<C::YearInfo>,
     to: Ymd<C::YearInfo>,

@@ -1,5 +1,5 @@
-//! Dates of a year, an ordinal month and a day, and of a year, a month and a day without an era, as the constructors of
-//! `Date` for one calendar make them in icu_calendar.
+//! Creating dates from a year, an ordinal month and a day, or from an extended year, a month and a day. The
+//! constructors of icu_calendar's `Date` for single calendars do the same.
 
 ghost use Rattle.std.specs.Prelude.{◌≡◌, Some, None, IfOk, IfSome, pos, if◌then◌else◌};
 ghost use Rattle.std.specs.Result.{result_map_both};
@@ -20,7 +20,7 @@ use crate::years::{DateFieldsResolver, YearShapes};
 use cal_days::ranges::MAX_CONSTRUCTOR_YEAR;
 use cal_types::{DateError, DateNewError, LunisolarDateError, Month, RangeError, YearInput};
 
-/// Returns a number isn't from 1 to the greatest that is allowed.
+/// Returns the error for a number that isn't from 1 to `max`.
 fn not_up_to(field: &'static str, value: u8, max: u8) -> RangeError
     ensures { range_parts result ≡ out_of_range field.now (pos value) (pos 1) (pos max) }
 {
@@ -32,7 +32,7 @@ fn not_up_to(field: &'static str, value: u8, max: u8) -> RangeError
     }
 }
 
-/// Returns a year isn't from -9999 to 9999.
+/// Returns the error for a year that isn't from -9999 to 9999.
 fn not_small(year: i32) -> RangeError
     ensures { range_parts result ≡ year_out_of_range year }
 {
@@ -44,7 +44,7 @@ fn not_small(year: i32) -> RangeError
     }
 }
 
-/// Returns a year if constructors take it.
+/// Returns the year if it is from -9999 to 9999.
 fn small_year(year: i32) -> Option<i32>
     ensures year { result ≡ (if is_constructor_year year then Some year else None) }
     ensures small { IfSome result (λ y. IsConstructorYear y) }
@@ -57,7 +57,8 @@ fn small_year(year: i32) -> Option<i32>
     }
 }
 
-/// Returns the date of a day of a month in its place, or that the month doesn't have the day.
+/// Returns the date of an ordinal month and a day of a year that has the month, or the error if the month lacks the
+/// day.
 fn placed_day<C: YearShapes>(
     year: C::YearInfo,
     month: u8,
@@ -78,7 +79,7 @@ fn placed_day<C: YearShapes>(
     }
 }
 
-/// Returns the date of an ordinal month and a day of a given year, or the first of the two that is out of its range.
+/// Returns the date of an ordinal month and a day of a given year, or the error of the first value out of range.
 fn placed_in_year<C: YearShapes>(
     year: C::YearInfo,
     month: u8,
@@ -99,8 +100,8 @@ fn placed_in_year<C: YearShapes>(
     }
 }
 
-/// Returns the date of an ordinal month and a day of an extended year whose days are valid, or the first of the two
-/// that is out of its range.
+/// Returns the date of an ordinal month and a day of an extended year from -980000 to 980000, or the error of the
+/// first value out of range.
 fn placed_in_extended_year<C: DateFieldsResolver>(
     year: i32,
     month: u8,
@@ -115,7 +116,7 @@ fn placed_in_extended_year<C: DateFieldsResolver>(
     placed_in_year(cal.year_info_from_extended(year), month, day, cal)
 }
 
-/// Returns the date of a year, an ordinal month and a day, or the first of them that is out of its range.
+/// Returns the date of an extended year, an ordinal month and a day, or the error of the first value out of range.
 #[tactic(auto, unfolding(cal_types::specs::Placing::placed_date))]
 fn placed<C: DateFieldsResolver>(
     year: i32,
@@ -133,7 +134,7 @@ fn placed<C: DateFieldsResolver>(
     }
 }
 
-/// Returns the date of an ordinal month and a day of a year in an era, which constructors take; or the first error.
+/// Returns the date of an era year from -9999 to 9999, an ordinal month and a day, or the first error.
 fn placed_in_era<C: DateFieldsResolver>(
     era: &str,
     year: i32,
@@ -155,7 +156,7 @@ fn placed_in_era<C: DateFieldsResolver>(
     }
 }
 
-/// Returns the date of an era, a year in it, an ordinal month and a day, or the first error.
+/// Returns the date of an era year, an ordinal month and a day, or the first error.
 #[tactic(auto, unfolding(cal_types::specs::Placing::placed_of_era))]
 fn placed_of_era<C: DateFieldsResolver>(
     era: &str,
@@ -175,7 +176,8 @@ fn placed_of_era<C: DateFieldsResolver>(
     }
 }
 
-/// Returns the error of a lunisolar date, which names no era.
+/// Returns the error of a lunisolar date for an error of [`date_of_input`]. `InvalidEra` becomes `InvalidYear`: an
+/// extended year has no era.
 fn lunisolar_cause(cause: DateNewError) -> LunisolarDateError
     ensures { result ≡ lunisolar_fault cause }
 {
@@ -194,9 +196,9 @@ impl<C: DateFieldsResolver> ArithmeticDate<C> {
     ///
     /// Fails with the first of these:
     /// - [`LunisolarDateError::InvalidYear`] if the year isn't from -9999 to 9999;
-    /// - [`LunisolarDateError::MonthNotInCalendar`] if no year has the month;
-    /// - [`LunisolarDateError::MonthNotInYear`] if this year lacks it;
-    /// - [`LunisolarDateError::InvalidDay`] if the day isn't from 1 to the month's length.
+    /// - [`LunisolarDateError::MonthNotInCalendar`] if the month isn't one of the calendar's months;
+    /// - [`LunisolarDateError::MonthNotInYear`] if this year lacks the month;
+    /// - [`LunisolarDateError::InvalidDay`] if the day isn't from 1 to the month's length, `max`.
     pub fn try_from_ymd_lunisolar(
         year: i32,
         month: Month,
@@ -219,8 +221,8 @@ impl<C: DateFieldsResolver> ArithmeticDate<C> {
     ///
     /// # Errors
     ///
-    /// - [`RangeError`] names the first value out of its range: `year` from -9999 to 9999, `month` from 1 to the
-    ///   year's count of months, or `day` from 1 to the month's length.
+    /// - [`RangeError`] for the first value out of range: `year` isn't from -9999 to 9999, `month` isn't from 1 to
+    ///   the number of months in the year, or `day` isn't from 1 to the month's length.
     pub fn from_year_month_day(year: i32, month: u8, day: u8, cal: &C) -> Result<Self, RangeError>
         ensures placed { let y = C.years cal.now in
             result_map_both (λ a. date_of y a.parts) range_parts result
@@ -233,16 +235,16 @@ impl<C: DateFieldsResolver> ArithmeticDate<C> {
         }
     }
 
-    /// Creates a date from an era's code, an era year, an ordinal month and a day. Values out of range are rejected,
+    /// Creates a date from an era code, an era year, an ordinal month and a day. Values out of range are rejected,
     /// never adjusted.
     ///
     /// # Errors
     ///
     /// Fails with the first of these:
     /// - [`DateError::Range`] if the era year, `year`, isn't from -9999 to 9999;
-    /// - [`DateError::UnknownEra`] if the code isn't one of the calendar's;
-    /// - [`DateError::Range`] if `month` isn't from 1 to the year's count of months, or `day` isn't from 1 to the
-    ///   month's length.
+    /// - [`DateError::UnknownEra`] if the era isn't one of the calendar's;
+    /// - [`DateError::Range`] if `month` isn't from 1 to the number of months in the year, or `day` isn't from 1 to
+    ///   the month's length.
     pub fn from_era_year_month_day(
         era: &str,
         year: i32,

@@ -1,11 +1,11 @@
-//! Counting the look-ups of years.
+//! A counter of year look-ups.
 
 ghost use Rattle.std.specs.Prelude.{◌≡◌, ℕ, ◌+◌, ◌<◌};
 
 use std::marker::Model;
 use std::sync::ledger::{Blank, Book, Ledger, Share};
 
-/// How many times a year was looked up. It takes no memory, and only [`Steps::tick`] changes it.
+/// A counter of year look-ups. It takes no memory, and only [`Steps::tick`] changes it.
 #[derive(Drop)]
 pub struct Steps<L: Ledger> {
     book: Book<L>,
@@ -21,7 +21,7 @@ impl<L: Ledger> Model for Steps<L> {
 }
 
 impl<L: Ledger> Steps<L> {
-    /// Returns a counter at 0.
+    /// Creates a counter at 0.
     pub fn new(blank: Blank) -> Steps<L>
         requires name { blank.name ≡ L.name }
         requires parts { blank.parts ≡ L.parts }
@@ -32,7 +32,7 @@ impl<L: Ledger> Steps<L> {
         Steps { book, share }
     }
 
-    /// Counts one look-up.
+    /// Adds one look-up.
     pub fn tick(&mut self)
         ensures { self.new ≡ self.old + 1 }
     {

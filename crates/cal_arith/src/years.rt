@@ -1,4 +1,4 @@
-//! What a calendar offers of its years.
+//! The traits that a calendar implements for its years. Start at [`Years`].
 
 ghost use Rattle.std.specs.Prelude.{◌≡◌, ℕ, ℤ, ◌+◌, ◌<◌, ◌≤◌, ◌↔◌, ◌≤ℤ◌, ◌<ℤ◌, ◌+ℤ◌, ◌-ℤ◌, pos, neg_ℤ, unsigned_abs, false, Some, Err, IfOk, IsTrue, List};
 ghost use Rattle.std.specs.Ordering.{int_cmp, int_eq};
@@ -23,16 +23,17 @@ use std::fmt::Debug;
 use std::hash::Hash;
 use std::sync::ledger::Ledger;
 
-/// A year that packs into a few bytes, together with the place of a month and a day.
+/// A year that packs into a few bytes together with an ordinal month and a day.
 ///
-/// A year knows one number by itself, its stored one: the ISO year in the Gregorian family, the Coptic year
-/// in the Coptic and the Ethiopian calendar, and otherwise the extended year. It may be any from -1040000 to 1040000.
+/// Each year has a stored number, which it knows without its calendar. It is the ISO year in the Gregorian family,
+/// the Coptic year in the Coptic and the Ethiopian calendar, and otherwise the extended year. Years with stored
+/// numbers from -1040000 to 1040000 can be packed.
 ///
-/// A packed form has to keep all that the year knows, since the year that is unpacked is the one that was packed: a
-/// Julian year is its number alone, but a year of a table also knows the lengths of its months and its first day.
-/// Unpacking has no condition: any packed value unpacks to some year.
+/// Unpacking returns exactly the year that was packed, so the packed form must keep all of its data. A Julian year is
+/// only a number. A year of a table also has the lengths of its months and its first day. Unpacking has no condition:
+/// any packed value unpacks to some year.
 ///
-/// Dates keep the year itself, which is faster to read than a packed form. What stores many dates packs them.
+/// Dates keep the year unpacked, because that is faster to read. Pack dates to store many of them.
 ///
 /// ```text
 /// #[derive(Clone, Copy)]
@@ -60,45 +61,46 @@ use std::sync::ledger::Ledger;
 /// }
 /// ```
 pub trait PackWithMD: Copy {
-    /// A year, the place of a month and a day in a few bytes.
+    /// A year, an ordinal month and a day, packed into a few bytes.
     type Packed: Copy + Debug;
 
-    /// The number that the year knows by itself.
+    /// The stored number of a year.
     ghost stored: { Self → ℤ };
 
-    /// The year, the place of the month and the day that are packed.
+    /// The year, the ordinal month and the day of a packed value.
     ghost unpacked: { Self.Packed → Ymd Self };
 
-    /// Packs a year with a month's place from 1 to 13 and a day from 1 to 31; unpacking returns them.
+    /// Packs the year with an ordinal month from 1 to 13 and a day from 1 to 31. Unpacking returns all three. The
+    /// stored number must be from -1040000 to 1040000.
     fn pack(self, month: u8, day: u8) -> Self::Packed
         requires storable { IsFieldYear (stored self) }
         requires month { (1 ≤ month) × (month ≤ 13) }
         requires day { (1 ≤ day) × (day ≤ 31) }
         ensures parts { unpacked result ≡ ymd self month day };
 
-    /// Returns the year of a packed date.
+    /// Returns the year of a packed value.
     fn unpack_year(packed: Self::Packed) -> Self
         ensures { result ≡ (unpacked packed).year };
 
-    /// Returns the place in its year of a packed date's month.
+    /// Returns the ordinal month of a packed value.
     fn unpack_month(packed: Self::Packed) -> u8
         ensures { result ≡ (unpacked packed).month };
 
-    /// Returns the day of the month of a packed date.
+    /// Returns the day of the month of a packed value.
     fn unpack_day(packed: Self::Packed) -> u8
         ensures { result ≡ (unpacked packed).day };
 }
 
-/// The shapes of a calendar's years: their months, and the lengths of these. Its only look-up of a year is
-/// counted.
+/// The years of a calendar, with their months and the months' lengths. A year can be looked up only at the cost of a
+/// tick; [`Years`] has the uncounted look-up.
 ///
-/// An extended year is one from -8000000 to 8000000, and a given year is one that this calendar gave.
+/// Extended years are from -8000000 to 8000000 here. A given year is the calendar's year for one of them.
 pub trait YearShapes {
-    /// A year.
+    /// A year of the calendar.
     type YearInfo: Copy + Debug + Hash + Ord + PackWithMD;
 
-    /// The calendar's years: its list, in extended years; the year of an extended year and back; and what is
-    /// added to an extended year to give the stored one.
+    /// The calendar's years: its list by extended years, the maps between extended years and years, and the offset.
+    /// The offset is added to an extended year to get the stored number.
     ghost years: { Self → CalendarYears Self.YearInfo };
 
     /// Returns the year of an extended year, at the cost of one tick.
@@ -112,23 +114,25 @@ pub trait YearShapes {
         requires { IsGiven (years self.now) year }
         ensures { result ≡ (years self.now).extended year };
 
-    /// Returns how many months a given year has.
+    /// Returns the number of months in a given year.
     fn months_in_provided_year(&self, year: Self::YearInfo) -> u8
         requires { IsGiven (years self.now) year }
         ensures { let y = years self.now in result ≡ month_count y.list (y.extended year) };
 
-    /// Returns how many days the month in this place of a given year has.
+    /// Returns the length of a given year's month in days. `month` is an ordinal month that the year has.
     fn days_in_provided_month(&self, year: Self::YearInfo, month: u8) -> u8
         requires { HasMonth (years self.now) year month }
         ensures { let y = years self.now in result ≡ month_length y.list (y.extended year) month };
 
-    /// Returns the day number of a date of a given year.
+    /// Returns the day number of a date that the calendar has, of a given year, an ordinal month and a day.
     fn to_rata_die_inner(&self, year: Self::YearInfo, month: u8, day: u8) -> RataDie
         requires { IsGivenDate (years self.now) (ymd year month day) }
         ensures { let y = years self.now in result ≡ day_number y.list (date (y.extended year) month day) };
 
-    /// Returns a number of months that `count` years from -8000000 to 8000000 have at least. It has the sign of
-    /// `count`.
+    /// Returns a lower bound for the number of months in `count` years, with the sign of `count`.
+    ///
+    /// The bound holds for any consecutive years from -8000000 to 8000000, whatever `start` is. `count`: -8000000 to
+    /// 8000000.
     fn min_months_from(&self, start: Self::YearInfo, count: i32) -> i32
         requires year { IsGiven (years self.now) start }
         requires count { IsRuleYear count }
@@ -137,9 +141,10 @@ pub trait YearShapes {
         ensures least { (y : ℤ) → IsRuleYear y → IsRuleYear (y +ℤ pos (unsigned_abs count) -ℤ pos 1)
             → unsigned_abs result ≤ total (month_count (years self.now).list) y (unsigned_abs count) };
 
-    /// Returns a year from one number up to another, and how many months lie between the first days of the first year
-    /// and of that one, as far as the calendar counts them by the numbers alone: where it can't, it is the first year
-    /// itself.
+    /// Returns an extended year from `first` to `last`, and the number of months from the start of `first` to the
+    /// start of that year.
+    ///
+    /// The calendar goes as far as it can count by year numbers alone. The default is `first` itself and 0 months.
     fn months_by_number(&self, first: i32, last: i32) -> (i32, u32)
         requires first { IsRuleYear first }
         requires last { IsRuleYear last }
@@ -152,13 +157,13 @@ pub trait YearShapes {
         (first, 0)
     }
 
-    /// Returns the place of a month in a given year, or of the month that stands in for it under
-    /// [`Overflow::Constrain`].
+    /// Returns the ordinal month of a month in a given year. Under [`Overflow::Constrain`], another month of the year
+    /// stands in for a month that the year lacks.
     ///
     /// # Errors
     ///
-    /// - [`MonthError::NotInCalendar`] if no year of the calendar has the month;
-    /// - [`MonthError::NotInYear`] if this year lacks it and, under [`Overflow::Constrain`], no month stands in for it.
+    /// - [`MonthError::NotInCalendar`] if the month isn't one of the calendar's months;
+    /// - [`MonthError::NotInYear`] under [`Overflow::Reject`] if this year lacks the month.
     fn ordinal_from_month(
         &self,
         year: Self::YearInfo,
@@ -169,13 +174,13 @@ pub trait YearShapes {
         ensures { let y = years self.now in
             result ≡ ordinal_month y.list (y.extended year) (month_parts month) overflow };
 
-    /// Returns the month in this place of a given year.
+    /// Returns the month of an ordinal month that a given year has.
     fn month_from_ordinal(&self, year: Self::YearInfo, ordinal_month: u8) -> Month
         requires { HasMonth (years self.now) year ordinal_month }
         ensures { let y = years self.now in month_parts result ≡ month_at y.list (y.extended year) ordinal_month };
 
-    /// Returns the place in another given year of the month in a place of a given year, or `None` if that year lacks the
-    /// month and, under [`Overflow::Constrain`], none stands in for it.
+    /// Returns the ordinal month in another given year of a given year's month, or of the month that stands in for it
+    /// under [`Overflow::Constrain`]. Returns `None` under [`Overflow::Reject`] if the other year lacks the month.
     fn ordinal_in_other_year(
         &self,
         year: Self::YearInfo,
@@ -192,32 +197,33 @@ pub trait YearShapes {
         self.ordinal_from_month(other, month, overflow).ok()
     }
 
-    /// A year and its extended year give each other back.
+    /// Looking up an extended year returns a year with that extended year.
     ghost numbered: { (s : Self) (y : ℤ) → IsRuleYear y → (years s).extended ((years s).year_of y) ≡ y };
 
-    /// The list is a calendar's: each year has 12 or 13 months of 1 to 31 days, which rise.
+    /// The list is lawful: each year has 12 or 13 months of 1 to 31 days, in rising order, all of them months of the
+    /// calendar. Under [`Overflow::Constrain`], each month of the calendar has an ordinal month in each year.
     ghost lawful: { (s : Self) → IsLawful (years s).list };
 
-    /// Years are equal and ordered as their stored numbers.
+    /// Years are equal exactly if their stored numbers are, and ordered as they are.
     ghost equal: { (a b : Self.YearInfo) →
         Self.YearInfo.eq a b ≡ int_eq (Self.YearInfo.stored a) (Self.YearInfo.stored b) };
 
     ghost ordered: { (a b : Self.YearInfo) →
         Self.YearInfo.cmp a b ≡ int_cmp (Self.YearInfo.stored a) (Self.YearInfo.stored b) };
 
-    /// The stored number of a given year.
+    /// The stored number of a given year is its extended year plus the offset.
     ghost stored_from: { (s : Self) (y : Self.YearInfo) → IsGiven (years s) y →
         Self.YearInfo.stored y ≡ (years s).extended y +ℤ (years s).offset };
 
-    /// The days of extended years are far from the ends of the number types.
+    /// The day numbers of dates in years from -8000000 to 8000000 are from -4000000000 to 4000000000.
     ghost near: { (s : Self) (t : Date) → IsRuleYear t.year → IsDate (years s).list t →
         IsBetween (neg_ℤ (pos 4000000000)) (pos 4000000000) (day_number (years s).list t) };
 
-    /// The years of valid days are small, and so are their stored numbers.
+    /// The extended years of valid days are from -1040000 to 1040000, and so are their sums with the offset.
     ghost ranged: { (s : Self) (t : Date) → IsValidDate (years s).list t →
         IsFieldYear t.year × IsFieldYear (t.year +ℤ (years s).offset) };
 
-    /// Dates with valid days lie at most 27040000 months apart: as many as 2080000 years of 13 months have.
+    /// Dates with valid days are at most 27040000 months apart, as many as 2080000 years of 13 months have.
     ghost apart: { (s : Self) (t u : Date) → IsValidDate (years s).list t → IsValidDate (years s).list u →
         let number = month_number (years s).list in
         unsigned_abs (number u.year u.month -ℤ number t.year t.month) ≤ 27040000 };
@@ -227,15 +233,17 @@ pub trait YearShapes {
         IsDate (years s).list t → IsValidDay (day_number (years s).list t) };
 }
 
-/// A calendar's years, which are looked up by extended year and by day.
+/// The years of a calendar, which are looked up by extended year and by day.
 pub trait Years: YearShapes {
-    /// Returns the year of an extended year.
+    /// Returns the year of an extended year from -8000000 to 8000000.
     fn year_info_from_extended(&self, extended_year: i32) -> Self::YearInfo
         requires { IsRuleYear extended_year }
         ensures { result ≡ (Self.years self.now).year_of extended_year };
 
-    /// Estimates how many years some months take, counted from the first month of a given year. Sums check the
-    /// estimate, so it can't make one wrong: the closer it is from below, the fewer years are looked up.
+    /// Estimates how many years `months` months are, counted from the first month of a given year. An estimate never
+    /// makes a sum wrong. The closer it is from below, the fewer years are looked up.
+    ///
+    /// `months`: at most 200000000.
     fn estimated_years(&self, from: Self::YearInfo, months: u32) -> u32
         requires from { IsGiven (Self.years self.now) from }
         requires months { months ≤ 200000000 }
@@ -244,7 +252,8 @@ pub trait Years: YearShapes {
         months / 12
     }
 
-    /// Returns the year that contains a valid day.
+    /// Returns the year that contains a valid day. Its extended year and its stored number are from -1040000 to
+    /// 1040000.
     fn year_containing_rd(&self, rd: RataDie) -> Self::YearInfo
         requires { IsValidDay rd }
         ensures year { IsGiven (Self.years self.now) result }
@@ -254,7 +263,7 @@ pub trait Years: YearShapes {
         ensures last { let y = Self.years self.now in let number = y.extended result in
             rd <ℤ (start_of_year y.list number +ℤ pos (year_length y.list number)) };
 
-    /// Returns the date of a valid day: its year, the place of its month, and its day of the month.
+    /// Returns the date of a valid day: its year, ordinal month and day of the month.
     fn year_month_day(&self, rd: RataDie) -> (Self::YearInfo, u8, u8)
         requires { IsValidDay rd }
         ensures year { IsGiven (Self.years self.now) result.0 }
@@ -267,7 +276,7 @@ pub trait Years: YearShapes {
         (year, month, day)
     }
 
-    /// Returns the place of the month and the day of the month of a day of a given year, which is counted from 0.
+    /// Returns the ordinal month and the day of the month for a day of a given year. `day_of_year` counts from 0.
     fn month_and_day(&self, year: Self::YearInfo, day_of_year: u16) -> (u8, u8)
         requires year { IsGiven (Self.years self.now) year }
         requires within { let y = Self.years self.now in day_of_year < year_length y.list (y.extended year) }
@@ -278,14 +287,15 @@ pub trait Years: YearShapes {
     }
 }
 
-/// A calendar that names its years by eras, and its dates without a year by reference years.
+/// A calendar that can name its years by eras, and has reference years for dates without a year.
 pub trait DateFieldsResolver: Years {
-    /// What eras read as, and the reference years.
+    /// How the calendar reads eras, and its reference years.
     ghost names: { Self → YearNames };
 
-    /// Returns the extended year of an era year, from -1040000 to 1040000, in the era of a code (CLDR, UTS 35).
+    /// Returns the extended year of an era year from -1040000 to 1040000, in the era of a code (CLDR, UTS 35).
     ///
-    /// An era year from -9999 to 9999 has an extended year from -20000 to 20000, whose days are valid.
+    /// The extended year is from -8000000 to 8000000. For an era year from -9999 to 9999 it is from -20000 to 20000, so
+    /// its days are valid.
     ///
     /// # Errors
     ///
@@ -298,13 +308,13 @@ pub trait DateFieldsResolver: Years {
         requires { IsFieldYear era_year }
         ensures { result ≡ era_read ((names self.now).reads era.now era_year) };
 
-    /// Returns the reference year of a month and a day, which a date without a year takes (ECMAScript Temporal,
+    /// Returns the reference year of a month and a day: the year of a date without one (ECMAScript Temporal,
     /// `NonISOMonthDayToISOReferenceDate`). The day may be above the month's length.
     ///
     /// # Errors
     ///
-    /// - [`EcmaReferenceYearError::MonthNotInCalendar`] exactly if no year of the calendar has the month;
-    /// - [`EcmaReferenceYearError::UseRegularIfConstrain`] for leap months only;
+    /// - [`EcmaReferenceYearError::MonthNotInCalendar`] exactly if the month isn't one of the calendar's months;
+    /// - [`EcmaReferenceYearError::UseRegularIfConstrain`] only for leap months of the calendar;
     /// - [`EcmaReferenceYearError::Unimplemented`] if the calendar has no reference years.
     fn reference_year_from_month_day(
         &self,
@@ -314,20 +324,20 @@ pub trait DateFieldsResolver: Years {
         ensures year { seen (Self.years self.now).extended result ≡ (names self.now).reference (month_parts month) day }
         ensures given { IfOk result (λ y. IsGiven (Self.years self.now) y) };
 
-    /// An era's year is one that the year rules are used for.
+    /// The extended year of an era year from -1040000 to 1040000 is from -8000000 to 8000000.
     ghost era_in_range: { (s : Self) (era : List ℕ) (n y : ℤ) → IsFieldYear n
         → (names s).reads era n ≡ Some y → IsRuleYear y };
 
-    /// An era year from -9999 to 9999 reads as an extended year from -20000 to 20000: every era of CLDR begins within
-    /// 10000 years of year 0. So its days are valid.
+    /// The extended year of an era year from -9999 to 9999 is from -20000 to 20000, since an era begins within 10000 years
+    /// of year 0. So its days are valid.
     ghost era_near: { (s : Self) (era : List ℕ) (n y : ℤ) → IsConstructorYear n
         → (names s).reads era n ≡ Some y → IsNearEra y };
 
-    /// A month that no year of the calendar has is refused as such, and no other is.
+    /// The error `MonthNotInCalendar` occurs exactly for months that aren't the calendar's.
     ghost reference_of_kind: { (s : Self) (m : MonthParts) (d : ℕ)
         → ((names s).reference m d ≡ Err MonthNotInCalendar) ↔ ((Self.years s).list.is_of_kind m ≡ false) };
 
-    /// Only a leap month of the calendar leaves its place to the plain month of its number.
+    /// The error `UseRegularIfConstrain` occurs only for leap months of the calendar.
     ghost reference_of_leap_month: { (s : Self) (m : MonthParts) (d : ℕ)
         → (names s).reference m d ≡ Err UseRegularIfConstrain
         → IsTrue m.is_leap × IsTrue ((Self.years s).list.is_of_kind m) };

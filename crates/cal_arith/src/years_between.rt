@@ -1,4 +1,4 @@
-//! The years of a difference, and the month that they lead to.
+//! The years of a difference, and the month that is reached by counting them.
 
 ghost use Rattle.std.specs.Prelude.{◌≡◌, ◌+◌, ◌+ℤ◌, Some};
 ghost use Rattle.cal_days.specs.Day.{IsFieldYear};
@@ -20,7 +20,7 @@ use crate::years::YearShapes;
 use cal_types::{DateDurationUnit, Overflow};
 use std::sync::ledger::Ledger;
 
-/// Returns the place of a date's month in another year, where the stand-in is taken for a month that it lacks.
+/// Returns the ordinal month of a date's month in another year, or of the month that stands in for it there.
 fn stand_in_place<C: YearShapes>(from: Ymd<C::YearInfo>, reached: C::YearInfo, cal: &C) -> u8
     requires from { HasMonth (C.years cal.now) from.year from.month }
     requires reached { IsGiven (C.years cal.now) reached }
@@ -34,7 +34,7 @@ fn stand_in_place<C: YearShapes>(from: Ymd<C::YearInfo>, reached: C::YearInfo, c
     }
 }
 
-/// Returns the greatest number of years that does not surpass the second date.
+/// Returns the greatest number of years that doesn't surpass the second date.
 fn years_between<C: YearShapes>(
     from: Ymd<C::YearInfo>,
     to: Ymd<C::YearInfo>,
@@ -59,7 +59,8 @@ fn years_between<C: YearShapes>(
     }
 }
 
-/// Returns the number of years of a difference, by its largest unit.
+/// Returns the number of years of a difference. It is 0 unless the largest unit is years: then it is the greatest
+/// that doesn't surpass the second date.
 pub(crate) fn admitted_years<C: YearShapes>(
     from: Ymd<C::YearInfo>,
     to: Ymd<C::YearInfo>,
@@ -83,7 +84,8 @@ pub(crate) fn admitted_years<C: YearShapes>(
     }
 }
 
-/// Returns the month that years lead to which do not surpass the second date.
+/// Returns the month that is reached by adding years to a date, at the cost of one tick. The years must not surpass
+/// the second date.
 pub(crate) fn month_after_years<C: YearShapes, L: Ledger>(
     from: Ymd<C::YearInfo>,
     to: Ymd<C::YearInfo>,
@@ -108,7 +110,7 @@ pub(crate) fn month_after_years<C: YearShapes, L: Ledger>(
     }
 }
 
-/// Returns the year so many years later, or earlier.
+/// Returns the extended year `years` years later or earlier.
 fn toward_year(year: i32, years: u32, direction: Direction) -> i32
     requires year { IsFieldYear year }
     requires result { IsFieldYear (year +ℤ toward (is_backward direction) years) }
