@@ -1,4 +1,4 @@
-//! The calendar for two codes, and questions to it in its own type.
+//! The calendar for two codes, and questions to the calendar in its own type.
 
 ghost use Rattle.std.specs.Prelude.{◌≡◌};
 ghost use Rattle.cal_coptic.specs.EthiopianSystem.{ethiopian_system};
@@ -24,14 +24,14 @@ use cal_julian::{Indian, Julian};
 use cal_kinds::AnyCalendarKind;
 use cal_tables::Tables;
 
-/// A kind of calendar, and the tables that it is made with.
+/// A kind of calendar, and the tables that its calendar uses.
 #[derive(Clone, Copy)]
 pub(crate) struct Chosen {
     kind: AnyCalendarKind,
     tables: Tables<'static>,
 }
 
-/// The calendar for the codes of a kind and of a source of years, or the code of the error.
+/// Returns the calendar for the codes of a kind and of a source of years, or the code of the error.
 pub(crate) fn choose(calendar: u8, years: u8) -> Result<Chosen, u8>
     ensures { chosen_system result ≡ calendar_of calendar years }
 {
@@ -51,7 +51,7 @@ fn ask_in_hijri<R: HijriRules, Q: Question>(question: &Q, calendar: Hijri<R>) ->
     question.ask(&calendar)
 }
 
-/// Asks the tabular Hijri calendar with these leap years and this epoch.
+/// Asks the tabular Hijri calendar with a leap year rule and an epoch.
 fn ask_in_tabular<Q: Question>(
     question: &Q,
     leap_years: TabularAlgorithmLeapYears,

@@ -17,7 +17,7 @@ pub type Anniversaries<'t> = cal_anniversary::Anniversaries<AnyCalendar<'t>>;
 
 /// Returns the days of a window on which a month and a day of a calendar fall: birthdays, memorial days, yearly feasts.
 ///
-/// Each such day is listed once, in order. `leaping` says how to handle a year that lacks the month or the day:
+/// Each day is listed once, in order. `leaping` says how to handle a year that lacks the month or the day:
 ///
 /// - [`Leaping::Exact`] skips the year. It lists the days whose date has the month and the day.
 /// - [`Leaping::Constrain`] lists one day in each year (ECMAScript Temporal's overflow `constrain`). If the month
