@@ -32,7 +32,7 @@ use cal_types::{DateNewError, Leaping, Month, Window, YearInput};
 ///
 /// The first of these that applies:
 ///
-/// - [`AnniversaryError::MonthNotInCalendar`] if the month occurs in no year of the calendar.
+/// - [`AnniversaryError::MonthNotInCalendar`] if the month isn't one of the calendar's months.
 /// - [`AnniversaryError::InvalidDay`] if the day isn't from 1 to 31.
 ///
 /// # Examples

@@ -76,7 +76,7 @@ pub trait Calendar: UnstableSealed + Drop {
     /// Fails with the first of these:
     /// - [`DateNewError::InvalidYear`] if the year, in its era or without one, isn't from -9999 to 9999;
     /// - [`DateNewError::InvalidEra`] if the era isn't one of the calendar's;
-    /// - [`DateNewError::MonthNotInCalendar`] if no year of the calendar has the month;
+    /// - [`DateNewError::MonthNotInCalendar`] if the month isn't one of the calendar's months;
     /// - [`DateNewError::MonthNotInYear`] if this year lacks it;
     /// - [`DateNewError::InvalidDay`] if the day is 0 or above the month's length.
     fn new_date(
@@ -110,10 +110,10 @@ pub trait Calendar: UnstableSealed + Drop {
     ///   years. If a leap month has no reference year, `Constrain` uses the plain month of its number, and `Reject`
     ///   fails with [`DateFromFieldsError::MonthNotInYear`].
     /// - The errors of the month. [`DateFromFieldsError::MonthCodeInvalidSyntax`] if the month code is malformed, and
-    ///   [`DateFromFieldsError::MonthNotInCalendar`] if no year has the month (both are also checked before a
-    ///   reference year is used); [`DateFromFieldsError::MonthNotInYear`] if the month doesn't occur in that year
-    ///   and, under `Constrain`, no month stands in for it; [`DateFromFieldsError::InconsistentMonth`] if there is
-    ///   also an ordinal month and it is a different month.
+    ///   [`DateFromFieldsError::MonthNotInCalendar`] if the month isn't one of the calendar's months (both are also
+    ///   checked before a reference year is used); [`DateFromFieldsError::MonthNotInYear`] if the month doesn't occur
+    ///   in that year, under `Reject`; [`DateFromFieldsError::InconsistentMonth`] if there is also an ordinal month
+    ///   and it is a different month.
     /// - [`DateFromFieldsError::InvalidOrdinalMonth`] if there is only an ordinal month and it doesn't occur in that
     ///   year, under `Reject`. Under `Constrain` the nearest ordinal month is used.
     /// - [`DateFromFieldsError::InvalidDay`] if the day doesn't occur in that month, under `Reject`. Under
@@ -227,8 +227,8 @@ pub trait Calendar: UnstableSealed + Drop {
     /// - [`DateAddError::Overflow`] if the duration has more than 2080000 years, 27040000 months, or 838240000 days,
     ///   counting a week as seven days, or if adding the years leads to a year that isn't from -1040000 to 1040000
     ///   (an ISO year in the Gregorian calendars, a Coptic year in the Ethiopian one);
-    /// - [`DateAddError::MonthNotInYear`] if the month doesn't occur in the year after adding the years and, under
-    ///   [`Overflow::Constrain`], no month stands in for it;
+    /// - [`DateAddError::MonthNotInYear`] if the month doesn't occur in the year after adding the years, under
+    ///   [`Overflow::Reject`];
     /// - [`DateAddError::InvalidDay`] if the day doesn't occur in the month after adding the months, under
     ///   [`Overflow::Reject`];
     /// - [`DateAddError::Overflow`] if the sum's day number isn't in the valid range.

@@ -86,7 +86,7 @@ where
     ///
     /// - [`DateNewError::InvalidYear`] if the extended year or era year isn't from -9999 to 9999.
     /// - [`DateNewError::InvalidEra`] if the calendar doesn't have the era.
-    /// - [`DateNewError::MonthNotInCalendar`] if no year of the calendar has the month.
+    /// - [`DateNewError::MonthNotInCalendar`] if the month isn't one of the calendar's months.
     /// - [`DateNewError::MonthNotInYear`] if the month doesn't occur in this year.
     /// - [`DateNewError::InvalidDay`] if the day isn't from 1 to the month's length; `max` is the month's length.
     ///

@@ -43,7 +43,7 @@ pub type Anniversaries<'t> = cal_anniversary::Anniversaries<AnyCalendar<'t>>;
 ///
 /// The first that applies:
 ///
-/// - [`AnniversaryError::MonthNotInCalendar`] if the month occurs in no year of the calendar.
+/// - [`AnniversaryError::MonthNotInCalendar`] if the month isn't one of the calendar's months.
 /// - [`AnniversaryError::InvalidDay`] if the day isn't from 1 to 31.
 pub fn anniversaries<'t>(
     calendar: AnyCalendar<'t>,
