@@ -8,6 +8,7 @@
 - `edits`: every must-fail edit that the gate doesn't try still fits its file.
 - `published`: the constant data of `published_years` is what `build/published.py` writes.
 - `exports`: the calls for C and for WebAssembly have the same source.
+- `calendars`: the lists of calendars are what `build/calendars.py` writes from calendars.txt, and the sources say the same of the kinds.
 - `documents`: the documents have at most 22,000 words, lines of at most 120 characters outside of blocks, and tables of at most 160.
 
 With names of checks, only these run.
@@ -183,6 +184,10 @@ def published() -> int:
     return script("build/published.py", "--check")
 
 
+def calendars() -> int:
+    return script("build/calendars.py", "--check")
+
+
 def exports() -> int:
     both = [(TOP / f"crates/icu_calendar_{it}/src/exports.rt").read_bytes() for it in ("c", "wasm")]
     if both[0] == both[1]:
@@ -211,7 +216,7 @@ def documents() -> int:
     return found
 
 
-CHECKS = {it.__name__: it for it in (widths, docstrings, examples, edits, published, exports, documents)}
+CHECKS = {it.__name__: it for it in (widths, docstrings, examples, edits, published, exports, calendars, documents)}
 
 
 def main(names: list[str]) -> int:
