@@ -1,14 +1,14 @@
 //! Sources and sinks of bytes, and a reader of lines.
 //!
-//! Start with [`Source`] and [`Sink`]. A source is read and a sink is written a piece at a time. Each counts its own
-//! faults, and a call fails only if that count rose. A source or a sink in memory shows its bytes to contracts, so that a
-//! contract can state exactly what a program reads and writes. Standard input and output have the same contracts, but
-//! show no content.
+//! Start with [`Source`] and [`Sink`]. A source is read and a sink is written one piece at a time. Each counts its
+//! own faults. A call fails only if the count rose, or is already the greatest `u64`. A source or a sink in memory
+//! shows its bytes to contracts, so that a contract can state exactly what a program reads and writes. Standard input
+//! and output have the same contracts, but show no content.
 //!
-//! A [`Reader`] reads the lines of any source in chunks, without allocating. It holds one chunk of bytes and looks for the
-//! next LF in it; a [`LineBuffer`] holds the first bytes of the current line. [`Reader::next_line`] looks at the chunk
-//! only, and [`Reader::fill`] reads the next chunk, so that a caller can do other work between the two. [`read_all`] reads
-//! a whole source into memory.
+//! A [`Reader`] reads the lines of any source in chunks, without allocating. It holds one chunk of bytes and looks
+//! for the next LF in it; a [`LineBuffer`] holds the first bytes of the current line. [`Reader::next_line`] looks at
+//! the chunk only, and [`Reader::fill`] reads the next chunk, so that a caller can do other work between the two.
+//! [`read_all`] reads a whole source into memory.
 #![tactic(auto)]
 
 mod buffer;
@@ -49,8 +49,8 @@ pub trait Source {
     ///
     /// # Errors
     ///
-    /// - [`Failed`] if the count of faults rose, or is already the greatest `u64`. Nothing is read, and a later call may
-    ///   succeed.
+    /// - [`Failed`] if the count of faults rose, or is already the greatest `u64`. Nothing is read, and a later call
+    ///   may succeed.
     fn read(&mut self, buf: &mut [u8]) -> Result<usize, Failed>
         ensures bound { ReadsAtMost result buf.new }
         ensures bytes { ReadConsumes (left self.old) (left self.new) result buf.new }
@@ -69,8 +69,8 @@ pub trait Sink {
     ///
     /// # Errors
     ///
-    /// - [`Failed`] if the count of faults rose, or is already the greatest `u64`. Nothing is taken, and a later call may
-    ///   succeed.
+    /// - [`Failed`] if the count of faults rose, or is already the greatest `u64`. Nothing is taken, and a later call
+    ///   may succeed.
     fn write(&mut self, piece: &[u8]) -> Result<usize, Failed>
         ensures bound { WritesAtMost result piece.now }
         ensures bytes { WriteAppends (taken self.old) (taken self.new) result piece.now }

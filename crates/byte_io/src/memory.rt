@@ -1,12 +1,12 @@
-//! A source and a sink in memory for tests: the caller chooses how they cut and when they fail.
+//! A source and a sink in memory for tests. The caller chooses how many bytes a call moves and which calls fail.
 ghost use Rattle.std.specs.Prelude.{◌≡◌, ◌<◌, ◌≤◌, [], Some, length};
 
 use crate::{Failed, Sink, Source};
 
 /// A source over bytes in memory that hands out at most `cut` bytes a call.
 ///
-/// Calls of `read` are numbered from 1, and the calls whose numbers are in `failing` fail. The number stays at the greatest
-/// `u64` once it is reached.
+/// Calls of `read` are numbered from 1, and the calls whose numbers are in `failing` fail. The number stays at the
+/// greatest `u64` once it is reached.
 #[derive(Drop)]
 pub struct MemorySource<'a> {
     rest: &'a [u8],
@@ -20,8 +20,8 @@ pub struct MemorySource<'a> {
 impl<'a> MemorySource<'a> {
     ghost use Rattle.byte_io.specs.Memory.{source_rest, source_cut, source_failing, source_calls, source_faults};
 
-    /// Creates a source over `bytes`. It hands out at most `cut` bytes a call, and fails at the calls whose numbers are in
-    /// `failing`.
+    /// Creates a source over `bytes`. It hands out at most `cut` bytes a call, and fails at the calls whose numbers
+    /// are in `failing`.
     pub fn new(bytes: &'a [u8], cut: usize, failing: &'a [u64]) -> Self
         requires { 0 < cut }
         ensures rest { source_rest result ≡ bytes.now }
@@ -56,7 +56,7 @@ impl<'a> Source for MemorySource<'a> {
         ensures bytes { ReadConsumes (Some (source_rest self.old)) (Some (source_rest self.new)) result buf.new }
         ensures cause { HasCause (source_faults self.old) (source_faults self.new) result }
 
-        // It fails exactly at the calls in the list, and otherwise reads as much as it may.
+        // A call fails exactly if its number is in the list, and otherwise reads as many bytes as it may.
         ensures fails { IsErr result ↔ SourceFails self.old }
         ensures count { IfOk result (λ n. n
             ≡ min (min (length (source_rest self.old)) (length buf.new)) (source_cut self.old)) }
@@ -78,8 +78,8 @@ impl<'a> Source for MemorySource<'a> {
 
 /// A sink into room in memory that takes at most `cut` bytes a call.
 ///
-/// Calls of `write` are numbered from 1, and the calls whose numbers are in `failing` fail. A write also fails if the room
-/// is full and the piece isn't empty. The number stays at the greatest `u64` once it is reached.
+/// Calls of `write` are numbered from 1, and the calls whose numbers are in `failing` fail. A write also fails if the
+/// room is full and the piece isn't empty. The number stays at the greatest `u64` once it is reached.
 #[derive(Drop)]
 pub struct MemorySink<'a> {
     room: &'a mut [u8],
@@ -124,7 +124,7 @@ impl<'a> MemorySink<'a> {
         &self.room[..self.len]
     }
 
-    /// Returns whether the call that was just counted fails.
+    /// Returns whether the call that was just counted has to fail.
     fn refuses(&self, piece: &[u8]) -> bool
         ensures { IsTrue result ↔ RefusesCall self.now (sink_calls self.now) piece.now }
     {
@@ -153,7 +153,8 @@ impl<'a> Sink for MemorySink<'a> {
         ensures some { WritesSome result piece.now }
         ensures cause { HasCause (sink_faults self.old) (sink_faults self.new) result }
 
-        // It fails exactly at the calls in the list and if the room is full, and otherwise takes as much as it may.
+        // A call fails exactly if its number is in the list, or the room is full and the piece isn't empty. Otherwise
+        // it takes as many bytes as it may.
         ensures fails { IsErr result ↔ SinkFails self.old piece.now }
         ensures count { IfOk result (λ n. n ≡ min (min (length piece.now) (sink_cut self.old)) (sink_left self.old)) }
         ensures counts { CountsFault (sink_faults self.old) (sink_faults self.new) result }

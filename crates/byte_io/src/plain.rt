@@ -36,7 +36,7 @@ impl<'a> Source for PlainSource<'a> {
         ensures bytes { ReadConsumes (Some (plain_rest self.old)) (Some (plain_rest self.new)) result buf.new }
         ensures cause { HasCause 0 0 result }
 
-        // It never fails, and reads as much as there is room for.
+        // A call never fails, and reads as many bytes as there is room for.
         ensures count { IsOkAnd result (λ n. n ≡ min (length (plain_rest self.old)) (length buf.new)) }
     {
         let count = self.rest.len().min(buf.len());
@@ -89,7 +89,7 @@ impl Sink for PlainSink {
         ensures some { WritesSome result piece.now }
         ensures cause { HasCause 0 0 result }
 
-        // It never fails, takes all of the piece, and counts it.
+        // A call never fails, takes the whole piece, and counts its bytes.
         ensures whole { result ≡ Ok (length piece.now) }
         ensures count { plain_count self.new ≡ min (plain_count self.old + length piece.now) (2 ^ 64 - 1) }
     {

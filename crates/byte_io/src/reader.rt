@@ -48,7 +48,8 @@ pub struct Reader {
     ghost few: { lines + (end - at) ≤ total },
 }
 
-/// Returns the place of the first LF. An empty line is tested first, so that it doesn't pay for setting up the search.
+/// Returns the place of the first LF. Tests for an empty line first, so that empty lines don't pay for setting up the
+/// search.
 fn first_line_feed(bytes: &[u8]) -> Option<usize>
     ensures value { result ≡ position (λ b. b == 10) bytes.now }
     ensures within { IfSome result (λ i. i < length bytes.now) }
@@ -59,7 +60,8 @@ fn first_line_feed(bytes: &[u8]) -> Option<usize>
     memchr(b'\n', bytes)
 }
 
-/// Appends the bytes before the first LF to the line, and returns their number with the LF, or `None` without an LF.
+/// Appends the bytes before the first LF to the line, and returns their number with the LF. Without an LF, appends
+/// all bytes and returns `None`.
 fn look(bytes: &[u8], line: &mut LineBuffer) -> Option<usize>
     ensures looks { Looks result bytes.now line.old line.new }
     ensures some { IfSome result (λ n. (0 < n) × (n ≤ length bytes.now)) }
@@ -108,8 +110,8 @@ impl Reader {
 
     /// Looks for the next LF in the chunk, and appends the bytes before it to `line`.
     ///
-    /// After `Line` the line is whole; clear it before the next call. After `Spent` it is the start of a line, which the
-    /// call after [`Reader::fill`] continues. After `TooLong` the bytes up to the limit have no further LF.
+    /// After `Line` the line is whole; clear it before the next call. After `Spent` it is the start of a line, which
+    /// the call after [`Reader::fill`] continues. After `TooLong` the bytes up to the limit have no further LF.
     pub fn next_line(&mut self, line: &mut LineBuffer) -> Next
         ensures gives { (bytes : List ℕ) (lines : List (List ℕ)) (rest : List ℕ)
             → IsAt self.old bytes lines rest → Holds line.old rest
@@ -137,7 +139,7 @@ impl Reader {
 
     /// Reads the next chunk, in one read of at most 4096 bytes. Call it after `Spent`.
     ///
-    /// After `End` and `Fault` the reader is where it was.
+    /// After `End` or `Fault`, the reader hasn't moved.
     pub fn fill<S: Source>(&mut self, source: &mut S) -> Filled
         requires { IsSpent self.old }
         ensures some { result ≡ Filled.Some → (more : List ℕ) × Consumes (S.left source.old) (S.left source.new) more

@@ -16,7 +16,7 @@ pub enum ReadAllError {
     NoMemory,
 }
 
-/// Reads a source to its end and returns its bytes, at most `limit` of them. It reads at most 4096 bytes a call.
+/// Reads a source to its end and returns its bytes, at most `limit` of them. Each call reads at most 4096 bytes.
 ///
 /// ```text
 /// let bytes = read_all(alloc, &mut PlainSource::new(b"some bytes"), 16)?;
@@ -26,7 +26,8 @@ pub enum ReadAllError {
 ///
 /// - [`ReadAllError::Fault`] if the source counted a fault.
 /// - [`ReadAllError::TooLong`] if the source has more bytes than `limit`.
-/// - [`ReadAllError::NoMemory`] if there is not enough memory for the bytes, which are at least one and at most `limit`.
+/// - [`ReadAllError::NoMemory`] if there is not enough memory for the bytes, which are at least one and at most
+///   `limit`.
 pub fn read_all<S: Source>(
     alloc: Global,
     source: &mut S,

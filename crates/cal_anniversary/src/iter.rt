@@ -13,9 +13,9 @@ use cal_types::Window;
 
 /// The anniversaries of a month and a day in a window: an iterator over their days, in order.
 ///
-/// [`anniversaries`](crate::anniversaries()) creates it. Each item looks up one date for every year it passes, which is
-/// one if each year has the month and the day. If no year has them, the first call looks at every year of the window.
-/// The iterator takes no memory.
+/// [`anniversaries`](crate::anniversaries()) creates it. An item computes one date for every year it passes: a single
+/// date if every year has the month and the day. If no year has them, the first call goes through every year of the
+/// window. The iterator allocates no memory.
 #[derive(Drop)]
 pub struct Anniversaries<C: Calendar> {
     calendar: C,
@@ -49,7 +49,7 @@ impl<C: Calendar> Anniversaries<C> {
 
     /// Returns the rest of the window: the days after the last item, or the whole window before the first item.
     ///
-    /// `None` if the last item was on the window's last day, or if `next` has returned `None`. Listing the
+    /// Returns `None` if the last item was on the window's last day, or if `next` has returned `None`. Listing the
     /// anniversaries in the rest continues this list.
     ///
     /// # Examples

@@ -15,7 +15,7 @@ use cal_types::{DateNewError, Leaping, Month, Window, YearInput};
 
 /// Returns the days of a window on which a month and a day of a calendar fall: birthdays, memorial days, yearly feasts.
 ///
-/// Each such day is listed once, in order. `leaping` says how to handle a year that lacks the month or the day:
+/// Each day is listed once, in order. `leaping` says how to handle a year that lacks the month or the day:
 ///
 /// - [`Leaping::Exact`] skips the year. It lists the days whose date has the month and the day.
 /// - [`Leaping::Constrain`] lists one day in each year (ECMAScript Temporal's overflow `constrain`). If the month
@@ -30,9 +30,9 @@ use cal_types::{DateNewError, Leaping, Month, Window, YearInput};
 ///
 /// # Errors
 ///
-/// The first that applies:
+/// The first of these that applies:
 ///
-/// - [`AnniversaryError::MonthNotInCalendar`] if the month occurs in no year of the calendar.
+/// - [`AnniversaryError::MonthNotInCalendar`] if the month isn't one of the calendar's months.
 /// - [`AnniversaryError::InvalidDay`] if the day isn't from 1 to 31.
 ///
 /// # Examples

@@ -30,7 +30,7 @@ fn overflow_for(leaping: Leaping) -> Overflow
     }
 }
 
-/// Returns the anniversary in a year. `None` if the year is skipped, or if its anniversary isn't a valid day.
+/// Returns the anniversary in a year, or `None` if the year is skipped or its anniversary isn't a valid day.
 fn day_in_year<C: Calendar>(calendar: &C, asked: YearlyDay, year: i32) -> Option<RataDie>
     requires asked { IsAsked (C.system calendar.now).list (month_parts asked.month) asked.day }
     requires year { IsFieldYear year }
@@ -47,7 +47,7 @@ fn day_in_year<C: Calendar>(calendar: &C, asked: YearlyDay, year: i32) -> Option
     }
 }
 
-/// Returns the anniversary in a year if it lies in the window.
+/// Returns the anniversary in a year if it is in the window.
 fn day_in_window<C: Calendar>(
     calendar: &C,
     asked: YearlyDay,

@@ -36,9 +36,9 @@ use std::sync::ledger::{Blank, Ledger};
 
 /// A calendar chosen at run time.
 ///
-/// A function that names the lifetime, such as `fn f<'t>(a: &Date<AnyCalendar<'t>>, b: &Date<AnyCalendar<'t>>)`, can't be
-/// proved today if it writes `a == b`, `a < b` or `*a`. Write `a.same_date(b)` and `a.date_cmp(b)`, which mean the same
-/// as the operators. A function over any `A: AsCalendar` may compare. The calendar itself is `Copy`, so
+/// A function that names the lifetime, such as `fn f<'t>(a: &Date<AnyCalendar<'t>>, b: &Date<AnyCalendar<'t>>)`,
+/// can't be proved today if it writes `a == b`, `a < b` or `*a`. Write `a.same_date(b)` and `a.date_cmp(b)`, which
+/// mean the same as the operators. A function over any `A: AsCalendar` may compare. The calendar itself is `Copy`, so
 /// `Date::from_rata_die(a.to_rata_die(), calendar)` creates a second date of the same day.
 #[derive(Clone, Copy, Debug)]
 pub enum AnyCalendar<'t> {
@@ -305,7 +305,7 @@ impl<'t> PartialOrd for AnyDateInner<'t> {
     }
 }
 
-/// Answers a question about an inner date in the held calendar of the same variant.
+/// Asks the held calendar a question about an inner date of the same variant.
 fn ask<'t, Q: DateQuestion>(
     question: &Q,
     calendar: &AnyCalendar<'t>,
@@ -317,7 +317,7 @@ fn ask<'t, Q: DateQuestion>(
     with_date!(calendar, date, held => question.ask(held, date))
 }
 
-/// Computes the difference with a counter that nobody reads.
+/// Computes the difference with a counter whose value isn't used.
 fn until_with_blank<'t, L: Ledger>(
     calendar: &AnyCalendar<'t>,
     date1: &AnyDateInner<'t>,

@@ -45,8 +45,8 @@ fn tabular<'t>(
 impl<'t> AnyCalendar<'t> {
     /// Creates the calendar of a kind, over tables.
     ///
-    /// `Chinese` uses the rows of China, `Dangi` those of Korea, and only `HijriUmmAlQura` those of Umm al-Qura.
-    /// `Persian` uses the corrected years, and `Japanese` and `JapaneseExtended` use the eras.
+    /// `Chinese` uses the rows of China, `Dangi` the rows of Korea, and only `HijriUmmAlQura` the rows of Umm
+    /// al-Qura. `Persian` uses the corrected years, and `Japanese` and `JapaneseExtended` use the eras.
     ///
     /// [`AnyCalendar::kind`] returns the same kind, except `Japanese` for `JapaneseExtended`: both create the variant
     /// `Japanese`.

@@ -1,6 +1,6 @@
-//! Questions about a date, asked of its calendar.
+//! Questions to a calendar about one of its dates.
 //!
-//! [`ask`](crate::any_calendar) matches the calendar once for all questions. A further question is one function over
+//! [`ask`](crate::any_calendar) matches on the calendar once for all questions. Each question is one function over
 //! any calendar.
 
 ghost use Rattle.std.specs.Prelude.{◌≡◌, ◌↔◌, pos, ◌+ℤ◌, IsTrue};
@@ -12,15 +12,15 @@ use cal_base::Calendar;
 use cal_days::RataDie;
 use cal_types::{DayOfMonth, DayOfYear, IntoYearInfo, MonthInfo, YearInfo};
 
-/// A question about a date, which its calendar answers.
+/// A question to a calendar about one of its dates.
 pub(crate) trait DateQuestion {
-    /// The answer's type.
+    /// The type of the answer.
     type Answer;
 
     /// The relation of an answer to the date and its calendar.
     ghost answers: { CalendarSystem → Date → Self.Answer → Type 0 };
 
-    /// Answers the question about a date of a calendar.
+    /// Asks a calendar the question about one of its dates.
     fn ask<C: Calendar>(&self, calendar: &C, date: &C::DateInner) -> Self::Answer
         requires { IsTrue (C.belongs calendar.now date.now) }
         ensures { answers (C.system calendar.now) (C.date_of calendar.now date.now) result };

@@ -1,6 +1,6 @@
 //! A calendar chosen at run time.
 //!
-//! [`AnyCalendar`] holds one of the calendars, and [`AnyCalendar::new`] creates the one of a kind.
+//! [`AnyCalendar`] holds one of the calendars, and [`AnyCalendar::new`] creates the calendar of a kind.
 #![tactic(auto)]
 
 mod any_calendar;

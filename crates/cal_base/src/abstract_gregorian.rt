@@ -1,5 +1,5 @@
-//! The Gregorian calendars: those with the months of the proleptic Gregorian calendar, over years that they
-//! count from a year of their own.
+//! The Gregorian calendars: they have the months of the proleptic Gregorian calendar, and count the ISO years from a
+//! year of their own.
 
 use crate::calendar::{AsCalendar, Calendar};
 use crate::gregorian_years::GregorianYears;
@@ -19,10 +19,9 @@ use cal_types::{
 use std::convert::Infallible;
 use std::sync::ledger::Ledger;
 
-/// The Gregorian calendar whose years are counted by `Y`: it has the months of the proleptic Gregorian
-/// calendar.
+/// A calendar with the months of the proleptic Gregorian calendar, whose years are counted by `Y`.
 ///
-/// Its dates keep the ISO year.
+/// Its dates store the ISO year.
 #[derive(Clone, Copy, Debug)]
 pub struct AbstractGregorian<Y: GregorianYears>(pub Y);
 

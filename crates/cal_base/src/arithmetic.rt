@@ -1,4 +1,4 @@
-//! A calendar of its own years: every call over the arithmetic of dates.
+//! The calendar of any years that implement [`NamedYears`]: every call is made from the arithmetic of dates.
 
 ghost use Rattle.std.specs.Prelude.{◌≡◌, IsTrue};
 ghost use Rattle.cal_arith.specs.Dates.{Belongs};
@@ -16,18 +16,18 @@ use cal_types::{
 };
 use std::sync::ledger::Ledger;
 
-/// The calendar of the years of `C`.
+/// The calendar with the years of `C`.
 ///
-/// A calendar hands its calls down to it, and has its own algorithm, name and error of compatibility: here
-/// they are None, `Arithmetic` and [`Incompatible`].
+/// Calendars delegate their calls to it, except for the algorithm, the name and the compatibility error. Here these
+/// are `None`, `Arithmetic` and [`Incompatible`].
 #[derive(Clone, Copy, Debug)]
 pub struct Arithmetic<C>(pub C);
 
-/// Two calendars whose dates can't be compared.
+/// The error for two calendars whose dates can't be compared.
 #[derive(Clone, Copy, Debug, PartialEq, Eq)]
 pub struct Incompatible;
 
-/// Returns a date, which is one of the calendar's own.
+/// Returns a copy of a date that is one of the calendar's own.
 fn own_date<C: NamedYears>(date: &ArithmeticDate<C>, cal: &C) -> ArithmeticDate<C>
     requires { IsTrue (is_own_date (C.years cal.now) (C.has_year cal.now) date.now.parts) }
     ensures same { result ≡ date.now }
@@ -37,7 +37,7 @@ fn own_date<C: NamedYears>(date: &ArithmeticDate<C>, cal: &C) -> ArithmeticDate<
     copy_of(date)
 }
 
-/// Returns a copy.
+/// Returns a copy of a value.
 fn copy_of<T: Copy>(value: &T) -> T
     ensures { result ≡ value.now }
 {

@@ -1,4 +1,4 @@
-//! What a calendar offers.
+//! The traits [`Calendar`] and [`AsCalendar`].
 
 ghost use Rattle.std.specs.Prelude.{◌≡◌, ◌↔◌, ◌+◌, ◌≤◌, ℕ, pos, ◌+ℤ◌, ◌-ℤ◌, unsigned_abs, Bool, List, Option, IsTrue, IsOk, IfOk, None, Some, false};
 ghost use Rattle.std.specs.Ordering.{int_cmp, int_eq};
@@ -30,33 +30,33 @@ use cal_types::{
 use std::fmt::Debug;
 use std::sync::ledger::Ledger;
 
-/// A calendar: its years, its months and its eras, over dates that it keeps in a form of its own.
+/// A calendar: its years, its months and its eras, and dates that it stores in a form of its own.
 ///
-/// An inner date belongs to a calendar if it is one of the calendar's dates and its day number is in the
-/// valid range, -365242499 to 365242134. Every inner date in an answer belongs.
+/// An inner date belongs to a calendar if it is one of the calendar's dates and its day number is in the valid range,
+/// -365242499 to 365242134. Every inner date that a call returns belongs to the calendar.
 pub trait Calendar: UnstableSealed + Drop {
-    /// A date as the calendar keeps it.
+    /// A date in the form that the calendar stores.
     type DateInner: Eq + Copy + PartialOrd + Debug;
 
-    /// How a year is named.
+    /// The year of a date, in its era or cycle.
     type Year: Debug + IntoYearInfo;
 
-    /// What says that two calendars of this type can't be compared.
+    /// The error for two calendars of this type whose dates can't be compared.
     type DateCompatibilityError: Debug + Drop;
 
     /// The calendar's list of years, and how it names them.
     ghost system: { Self → CalendarSystem };
 
-    /// The date that an inner date stands for.
+    /// The date of an inner date.
     ghost date_of: { Self → Self.DateInner → Date };
 
-    /// Whether an inner date is one of the calendar's.
+    /// Whether an inner date belongs to the calendar.
     ghost belongs: { Self → Self.DateInner → Bool };
 
     /// Whether dates of two calendars can be compared.
     ghost compatible: { Self → Self → Bool };
 
-    /// Whether a date has the fields of an ISO date but for its year.
+    /// Whether a date differs from the ISO date of the same day number at most in the year's number.
     ghost is_cheap: { Self → Bool };
 
     /// The calendar's algorithm, if CLDR names one.
@@ -65,7 +65,7 @@ pub trait Calendar: UnstableSealed + Drop {
     /// The calendar's name in English.
     ghost name: { Self → List ℕ };
 
-    /// Returns whether an inner date is one of this calendar's.
+    /// Returns whether an inner date belongs to this calendar.
     fn owns(&self, date: &Self::DateInner) -> bool
         ensures { result ≡ belongs self.now date.now };
 
@@ -76,7 +76,7 @@ pub trait Calendar: UnstableSealed + Drop {
     /// Fails with the first of these:
     /// - [`DateNewError::InvalidYear`] if the year, in its era or without one, isn't from -9999 to 9999;
     /// - [`DateNewError::InvalidEra`] if the era isn't one of the calendar's;
-    /// - [`DateNewError::MonthNotInCalendar`] if no year of the calendar has the month;
+    /// - [`DateNewError::MonthNotInCalendar`] if the month isn't one of the calendar's months;
     /// - [`DateNewError::MonthNotInYear`] if this year lacks it;
     /// - [`DateNewError::InvalidDay`] if the day is 0 or above the month's length.
     fn new_date(
@@ -91,32 +91,34 @@ pub trait Calendar: UnstableSealed + Drop {
 
     /// Creates a date from fields (ECMAScript Temporal, `CalendarResolveFields`).
     ///
-    /// The default of the option `overflow` is [`Overflow::Reject`](cal_types::Overflow::Reject), and that of
+    /// The default of the option `overflow` is [`Overflow::Reject`](cal_types::Overflow::Reject). The default of
     /// `missing_fields_strategy` is [`MissingFieldsStrategy::Reject`](cal_types::MissingFieldsStrategy::Reject).
     ///
     /// # Errors
     ///
     /// Fails with the first of these:
-    /// - [`DateFromFieldsError::NotEnoughFields`]: no day, unless it is supplied (the strategy `Ecma`, with an
-    ///   extended year or an era year: then it is 1); then no month, month code and ordinal month.
-    /// - [`DateFromFieldsError::TooManyFields`]: both a month and a month code.
-    /// - the year. [`DateFromFieldsError::NotEnoughFields`]: an era without an era year, or the reverse;
-    ///   [`DateFromFieldsError::Overflow`]: the era year, or without one the extended year, isn't from -1040000
-    ///   to 1040000; [`DateFromFieldsError::InvalidEra`]: the calendar doesn't have the era;
-    ///   [`DateFromFieldsError::InconsistentYear`]: the era's year and the extended year differ.
-    ///   [`DateFromFieldsError::NotEnoughFields`]: no year, unless it is supplied (`Ecma`, without an ordinal
-    ///   month): then it is the month's reference year, where a leap month that has none leaves its place to
-    ///   the plain month of its number under `Constrain`, and is
-    ///   [`DateFromFieldsError::MonthNotInYear`] under `Reject`.
-    /// - the month. [`DateFromFieldsError::MonthCodeInvalidSyntax`] and
-    ///   [`DateFromFieldsError::MonthNotInCalendar`] (both also tested before a reference year);
-    ///   [`DateFromFieldsError::MonthNotInYear`]: the year lacks it, and under `Constrain` none stands in;
-    ///   [`DateFromFieldsError::InconsistentMonth`]: an ordinal month beside it isn't its place.
-    /// - [`DateFromFieldsError::InvalidOrdinalMonth`]: an ordinal month alone that the year lacks, under
-    ///   `Reject`; under `Constrain` it becomes the nearest.
-    /// - [`DateFromFieldsError::InvalidDay`]: a day that the month lacks, under `Reject`; under `Constrain` it
-    ///   becomes the nearest.
-    /// - [`DateFromFieldsError::Overflow`]: the day number isn't in the valid range.
+    /// - [`DateFromFieldsError::NotEnoughFields`] if the day is missing. With the strategy `Ecma` and an extended
+    ///   year or an era year, a missing day is 1 instead. Then, if month, month code and ordinal month are all
+    ///   missing.
+    /// - [`DateFromFieldsError::TooManyFields`] if there are both a month and a month code.
+    /// - The errors of the year. [`DateFromFieldsError::NotEnoughFields`] if there is an era without an era year, or
+    ///   an era year without an era; [`DateFromFieldsError::Overflow`] if the era year, or without one the extended
+    ///   year, isn't from -1040000 to 1040000; [`DateFromFieldsError::InvalidEra`] if the calendar doesn't have the
+    ///   era; [`DateFromFieldsError::InconsistentYear`] if the era year's extended year and the extended year differ.
+    ///   [`DateFromFieldsError::NotEnoughFields`] if the year is missing. With the strategy `Ecma` and without an
+    ///   ordinal month, a missing year is the month's reference year instead, unless the calendar has no reference
+    ///   years. If a leap month has no reference year, `Constrain` uses the plain month of its number, and `Reject`
+    ///   fails with [`DateFromFieldsError::MonthNotInYear`].
+    /// - The errors of the month. [`DateFromFieldsError::MonthCodeInvalidSyntax`] if the month code is malformed, and
+    ///   [`DateFromFieldsError::MonthNotInCalendar`] if the month isn't one of the calendar's months (both are also
+    ///   checked before a reference year is used); [`DateFromFieldsError::MonthNotInYear`] if the month doesn't occur
+    ///   in that year, under `Reject`; [`DateFromFieldsError::InconsistentMonth`] if there is also an ordinal month
+    ///   and it is a different month.
+    /// - [`DateFromFieldsError::InvalidOrdinalMonth`] if there is only an ordinal month and it doesn't occur in that
+    ///   year, under `Reject`. Under `Constrain` the nearest ordinal month is used.
+    /// - [`DateFromFieldsError::InvalidDay`] if the day doesn't occur in that month, under `Reject`. Under
+    ///   `Constrain` the nearest day is used.
+    /// - [`DateFromFieldsError::Overflow`] if the day number isn't in the valid range.
     fn from_fields(
         &self,
         fields: DateFields<'_>,
@@ -126,12 +128,12 @@ pub trait Calendar: UnstableSealed + Drop {
             ≡ resolve_fields (system self.now) (bag_of fields.entry) options }
         ensures belongs { IfOk result (λ d. IsTrue (belongs self.now d)) };
 
-    /// Returns whether a date and the ISO date of its day differ in no more than the year's number, so that
+    /// Returns whether a date differs from the ISO date of the same day number at most in the year's number. Then
     /// [`Calendar::from_iso`] and [`Calendar::to_iso`] need no day number.
     fn has_cheap_iso_conversion(&self) -> bool
         ensures { result ≡ is_cheap self.now };
 
-    /// Returns the date of the same day number as an ISO date.
+    /// Returns the date with the day number of an ISO date.
     fn from_iso(&self, iso: IsoDateInner) -> Self::DateInner
         requires { IsTrue (iso_belongs iso) }
         ensures on { let day = day_number iso_list (iso_date iso) in
@@ -141,7 +143,7 @@ pub trait Calendar: UnstableSealed + Drop {
         self.from_rata_die(Iso.to_rata_die(&iso))
     }
 
-    /// Returns the ISO date of the same day number.
+    /// Returns the ISO date with the day number of a date.
     fn to_iso(&self, date: &Self::DateInner) -> IsoDateInner
         requires { IsTrue (belongs self.now date.now) }
         ensures on { let day = day_number (system self.now).list (date_of self.now date.now) in
@@ -199,7 +201,7 @@ pub trait Calendar: UnstableSealed + Drop {
         self.year_info(date).into_year_info().extended_year()
     }
 
-    /// Returns the month of a date: its place in the year, and its month codes.
+    /// Returns the month of a date: its ordinal month, its month codes and its leap status.
     fn month(&self, date: &Self::DateInner) -> MonthInfo
         requires { IsTrue (belongs self.now date.now) }
         ensures { month_info_parts result ≡ month_info_of (system self.now) (date_of self.now date.now) };
@@ -222,12 +224,13 @@ pub trait Calendar: UnstableSealed + Drop {
     /// # Errors
     ///
     /// Fails with the first of these:
-    /// - [`DateAddError::Overflow`] if the duration has more than 2080000 years, 27040000 months, or 838240000 days
-    ///   with seven for a week, or if the years lead past the years from -1040000 to 1040000 (ISO years in the Gregorian
-    ///   calendars, Coptic years in the Ethiopian one);
-    /// - [`DateAddError::MonthNotInYear`] if the year that the years lead to lacks the month and, under
-    ///   [`Overflow::Constrain`], no month stands in for it;
-    /// - [`DateAddError::InvalidDay`] if the month that the months lead to lacks the day, under [`Overflow::Reject`];
+    /// - [`DateAddError::Overflow`] if the duration has more than 2080000 years, 27040000 months, or 838240000 days,
+    ///   counting a week as seven days, or if adding the years leads to a year that isn't from -1040000 to 1040000
+    ///   (an ISO year in the Gregorian calendars, a Coptic year in the Ethiopian one);
+    /// - [`DateAddError::MonthNotInYear`] if the month doesn't occur in the year after adding the years, under
+    ///   [`Overflow::Reject`];
+    /// - [`DateAddError::InvalidDay`] if the day doesn't occur in the month after adding the months, under
+    ///   [`Overflow::Reject`];
     /// - [`DateAddError::Overflow`] if the sum's day number isn't in the valid range.
     fn add(
         &self,
@@ -241,9 +244,9 @@ pub trait Calendar: UnstableSealed + Drop {
             IsSum s.list s.year_shift t duration overflow (answer_by (date_of self.now) result) }
         ensures belongs { IfOk result (λ d. IsTrue (belongs self.now d)) };
 
-    /// Returns the difference from the first date to the second: the greatest that does not surpass the second
-    /// (ECMAScript Temporal's NonISODateUntil). Added to the first date under [`Overflow::Constrain`], it gives
-    /// the second.
+    /// Returns the difference from the first date to the second: the greatest duration that doesn't lead past the
+    /// second date (ECMAScript Temporal, `NonISODateUntil`). Adding it to the first date, with
+    /// [`Overflow::Constrain`], returns the second date.
     fn until(
         &self,
         date1: &Self::DateInner,
@@ -255,8 +258,8 @@ pub trait Calendar: UnstableSealed + Drop {
         ensures { let s = system self.now in let t = date_of self.now date1.now in let u = date_of self.now date2.now in
             IsUntil s.list s.year_shift t u (largest_unit_of options.largest_unit) result };
 
-    /// Returns the difference of [`Calendar::until`]. It adds at most 8 ticks to the counter; if months are the
-    /// largest unit, at most 8 and one more for each year between the dates.
+    /// Returns the difference as [`Calendar::until`] does. It adds at most 8 ticks to the counter. If months are the
+    /// largest unit, it adds at most 8 ticks and one more for each year between the dates.
     fn until_counted<L: Ledger>(
         &self,
         date1: &Self::DateInner,
@@ -273,15 +276,15 @@ pub trait Calendar: UnstableSealed + Drop {
             let years = unsigned_abs (u.year -ℤ t.year) in
             steps.new ≤ steps.old + most_ticks (largest_unit_of options.largest_unit) years };
 
-    /// Tests whether dates of the two calendars can be compared.
+    /// Checks whether dates of the two calendars can be compared.
     ///
     /// # Errors
     ///
-    /// - The calendar's `DateCompatibilityError`, exactly if they can't be compared.
+    /// - The calendar's `DateCompatibilityError` exactly if they can't be compared.
     fn check_date_compatibility(&self, other: &Self) -> Result<(), Self::DateCompatibilityError>
         ensures { IsOk result ↔ IsTrue (compatible self.now other.now) };
 
-    /// Returns the calendar's algorithm (CLDR, UTS 35). `None` if CLDR names none.
+    /// Returns the calendar's algorithm (CLDR, UTS 35), or `None` if CLDR names none.
     fn calendar_algorithm(&self) -> Option<CalendarAlgorithm>
         ensures { result ≡ algorithm self.now };
 
@@ -289,25 +292,25 @@ pub trait Calendar: UnstableSealed + Drop {
     fn debug_name(&self) -> &'static str
         ensures { result.now ≡ name self.now };
 
-    /// The list is a calendar's.
+    /// The list of years is lawful.
     ghost lawful: { (s : Self) → IsLawful (system s).list };
 
-    /// What belongs is a date of the list, with a valid day number.
+    /// An inner date that belongs to the calendar is a date of the list, and its day number is valid.
     ghost dated: { (s : Self) (d : Self.DateInner) → IsTrue (belongs s d) →
         IsValidDate (system s).list (date_of s d) };
 
-    /// The extended years of dates with valid days lie from -1040000 to 1040000.
+    /// The extended years of dates with valid days are from -1040000 to 1040000.
     ghost ranged: { (s : Self) (t : Date) → IsValidDate (system s).list t → IsFieldYear t.year };
 
-    /// So do these years as adding counts them.
+    /// The extended years of dates with valid days, plus the year shift, are from -1040000 to 1040000.
     ghost shifted: { (s : Self) (t : Date) → IsValidDate (system s).list t →
         IsFieldYear (t.year +ℤ (system s).year_shift) };
 
-    /// The days of years from -980000 to 980000 are valid.
+    /// The days of extended years from -980000 to 980000 are valid.
     ghost covered: { (s : Self) (t : Date) → IsCoveredYear t.year → IsDate (system s).list t →
         IsValidDay (day_number (system s).list t) };
 
-    /// The year that a date is printed in has its extended year.
+    /// The year of a date, in its era or cycle, contains the date's extended year.
     ghost named: { (s : Self) (t : Date) → extended_year_of ((system s).year_info t) ≡ t.year };
 
     /// Dates of one calendar are equal exactly if their day numbers are.
@@ -315,16 +318,16 @@ pub trait Calendar: UnstableSealed + Drop {
         let day = day_number (system s).list in
         Self.DateInner.eq a b ≡ int_eq (day (date_of s a)) (day (date_of s b)) };
 
-    /// Dates of one calendar are ordered as their day numbers.
+    /// Dates of one calendar have the order of their day numbers.
     ghost ordered_days: { (s : Self) (a b : Self.DateInner) → IsTrue (belongs s a) → IsTrue (belongs s b) →
         let day = day_number (system s).list in
         Self.DateInner.partial_cmp a b ≡ Some (int_cmp (day (date_of s a)) (day (date_of s b))) };
 
-    /// Where dates of two calendars can't be compared, there is an error that says so: where the error is
-    /// `Infallible`, all calendars are compatible.
+    /// If dates of two calendars can't be compared, the error type has a value. So if the error type is `Infallible`,
+    /// all calendars of the type are compatible.
     ghost refusal: { (s t : Self) → compatible s t ≡ false → Self.DateCompatibilityError };
 
-    /// Each calendar is compatible with itself, and compatibility goes both ways and on.
+    /// Compatibility is an equivalence relation.
     ghost compatible_itself: { (s : Self) → IsTrue (compatible s s) };
 
     ghost compatible_back: { (s t : Self) → IsTrue (compatible s t) → IsTrue (compatible t s) };
@@ -332,7 +335,7 @@ pub trait Calendar: UnstableSealed + Drop {
     ghost compatible_on: { (s t u : Self) → IsTrue (compatible s t) → IsTrue (compatible t u) →
         IsTrue (compatible s u) };
 
-    /// A date belongs to each compatible calendar, with the same day number.
+    /// A date also belongs to every compatible calendar, and has the same day number there.
     ghost shared: { (s t : Self) (d : Self.DateInner) → IsTrue (compatible s t) → IsTrue (belongs s d) →
         IsTrue (belongs t d) };
 
@@ -340,7 +343,7 @@ pub trait Calendar: UnstableSealed + Drop {
         day_number (system t).list (date_of t d) ≡ day_number (system s).list (date_of s d) };
 }
 
-/// What leads to a calendar: the calendar itself, or a pointer to it.
+/// A calendar, or a pointer to one.
 pub trait AsCalendar: Drop {
     /// The calendar's type.
     type Calendar;

@@ -7,7 +7,7 @@ ghost use Rattle.std.specs.Prelude.{◌≡◌, ◌+◌, ◌-◌, ◌<◌, ◌≤
 ghost use Rattle.cal_days.specs.Day.{IsBetween, IsShiftedYear};
 ghost use Rattle.cal_base.specs.GregorianList.{gregorian_month_length, march_days_before, march_month, march_month_most};
 
-/// Returns the days of a month, 1 to 12, in a leap year or a common one.
+/// Returns the number of days in a month, 1 to 12, of a leap year or a common year.
 pub fn days_in_month(leap: bool, month: u8) -> u8
     requires { (1 ≤ month) × (month ≤ 12) }
     ensures { result ≡ gregorian_month_length leap month }
@@ -19,7 +19,10 @@ pub fn days_in_month(leap: bool, month: u8) -> u8
     }
 }
 
-/// Returns the year on whose March 1 a month's year begins, and the month as such years count it, 3 to 14.
+/// Returns the year of the last March 1 on or before the start of a month, and the month's number in the year that
+/// begins there, 3 to 14. Months 13 and 14 are January and February of the next year.
+///
+/// `year`: -8009999 to 8009999. `month`: 1 to 12.
 pub fn in_march_year(year: i32, month: u8) -> (i32, u8)
     requires year { IsShiftedYear year }
     requires month { (1 ≤ month) × (month ≤ 12) }
@@ -35,8 +38,8 @@ pub fn in_march_year(year: i32, month: u8) -> (i32, u8)
     }
 }
 
-/// Returns the days from March 1 to the first day of a month, 3 to 12, or of 13 and 14, which are January and February
-/// of the next year.
+/// Returns the number of days from March 1 to the first day of a month, 3 to 14. Months 13 and 14 are January and
+/// February of the next year.
 pub fn days_from_march(month: u8) -> u16
     requires { (3 ≤ month) × (month ≤ 14) }
     ensures value { result ≡ march_days_before month }
@@ -45,8 +48,8 @@ pub fn days_from_march(month: u8) -> u16
     ((979 * u32::from(month) - 2919) / 32) as u16
 }
 
-/// Returns the month, 3 to 14, and the day of the month, of a day that lies 0 to 365 days after March 1. Months 13 and
-/// 14 are January and February of the next year, and February has 29 days here.
+/// Returns the month, 3 to 14, and the day of the month of the day that is `day` days after March 1, 0 to 365. Months
+/// 13 and 14 are January and February of the next year, and February has 29 days here.
 pub fn month_and_day_from_march(day: u16) -> (u8, u8)
     requires { day < 366 }
     ensures month { (3 ≤ result.0) × (result.0 ≤ 14) }

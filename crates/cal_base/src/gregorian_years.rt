@@ -1,5 +1,5 @@
 //! Numberings of the Gregorian years: the Buddhist and the Minguo calendar count the ISO years from a year of their
-//! own. Start at [`GregorianYears`]; [`AbstractGregorian`](crate::AbstractGregorian) makes a calendar of it.
+//! own. Start at [`GregorianYears`]; [`AbstractGregorian`](crate::AbstractGregorian) makes a calendar from it.
 
 ghost use Rattle.std.specs.Prelude.{◌≡◌, ℕ, ℤ, List, Option, Some};
 ghost use Rattle.cal_days.specs.Day.{IsFieldYear, IsRuleYear, IsConstructorYear, IsNearEra};
@@ -14,13 +14,13 @@ use std::fmt::Debug;
 
 /// A numbering of the Gregorian years, and their names in eras.
 pub trait GregorianYears: Copy + Debug {
-    /// The ISO year less the extended year.
+    /// The ISO year minus the extended year.
     ghost offset: { Self → ℤ };
 
-    /// The extended year that an era's code and a year in that era read as.
+    /// The extended year of an era's code and an era year, if the calendar has the era.
     ghost reads: { Self → List ℕ → ℤ → Option ℤ };
 
-    /// The year in its era of a date in extended years.
+    /// The era year of a date whose year is the extended year.
     ghost era_year: { Self → Date → EraYear };
 
     /// The calendar's algorithm, if CLDR names one.
@@ -29,13 +29,13 @@ pub trait GregorianYears: Copy + Debug {
     /// The calendar's name in English.
     ghost name: { Self → List ℕ };
 
-    /// Returns the ISO year less the extended year, from -9999 to 9999.
+    /// Returns the ISO year minus the extended year, from -9999 to 9999.
     fn year_offset(&self) -> i32
         ensures { result ≡ offset self.now };
 
-    /// Returns the extended year of an era year, from -1040000 to 1040000, in the era of a code.
+    /// Returns the extended year of an era year, -1040000 to 1040000, in the era with the code `era`.
     ///
-    /// The result is from -8000000 to 8000000, and from -20000 to 20000 for an era year from -9999 to 9999.
+    /// The result is from -8000000 to 8000000. It is from -20000 to 20000 if the era year is from -9999 to 9999.
     ///
     /// # Errors
     ///
@@ -44,7 +44,7 @@ pub trait GregorianYears: Copy + Debug {
         requires { IsFieldYear year_of_era }
         ensures { result ≡ era_read (reads self.now era.now year_of_era) };
 
-    /// Returns the year in its era of a date with a valid day.
+    /// Returns the era year of a date with a valid day number.
     fn era_year_from_extended(&self, extended_year: i32, month: u8, day: u8) -> EraYear
         requires { IsValidDate (offset_list (offset self.now)) (date extended_year month day) }
         ensures { result ≡ era_year self.now (date extended_year month day) };
@@ -57,16 +57,16 @@ pub trait GregorianYears: Copy + Debug {
     fn debug_name(&self) -> &'static str
         ensures { result.now ≡ name self.now };
 
-    /// Extended years lie near the ISO years.
+    /// The offset is from -9999 to 9999.
     ghost offset_bound: { (s : Self) → IsOffset (offset s) };
 
-    /// An era's year is one that the year rules are used for.
+    /// An era year from -1040000 to 1040000 has an extended year from -8000000 to 8000000.
     ghost era_in_range: { (s : Self) (era : List ℕ) (n y : ℤ) → IsFieldYear n → reads s era n ≡ Some y → IsRuleYear y };
 
-    /// An era year from -9999 to 9999 reads as an extended year from -20000 to 20000.
+    /// An era year from -9999 to 9999 has an extended year from -20000 to 20000.
     ghost era_near: { (s : Self) (era : List ℕ) (n y : ℤ) → IsConstructorYear n
         → reads s era n ≡ Some y → IsNearEra y };
 
-    /// The year that a date is printed in has its extended year.
+    /// The era year of a date contains the date's extended year.
     ghost named: { (s : Self) (t : Date) → (era_year s t).extended_year ≡ t.year };
 }

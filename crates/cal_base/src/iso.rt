@@ -17,9 +17,9 @@ use std::sync::ledger::Ledger;
 
 /// The ISO calendar: the proleptic Gregorian calendar with astronomical year numbers (ISO 8601).
 ///
-/// Its one era has the code `default`, and the year in it is the extended year. A year has the plain months 1 to
-/// 12; February has 29 days where 4 divides the year, but of the centuries only where 400 does. Each month has
-/// the reference year 1972. CLDR has no algorithm of this name for a calendar: `calendar_algorithm` is None.
+/// Its only era has the code `default`, and the era year is the extended year. A year has the plain months 1 to 12.
+/// February has 29 days if 4 divides the year, except for years that 100 but not 400 divides. Every month has the
+/// reference year 1972. CLDR names no algorithm for this calendar, so `calendar_algorithm` returns `None`.
 #[derive(Clone, Copy, Debug, Default, PartialEq, Eq, PartialOrd, Ord, Hash)]
 pub struct Iso;
 
@@ -36,11 +36,11 @@ impl Iso {
     }
 }
 
-/// A date of the ISO calendar: its year, its month and its day.
+/// A date of the ISO calendar: its year, its ordinal month and its day of the month.
 #[derive(Clone, Copy, Debug, PartialEq, Eq, PartialOrd, Ord, Hash)]
 pub struct IsoDateInner(pub(crate) ArithmeticDate<AbstractGregorian<IsoYears>>);
 
-/// The years of the ISO calendar, which are the ISO years in the one era `default`.
+/// The years of the ISO calendar: the ISO years, in the only era `default`.
 #[derive(Clone, Copy, Debug)]
 pub struct IsoYears;
 

@@ -1,4 +1,4 @@
-//! The days of ISO years: when they start, and how long their months are.
+//! Day numbers and month lengths in ISO years.
 
 ghost use Rattle.std.specs.Prelude.{◌≡◌, ◌↔◌, ◌≤◌, IsTrue, pos, neg_ℤ};
 ghost use Rattle.cal_days.specs.Day.{IsShiftedYear, IsBetween, IsValidDay};
@@ -19,7 +19,7 @@ pub(crate) fn is_leap(year: NumberedYear) -> bool
     gregorian::is_leap_year(year.number)
 }
 
-/// Returns the days of a month, 1 to 12. Only February asks whether the year is a leap year.
+/// Returns the number of days in a month, 1 to 12. Only February depends on whether the year is a leap year.
 pub(crate) fn days_in_iso_month(year: NumberedYear, month: u8) -> u8
     requires { (1 ≤ month) × (month ≤ 12) }
     ensures { result ≡ gregorian_month_length (gregorian_leap year.number) month }
@@ -39,7 +39,7 @@ pub(crate) fn iso_day_number(year: i32, month: u8, day: u8) -> i64
     gregorian::march_start(march_year).to_i64_date() + i64::from(before)
 }
 
-/// Returns the date of a valid day: the ISO year, the ordinal month and the day of the month.
+/// Returns the ISO year, the ordinal month and the day of the month of a valid day.
 pub(crate) fn iso_date(rd: RataDie) -> (i32, u8, u8)
     requires { IsValidDay rd }
     ensures on { IsOn gregorian_list rd (date result.0 result.1 result.2) }

@@ -1,4 +1,4 @@
-//! What every calendar offers, and the ISO calendar.
+//! The traits of calendars (start at [`Calendar`]), and the ISO calendar.
 #![tactic(auto)]
 
 mod abstract_gregorian;

@@ -1,4 +1,4 @@
-//! What a calendar adds to its years.
+//! The trait [`NamedYears`]: what a calendar defines beyond its years.
 
 ghost use Rattle.std.specs.Prelude.{◌≡◌, ◌↔◌, ◌&&◌, Bool, true, ℕ, ℤ, IsTrue};
 ghost use Rattle.std.specs.Cmp.{IsEquivalence};
@@ -17,17 +17,17 @@ use cal_arith::DateFieldsResolver;
 use cal_types::{IntoYearInfo, LeapStatus, Month};
 use std::fmt::Debug;
 
-/// What a calendar adds to its years: how it names them, which of them are leap years, and which of its months
+/// What a calendar defines beyond its years: how it names them, which of them are leap years, and which of its months
 /// are leap months.
 ///
-/// [`Arithmetic`](crate::Arithmetic) makes a calendar of it. An own year is one that the calendar gave, with an
-/// extended year from -1040000 to 1040000.
+/// [`Arithmetic`](crate::Arithmetic) makes a calendar from it. An own year is a year that this calendar created and
+/// that has an extended year from -1040000 to 1040000.
 pub trait NamedYears: DateFieldsResolver + Drop {
     /// A year in its era or cycle.
     type Year: Debug + IntoYearInfo;
 
-    /// Whether a year is the calendar's year of its extended year. A calendar whose years are known by their
-    /// number alone keeps this; one whose years also keep the lengths of their months compares these.
+    /// Whether a year is the calendar's year of its extended year. Calendars whose years are determined by their
+    /// number keep this default. Calendars whose years also store month lengths compare them.
     ghost has_year: { Self → Self.YearInfo → Bool } = { λ _ _. true };
 
     /// Whether an extended year is a leap year.
@@ -36,18 +36,18 @@ pub trait NamedYears: DateFieldsResolver + Drop {
     /// An extended year in its era or cycle.
     ghost year_named: { Self → ℤ → YearInfo };
 
-    /// How the month in a place of an extended year stands to leap months. A calendar without leap months
-    /// keeps this.
+    /// The leap status of an ordinal month of an extended year. Calendars without leap months keep this default.
     ghost leap_status: { Self → ℤ → ℕ → LeapStatus } = { λ _ _ _. Normal };
 
-    /// The month by which the month in a place of an extended year is formatted. A calendar that formats each
-    /// month by itself keeps this.
+    /// The month by which an ordinal month of an extended year is formatted. Calendars that format every month by
+    /// itself keep this default.
     ghost formatted_month: { Self → ℤ → ℕ → MonthParts → MonthParts } = { λ _ _ _ month. month };
 
-    /// Whether dates of two calendars can be compared. A type of calendars that are all alike keeps this.
+    /// Whether dates of two calendars can be compared. Types whose calendars are all compatible keep this default.
     ghost compatible: { Self → Self → Bool } = { λ _ _. true };
 
-    /// Returns whether a year is one of the calendar's own. Any year may be asked for, also one of another calendar.
+    /// Returns whether a year is one of the calendar's own. Any year may be passed, including one of another
+    /// calendar.
     fn owns_year(&self, year: Self::YearInfo) -> bool
         ensures { result ≡ (has_year self.now year && is_field_year ((Self.years self.now).extended year)) };
 
@@ -61,8 +61,8 @@ pub trait NamedYears: DateFieldsResolver + Drop {
         requires { IsOwnYear (Self.years self.now) year }
         ensures { Self.Year.info result ≡ year_named self.now ((Self.years self.now).extended year) };
 
-    /// Returns the leap status of a month of an own year, and the month by which it is formatted. The month is given
-    /// by its ordinal number and by itself.
+    /// Returns the leap status of a month of an own year, and the month by which it is formatted. `ordinal_month` and
+    /// `month` name the same month.
     fn shown_month(
         &self,
         year: Self::YearInfo,
@@ -86,14 +86,14 @@ pub trait NamedYears: DateFieldsResolver + Drop {
     fn is_compatible(&self, other: &Self) -> bool
         ensures { result ≡ compatible self.now other.now };
 
-    /// The test of a year says just this.
+    /// `has_year` is true exactly if a year is the calendar's year of its extended year.
     ghost tested: { (s : Self) (y : Self.YearInfo) →
         IsTrue (has_year s y) ↔ ((Self.years s).year_of ((Self.years s).extended y) ≡ y) };
 
-    /// A year in its era or cycle has its extended year.
+    /// A year in its era or cycle contains its extended year.
     ghost named: { (s : Self) (y : ℤ) → extended_year_of (year_named s y) ≡ y };
 
-    /// Each calendar is compatible with itself, and compatibility goes both ways and on.
+    /// Compatibility is an equivalence relation.
     ghost alike: { IsEquivalence compatible };
 
     /// Compatible calendars have the same years, with the same days and months.

@@ -1,4 +1,4 @@
-//! Years that are their numbers.
+//! Years that are determined by their number.
 
 ghost use Rattle.std.specs.Prelude.{◌≡◌};
 ghost use Rattle.cal_days.specs.Day.{is_field_year};
@@ -6,10 +6,11 @@ ghost use Rattle.cal_days.specs.Day.{is_field_year};
 use cal_arith::{PackWithMD, can_be_named};
 use date_bytes::solar;
 
-/// A year of a solar calendar, of which its number says everything: the ISO year in the Gregorian calendars, the Coptic
-/// year in the Coptic and the Ethiopian one, and the extended year in the Julian, the Indian and the Persian one.
+/// A year of a solar calendar, which its number determines: the ISO year in the Gregorian calendars, the Coptic year
+/// in the Coptic and the Ethiopian calendar, and the extended year in the Julian, the Indian and the Persian
+/// calendar.
 ///
-/// A date of such a year is packed into four bytes: 2024-03-01 into `[97, 208, 15, 0]`.
+/// A date with a numbered year is packed into four bytes: 2024-03-01 into `[97, 208, 15, 0]`.
 #[derive(Clone, Copy, Debug, PartialEq, Eq, PartialOrd, Ord, Hash)]
 pub struct NumberedYear {
     /// The year's number: year 0 is the year before year 1.
@@ -17,7 +18,7 @@ pub struct NumberedYear {
 }
 
 impl NumberedYear {
-    /// Returns whether fields may name a year of this number: one from -1040000 to 1040000.
+    /// Returns whether fields may name a year with this number: whether it is from -1040000 to 1040000.
     pub fn can_be_named(self) -> bool
         ensures { result ≡ is_field_year self.number }
     {

@@ -1,4 +1,4 @@
-//! Plain months, for the calendars whose years have the plain months 1 to 12 or 1 to 13.
+//! Helpers for calendars whose years have the plain months 1 to 12 or 1 to 13.
 
 ghost use Rattle.std.specs.Prelude.{◌≡◌};
 ghost use Rattle.cal_types.specs.MonthParts.{month_parts};
@@ -14,11 +14,11 @@ pub fn is_plain(month: Month, count: u8) -> bool
     !month.is_leap() && 1 <= month.number() && month.number() <= count
 }
 
-/// Returns the place of a month in a year of the plain months 1 to `count`, which is the month's number.
+/// Returns the ordinal month of a month in a year with the plain months 1 to `count`, which is the month's number.
 ///
 /// # Errors
 ///
-/// - [`MonthError::NotInCalendar`] for any other month, which no year has.
+/// - [`MonthError::NotInCalendar`] if the month isn't one of the plain months 1 to `count`.
 pub fn plain_ordinal(month: Month, count: u8) -> Result<u8, MonthError>
     ensures { result ≡ plain_place count (month_parts month) }
 {

@@ -7,7 +7,7 @@ use std::alloc::AllocError;
 use std::ops::Deref;
 use std::rc::Rc;
 
-/// A calendar that is borrowed.
+/// A borrowed calendar.
 #[derive(PartialEq, Eq, Debug)]
 pub struct Ref<'a, C>(pub &'a C);
 

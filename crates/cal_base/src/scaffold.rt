@@ -1,4 +1,4 @@
-//! What marks the calendars that this workspace writes.
+//! The marker trait of the calendars in this workspace.
 
-/// Marks a trait's implementors as written here: the trait may gain members.
+/// Marks a trait whose implementations are all in this workspace, so the trait may gain members.
 pub trait UnstableSealed {}

@@ -20,14 +20,14 @@ use std::sync::ledger::Ledger;
 
 /// The Coptic calendar, in the Era of the Martyrs.
 ///
-/// A year has twelve months of 30 days, and the epagomenal days as a thirteenth month: 5, and 6 in every fourth
-/// year. Its one era has the code `am`, and the year in it is the extended year, also before year 1. The reference
-/// year of a day is 1689 up to the 22nd of the fourth month, otherwise 1688, and 1687 for the sixth epagomenal
-/// day. CLDR's name for it is `coptic`.
+/// A year has twelve months of 30 days, and a thirteenth month of 5 epagomenal days, or 6 in every fourth year. Its
+/// only era has the code `am`, and the era year is the extended year, even before year 1. The reference year of a day
+/// is 1689 up to day 22 of month 4, otherwise 1688, but 1687 for the sixth epagomenal day. CLDR's name for it is
+/// `coptic`.
 #[derive(Clone, Copy, Debug, Default, PartialEq, Eq, PartialOrd, Ord, Hash)]
 pub struct Coptic;
 
-/// A date of the Coptic calendar: its year, its month and its day.
+/// A date of the Coptic calendar: its year, its ordinal month and its day of the month.
 #[derive(Clone, Copy, Debug, PartialEq, Eq, PartialOrd, Ord, Hash)]
 pub struct CopticDateInner(ArithmeticDate<Coptic>);
 

@@ -1,4 +1,4 @@
-//! Coptic years, which the Coptic and the Ethiopian calendar keep in their dates, their months and their days.
+//! Coptic years, which dates of the Coptic and the Ethiopian calendar store, with their months and days.
 
 ghost use Rattle.std.specs.Prelude.{◌≡◌, ◌+◌, ◌/◌, ◌%◌, ◌<◌, ◌≤◌, ◌↔◌, IsTrue, neg_ℤ, pos, ◌-ℤ◌};
 ghost use Rattle.cal_days.specs.Coptic.{coptic_leap};
@@ -11,7 +11,7 @@ use cal_base::NumberedYear;
 use cal_days::ranges::MAX_FIELD_YEAR;
 use cal_days::{RataDie, coptic};
 
-/// The greatest year, with either sign, that fields may name.
+/// The greatest absolute value of a year that fields may name.
 const MOST: i64 = MAX_FIELD_YEAR as i64;
 
 /// Returns whether the year has 366 days.
@@ -21,7 +21,7 @@ pub(crate) fn is_leap(year: NumberedYear) -> bool
     coptic::is_leap_year(year.number)
 }
 
-/// Returns how many days a month of the year has: 30, and 5 or 6 in the last one.
+/// Returns the number of days in a month of the year, 1 to 13: 30, or 5 or 6 in month 13.
 pub(crate) fn days_in_month(year: NumberedYear, month: u8) -> u8
     requires { (1 ≤ month) × (month ≤ 13) }
     ensures { result ≡ month_length coptic_list year.number month }
@@ -35,7 +35,7 @@ pub(crate) fn days_in_month(year: NumberedYear, month: u8) -> u8
     }
 }
 
-/// Returns the day number of a month and a day of the year, which is one from -8009999 to 8009999.
+/// Returns the day number of a month and a day of a year from -8009999 to 8009999.
 pub(crate) fn day_number(year: NumberedYear, month: u8, day: u8) -> RataDie
     requires year { IsShiftedYear year.number }
     requires date { IsDate coptic_list (date year.number month day) }
@@ -45,21 +45,21 @@ pub(crate) fn day_number(year: NumberedYear, month: u8, day: u8) -> RataDie
     RataDie::new(coptic::year_start(year.number).to_i64_date() + i64::from(before))
 }
 
-/// Returns whether fields may name the year, where its extended year is the number less an offset.
+/// Returns whether fields may name the year, whose extended year is its number minus `offset`.
 pub(crate) fn can_be_named_from(year: NumberedYear, offset: i32) -> bool
     ensures { result ≡ is_field_year (year.number -ℤ offset) }
 {
     may_be_named(i64::from(year.number) - i64::from(offset))
 }
 
-/// Returns whether an extended year is one that fields may name.
+/// Returns whether fields may name an extended year.
 fn may_be_named(extended_year: i64) -> bool
     ensures { result ≡ is_field_year extended_year }
 {
     -MOST <= extended_year && extended_year <= MOST
 }
 
-/// Returns the month and the day of the month of a day of the year, which is counted from 0.
+/// Returns the month and the day of the month of a day of the year, 0 to 365.
 pub(crate) fn month_and_day(day_of_year: u16) -> (u8, u8)
     requires { day_of_year < 366 }
     ensures month { result.0 ≡ day_of_year / 30 + 1 }
@@ -68,7 +68,7 @@ pub(crate) fn month_and_day(day_of_year: u16) -> (u8, u8)
     ((day_of_year / 30) as u8 + 1, (day_of_year % 30) as u8 + 1)
 }
 
-/// Returns the date of a valid day: its Coptic year, the place of its month, and its day of the month.
+/// Returns the Coptic year, the ordinal month and the day of the month of a valid day.
 pub(crate) fn coptic_date(rd: RataDie) -> (NumberedYear, u8, u8)
     requires { IsValidDay rd }
     ensures on { IsOn coptic_list rd (date result.0.number result.1 result.2) }
@@ -79,8 +79,8 @@ pub(crate) fn coptic_date(rd: RataDie) -> (NumberedYear, u8, u8)
     (NumberedYear { number }, month, day)
 }
 
-/// Returns the reference year of a day of a month, 1 to 13: the latest year in which it falls on or before 1972-12-31
-/// of the ISO calendar.
+/// Returns the reference year of a day of a month, 1 to 13: the latest year in which the day falls on or before
+/// 1972-12-31 of the ISO calendar.
 pub(crate) fn reference_year(month: u8, day: u8) -> NumberedYear
     ensures year { result.number ≡ coptic_reference_year month day }
     ensures range { IsBetween (pos 1687) (pos 1689) result.number }

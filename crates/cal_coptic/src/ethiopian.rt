@@ -27,10 +27,10 @@ use cal_types::{
 use std::convert::Infallible;
 use std::sync::ledger::Ledger;
 
-/// The year from which the Ethiopian calendar counts its years.
+/// The era style: the era from which the Ethiopian calendar counts its years.
 #[derive(Clone, Copy, Debug, PartialEq, Eq, PartialOrd, Ord, Hash)]
 pub enum EthiopianEraStyle {
-    /// The Incarnation Era, whose code is `am`; the years before it stand in the Era of the World.
+    /// The Incarnation Era, whose code is `am`. The years before it are in the Era of the World.
     AmeteMihret,
     /// The Era of the World, whose code is `aa` and which begins 5500 years earlier.
     AmeteAlem,
@@ -38,22 +38,21 @@ pub enum EthiopianEraStyle {
 
 /// The Ethiopian calendar, in one of two era styles.
 ///
-/// It has the months and the leap years of the Coptic calendar. In the style Amete Mihret, extended year 1 is the
-/// first year of the Incarnation Era, whose code is `am`; the years before it are printed in the Era of the World,
-/// `aa`, and both are read. In the style Amete Alem all years are those of `aa`. Dates of the two styles can be
-/// compared. The reference year of a day is that of the Coptic calendar. CLDR's names for the styles are `ethiopic`
-/// and `ethioaa`.
+/// It has the months, the leap years and the reference years of the Coptic calendar. In the style Amete Mihret,
+/// extended year 1 is the first year of the Incarnation Era (`am`), and the years before it are in the Era of the
+/// World (`aa`). Years may be given in both eras. In the style Amete Alem, every year is in `aa`. Dates of the two
+/// styles can be compared. CLDR's names for the styles are `ethiopic` and `ethioaa`.
 #[derive(Clone, Copy, Debug, PartialEq, Eq, PartialOrd, Ord, Hash)]
 pub struct Ethiopian {
     era_style: EthiopianEraStyle,
 }
 
-/// A date of the Ethiopian calendar: its Coptic year, its month and its day.
+/// A date of the Ethiopian calendar: its Coptic year, its ordinal month and its day of the month.
 #[derive(Clone, Copy, Debug, PartialEq, Eq, PartialOrd, Ord, Hash)]
 pub struct EthiopianDateInner(ArithmeticDate<Ethiopian>);
 
 impl EthiopianEraStyle {
-    /// Returns the Coptic year less the extended year.
+    /// Returns the Coptic year minus the extended year.
     fn coptic_offset(self) -> i32
         ensures value { result ≡ coptic_offset self }
         ensures range { IsShift result }
@@ -64,7 +63,7 @@ impl EthiopianEraStyle {
         }
     }
 
-    /// Returns whether two styles are the same.
+    /// Returns whether two styles are equal.
     fn is_same_as(self, other: EthiopianEraStyle) -> bool
         ensures { result ≡ is_same_style self other }
     {
@@ -111,7 +110,7 @@ impl Ethiopian {
     }
 }
 
-/// The Ethiopian calendar in the style Amete Mihret.
+/// The default is the style Amete Mihret.
 impl Default for Ethiopian {
     ghost use Rattle.cal_coptic.specs.declared.ethiopian.EthiopianEraStyle.TheVariants.{AmeteMihret};
 
@@ -226,9 +225,12 @@ impl Years for Ethiopian {
     }
 }
 
-/// Returns the extended year of a year, from -1040000 to 1040000, in the Incarnation Era (`am`) or the Era of the World
-/// (`aa`), where extended years are counted from the Incarnation Era. Fails with
-/// [`UnknownEraError`] for any other code.
+/// Returns the extended year, counted from the Incarnation Era, of an era year, -1040000 to 1040000, in the
+/// Incarnation Era (`am`) or the Era of the World (`aa`).
+///
+/// # Errors
+///
+/// - [`UnknownEraError`] if the code is neither `am` nor `aa`.
 fn year_from_incarnation(era: &[u8], year: i32) -> Result<i32, UnknownEraError>
     requires { IsFieldYear year }
     ensures { result ≡ era_read (incarnation_reads era.now year) }
@@ -301,7 +303,7 @@ fn world_year(year: i32, extended_year: i32) -> EraYear
     }
 }
 
-/// Returns an extended year in its era.
+/// Returns the era year of an extended year from -1040000 to 1040000.
 fn era_year(style: EthiopianEraStyle, year: i32) -> EraYear
     requires { IsFieldYear year }
     ensures { result ≡ ethiopian_era_year style year }
@@ -333,7 +335,7 @@ impl NamedYears for Ethiopian {
 
     ghost year_named = { λ s y. Era (ethiopian_era_year s.era_style y) };
 
-    // The years of one style have the same extended years. That dates of both can be compared is said below.
+    // Years of equal styles have the same extended years. Further below, dates of both styles can be compared.
     ghost compatible = { λ s t. is_same_style s.era_style t.era_style };
 
     fn owns_year(&self, year: NumberedYear) -> bool {

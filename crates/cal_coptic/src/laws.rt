@@ -7,7 +7,7 @@ ghost use Rattle.cal_coptic.specs.StyleOrder.{style_place};
 use crate::ethiopian::EthiopianEraStyle;
 use std::cmp::Ordering;
 
-/// Returns the order of two era styles: Amete Mihret is below Amete Alem.
+/// Era styles are ordered: Amete Mihret is less than Amete Alem.
 pub fn order_of_styles(first: EthiopianEraStyle, second: EthiopianEraStyle) -> Ordering
     ensures { result ≡ nat_cmp (style_place first) (style_place second) }
 {

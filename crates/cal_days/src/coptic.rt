@@ -9,14 +9,14 @@ use crate::rata_die::RataDie;
 /// The first day of year 1: 0284-08-29 in the proleptic Julian calendar.
 const FIRST_DAY_OF_YEAR_1: i64 = 103605;
 
-/// The days of 4 years, after which the leap years repeat.
+/// The number of days in 4 years, after which the leap years repeat.
 const DAYS_IN_4_YEARS: u32 = 1461;
 
-/// A number of years, in which the leap years repeat. Counted from so long before year 1, no valid day is
-/// negative, and unsigned division rounds down.
+/// A multiple of 4 years. Counting from this many years before year 1 keeps every valid day nonnegative, so that
+/// unsigned division rounds down.
 const YEARS_BEFORE: i32 = 1001000;
 
-/// The days of these years.
+/// The number of days in these years.
 const DAYS_BEFORE: i64 = 365615250;
 
 /// Returns the first day of a year from -8009999 to 8009999.
@@ -38,7 +38,7 @@ pub fn is_leap_year(year: i32) -> bool
     year.rem_euclid(4) == 3
 }
 
-/// Returns the year, and how many of its days have passed, both counted from 0.
+/// Returns the year that contains a day, and the day's index in it, all counted from 0.
 fn counted_year(days: u32) -> (u32, u32)
     requires { days < 731000000 }
     ensures value { coptic_days result.0 + result.1 ≡ days }
@@ -46,13 +46,13 @@ fn counted_year(days: u32) -> (u32, u32)
     ensures year { result.0 ≤ 2002000 }
     ensures bound { result.1 < 366 }
 {
-    // 4 times the days before a year is 1461 times the years before it, with 1 more or at most 2 less.
+    // 4 times the days before a year is 1461 times the years before it, plus at most 1 or minus at most 2.
     let scaled = 4 * days + 2;
     (scaled / DAYS_IN_4_YEARS, scaled % DAYS_IN_4_YEARS / 4)
 }
 
-/// Returns the year that contains a valid day, -365242499 to 365242134, and how many days of that year lie before the
-/// day.
+/// Returns the year that contains a valid day, -365242499 to 365242134, and the number of days in that year before
+/// the day.
 pub fn year_and_day_from_fixed(rd: RataDie) -> (i32, u16)
     requires { IsValidDay rd }
     ensures day { coptic_start result.0 +ℤ pos result.1 ≡ rd }

@@ -1,7 +1,7 @@
 //! The years of the proleptic Gregorian calendar (Reingold and Dershowitz, Calendrical Calculations,
 //! chapter 2).
 //!
-//! Days are found by years that begin on March 1, where a leap day comes last (Neri and Schneider, Euclidean
+//! Days are computed in years that begin on March 1, so that the leap day comes last (Neri and Schneider, Euclidean
 //! affine functions and their application to calendar algorithms, 2022).
 
 ghost use Rattle.std.specs.Prelude.{◌≡◌, ◌+◌, ◌<◌, ◌≤◌, ◌↔◌, IsTrue, pos, neg_ℤ, ◌+ℤ◌, ◌≤ℤ◌, ◌<ℤ◌};
@@ -13,20 +13,20 @@ ghost use Rattle.cal_days.specs.March.{march_days};
 use crate::easter::{FROM_MARCH_1_TO_APRIL_19, sunday_after, year_in_metonic_cycle};
 use crate::rata_die::RataDie;
 
-/// The days of 400 years, after which the leap years repeat.
+/// The number of days in 400 years, after which the leap years repeat.
 const DAYS_IN_400_YEARS: u32 = 146097;
 
 /// The day number of 0000-03-01.
 const MARCH_OF_YEAR_0: i64 = -305;
 
-/// A number of years, in which the leap years repeat. Counted from so long before year 0, no year here is
-/// negative, and unsigned division rounds down.
+/// A multiple of 400 years. Counting from this many years before year 0 keeps every year here nonnegative, so that
+/// unsigned division rounds down.
 const YEARS_BEFORE: i32 = 8400000;
 
-/// The days of these years.
+/// The number of days in these years.
 const DAYS_BEFORE: i64 = 3068037000;
 
-/// Returns the days of so many years that begin on March 1, counted from one that 400 divides.
+/// Returns the number of days in the first `years` years that begin on March 1, counted from a year that 400 divides.
 fn days_of_march_years(years: u32) -> u64
     requires { years ≤ 17000000 }
     ensures value { result ≡ march_days years }
@@ -63,11 +63,10 @@ pub fn is_leap_year(year: i32) -> bool
     year.rem_euclid(4) == 0 && (year.rem_euclid(25) != 0 || year.rem_euclid(16) == 0)
 }
 
-/// A number of years, in which the leap years repeat. Counted from March 1 so long before year 0, no valid day
-/// is negative.
+/// A multiple of 400 years. Counting from March 1 this many years before year 0 keeps every valid day nonnegative.
 const VALID_YEARS_BEFORE: i32 = 1000000;
 
-/// Returns how many days a valid day lies after March 1 of the year -1000000.
+/// Returns the number of days from March 1 of the year -1000000 to a valid day.
 fn days_since_march(rd: RataDie) -> u32
     requires { IsValidDay rd }
     ensures value { pos result ≡ rd +ℤ pos 365242805 }
@@ -76,7 +75,7 @@ fn days_since_march(rd: RataDie) -> u32
     (rd.to_i64_date() + 365242500 - MARCH_OF_YEAR_0) as u32
 }
 
-/// Returns the year that begins on March 1, and how many of its days have passed, both counted from 0.
+/// Returns the year that begins on March 1 and contains a day, and the day's index in it, all counted from 0.
 fn march_year(days: u32) -> (u32, u32)
     requires { days < 730500000 }
     ensures value { march_days result.0 + result.1 ≡ days }
@@ -90,8 +89,8 @@ fn march_year(days: u32) -> (u32, u32)
     (100 * century + in_century / 1461, in_century % 1461 / 4)
 }
 
-/// Returns the year on whose March 1, or after it within a year, a valid day lies, -365242499 to 365242134, and how
-/// many days it lies after that.
+/// Returns the year of the last March 1 on or before a valid day, -365242499 to 365242134, and the number of days
+/// from that March 1 to the day, 0 to 365.
 pub fn march_year_and_day_from_fixed(rd: RataDie) -> (i32, u16)
     requires { IsValidDay rd }
     ensures day { first_of_march result.0 +ℤ pos result.1 ≡ rd }
@@ -114,7 +113,7 @@ pub fn year_from_fixed(rd: RataDie) -> i32
     if day >= 306 { year + 1 } else { year }
 }
 
-/// Returns the century of a year; that of the years 1 to 99 is 1.
+/// Returns the century of a year: 1 for the years 0 to 99.
 fn century(year: i32) -> i64
     ensures value { result ≡ century_of year }
     ensures range { IsBetween (neg_ℤ (pos 21474836)) (pos 21474837) result }
@@ -122,8 +121,8 @@ fn century(year: i32) -> i64
     i64::from(year.div_euclid(100)) + 1
 }
 
-/// Returns the days from the full moon to April 19, before the moons that would be too late are set right. The moon
-/// falls behind with the leap days that centuries drop, and gains 8 days in 25 centuries.
+/// Returns the number of days from the full moon to April 19, before full moons that would be too late are corrected.
+/// The moon falls behind by the leap days that centuries drop, and gains 8 days in 25 centuries.
 fn shifted_epact(metonic: u32, century: i64) -> u32
     requires year { metonic < 19 }
     requires century { IsBetween (neg_ℤ (pos 21474836)) (pos 21474837) century }
@@ -135,15 +134,15 @@ fn shifted_epact(metonic: u32, century: i64) -> u32
     (i64::from(14 + 11 * metonic) - dropped + gained).rem_euclid(30) as u32
 }
 
-/// Returns whether the full moon comes a day earlier than its epact says, so that it is on April 18 at the latest, and
-/// on no day twice in 19 years.
+/// Returns whether the full moon comes a day earlier than its epact says. This keeps it on April 18 at the latest,
+/// and never on the same day twice in 19 years.
 fn is_full_moon_earlier(epact: u32, metonic: u32) -> bool
     ensures { result ≡ is_moon_earlier epact metonic }
 {
     epact == 0 || (epact == 1 && metonic > 10)
 }
 
-/// Returns the days from the ecclesiastical full moon to April 19.
+/// Returns the number of days from the ecclesiastical full moon to April 19.
 fn adjusted_epact(year: i32) -> u32
     ensures value { result ≡ gregorian_epact year }
     ensures bound { result < 31 }
@@ -153,7 +152,8 @@ fn adjusted_epact(year: i32) -> u32
     epact + u32::from(is_full_moon_earlier(epact, metonic))
 }
 
-/// Returns the leap days of the years from 1 to `year`; below year 1, those of the years after it are taken away.
+/// Returns the number of leap days in the years 1 to `year`. If `year` is below 1, returns minus the number of leap
+/// days in the years `year + 1` to 0.
 fn leap_days_through(year: i32) -> i32
     ensures value { result ≡ leap_days_through year }
     ensures range { IsBetween (neg_ℤ (pos 600000000)) (pos 600000000) result }
@@ -170,10 +170,9 @@ fn april_19(year: i32) -> i64
     days + MARCH_OF_YEAR_0 + FROM_MARCH_1_TO_APRIL_19
 }
 
-/// Returns the day of Easter in a year of the Gregorian calendar: the first Sunday after the ecclesiastical full moon.
-/// The rule is carried on to all years, before the reform of 1582 and below year 1 too.
-///
-/// The source is Reingold and Dershowitz, Calendrical Calculations, chapter 9.
+/// Returns the day of Easter in a year of the Gregorian calendar: the first Sunday after the ecclesiastical full
+/// moon. The rule is extended to all years, including those before the reform of 1582 and before year 1. (Reingold
+/// and Dershowitz, Calendrical Calculations, chapter 9)
 pub fn easter(year: i32) -> RataDie
     ensures { IsGregorianEaster year result }
 {

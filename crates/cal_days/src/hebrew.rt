@@ -1,7 +1,7 @@
 //! The years of the Hebrew calendar (Reingold and Dershowitz, Calendrical Calculations, chapter 8).
 //!
-//! A year starts with the mean new moon, the molad, of its first month, or up to two days later. The moons follow
-//! each other every 29 days and 13753 parts of a day, of which a day has 25920. Of 19 years 7 have 13 months.
+//! A year starts on the day of the mean new moon (molad) of its first month, or up to two days later. From one mean
+//! new moon to the next are 29 days and 13753 parts; a day has 25920 parts. Of 19 years, 7 have 13 months.
 
 ghost use Rattle.std.specs.Prelude.{◌≡◌, ◌<◌, ◌≤◌, ◌%◌, ◌↔◌, IsTrue, pos, neg_ℤ, ◌+ℤ◌, ◌-ℤ◌, ◌*ℤ◌, ◌≤ℤ◌, ◌<ℤ◌};
 ghost use Rattle.cal_days.specs.Day.{IsBetween, IsRuleYear, IsValidDay};
@@ -11,36 +11,36 @@ ghost use Rattle.cal_days.specs.Molad.{follows_382_days, has_356_days, is_shunne
 
 use crate::rata_die::RataDie;
 
-/// The parts of a day.
+/// The number of parts in a day.
 const PARTS_IN_DAY: u64 = 25920;
 
-/// The parts from one new moon to the next: 29 days and 13753 parts.
+/// The number of parts from one new moon to the next: 29 days and 13753 parts.
 const PARTS_IN_MONTH: u64 = 765433;
 
-/// The parts from the Sunday before year 1 to that year's new moon, where each day counts from noon: a moon from
-/// noon on counts for the next day.
+/// The number of parts from the Sunday before year 1 to the new moon of year 1. Days begin at noon here: a new moon
+/// at noon or later counts for the next day.
 const PARTS_BEFORE_YEAR_1: u64 = 38004;
 
-/// A number of years, in which the years repeat. Counted from so long before year 0, no year here is negative, and
-/// unsigned division rounds down.
+/// A multiple of the years after which the calendar repeats. Counting from this many years before year 0 keeps every
+/// year here nonnegative, so that unsigned division rounds down.
 const YEARS_BEFORE: i32 = 8273664;
 
-/// The days of these years, and from the Sunday before year 1 to day 0.
+/// The number of days in these years, plus the days from the Sunday before year 1 to day 0.
 const DAYS_BEFORE: i64 = 3023302912;
 
-/// The mean new moon, or molad, of a year's first month.
+/// The mean new moon (molad) of a year's first month.
 #[derive(Clone, Copy)]
 struct Molad {
     /// The day, counted from a Sunday.
     day: u64,
-    /// The parts of that day that have passed since noon of the day before.
+    /// The number of parts since noon of the day before.
     part: u64,
-    /// What division by 19 leaves of the months before the year: below 7 if the year before has 13 months,
-    /// and from 12 on if this year has.
+    /// `235 * year - 234` modulo 19, which is below 7 if the year before has 13 months, and at least 12 if this year
+    /// has 13 months.
     left: u32,
 }
 
-/// Returns the new moon with which a year begins.
+/// Returns the mean new moon of the first month of a year from -8000001 to 8000001.
 fn molad_of(year: i32) -> Molad
     requires { IsBetween (neg_ℤ (pos 8000001)) (pos 8000001) year }
     ensures day { pos result.day ≡ moon_day year +ℤ pos 3021929485 }
@@ -57,7 +57,7 @@ fn molad_of(year: i32) -> Molad
     }
 }
 
-/// Returns whether no year starts on a weekday, of which Sunday is 0: on a Sunday, a Wednesday or a Friday.
+/// Returns whether no year starts on this weekday (0 is Sunday): Sunday, Wednesday and Friday.
 fn is_weekday_shunned(weekday: u64) -> bool
     ensures { result ≡ is_shunned weekday }
 {
@@ -78,8 +78,8 @@ fn is_after_too_short(weekday: u64, moon: Molad) -> bool
     weekday == 1 && moon.part >= 23269 && moon.left < 7
 }
 
-/// Returns by how many days a year starts after its new moon. At most one of the reasons holds, on one weekday or
-/// another.
+/// Returns the number of days from the day of the new moon to the first day of the year. At most one of the reasons
+/// for a delay applies, since they need different weekdays.
 fn days_put_off(moon: Molad) -> u64
     ensures { result ≡ postponement (moon.day % 7) moon.part moon.left }
 {
@@ -89,7 +89,7 @@ fn days_put_off(moon: Molad) -> u64
         + u64::from(is_after_too_short(weekday, moon))
 }
 
-/// Returns the first day of a year.
+/// Returns the first day of a year from -8000001 to 8000001.
 fn first_day(year: i32) -> RataDie
     requires { IsBetween (neg_ℤ (pos 8000001)) (pos 8000001) year }
     ensures { result ≡ hebrew_start year }
@@ -107,7 +107,7 @@ pub fn year_start(year: i32) -> RataDie
     first_day(year)
 }
 
-/// Returns how many days a year from -8000000 to 8000000 has: 353, 354 or 355, or as a leap year 383, 384 or 385.
+/// Returns the number of days in a year from -8000000 to 8000000: 353, 354 or 355, or 383, 384 or 385 in a leap year.
 pub fn year_length(year: i32) -> u16
     requires { IsRuleYear year }
     ensures value { result ≡ hebrew_year_length year }
@@ -124,20 +124,21 @@ pub fn is_leap_year(year: i32) -> bool
     (7 * i64::from(year) + 1).rem_euclid(19) < 7
 }
 
-/// A number of years, in which the years repeat. Counted from so long before year 0, no valid day is negative.
+/// A multiple of the years after which the calendar repeats. Counting from this many years before year 0 keeps every
+/// valid day nonnegative.
 const VALID_YEARS_BEFORE: i32 = 1378944;
 
-/// The days of these years, those from the first day of year 1 to day 0, and 400 more.
+/// The number of days in these years, plus the days from the first day of year 1 to day 0, plus 400.
 const VALID_DAYS_BEFORE: i64 = 505028741;
 
-/// Returns the year that contains a valid day, or the one after it.
+/// Returns the year that contains a valid day, or the year after it.
 fn near_year(rd: RataDie) -> i32
     requires { IsValidDay rd }
     ensures low { hebrew_start (result -ℤ pos 1) ≤ℤ rd }
     ensures high { rd <ℤ hebrew_start (result +ℤ pos 1) }
     ensures range { IsBetween (neg_ℤ (pos 1100000)) (pos 1100000) result }
 {
-    // 98496 years have 35975351 days, to within 32 days. 400 days more than those since the epoch make up for these.
+    // 98496 years have 35975351 days, to within 32 days. The 400 extra days make up for the difference.
     let days = (rd.to_i64_date() + VALID_DAYS_BEFORE) as u64;
     (98496 * days / 35975351) as i32 - VALID_YEARS_BEFORE
 }
@@ -149,11 +150,11 @@ pub struct DayInYear {
     pub year: i32,
     /// The day of that year, from 0.
     pub day: u16,
-    /// How many days the year has.
+    /// The number of days in the year.
     pub year_length: u16,
 }
 
-/// Returns a day in a year, whose first day and the next year's are given.
+/// Returns a day in its year. `first` and `next` are the first day of that year and of the next year.
 fn day_in_year(rd: RataDie, year: i32, first: RataDie, next: RataDie) -> DayInYear
     requires first { first ≡ hebrew_start year }
     requires next { next ≡ hebrew_start (year +ℤ pos 1) }
@@ -170,8 +171,8 @@ fn day_in_year(rd: RataDie, year: i32, first: RataDie, next: RataDie) -> DayInYe
     }
 }
 
-/// Returns the year that contains a valid day, -365242499 to 365242134, with its length, and which day of the year it
-/// is.
+/// Returns the year that contains a valid day, -365242499 to 365242134, with the year's length and the day's index in
+/// the year.
 pub fn day_in_year_from_fixed(rd: RataDie) -> DayInYear
     requires { IsValidDay rd }
     ensures day { hebrew_start result.year +ℤ pos result.day ≡ rd }

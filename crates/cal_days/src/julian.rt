@@ -1,6 +1,6 @@
 //! The years of the Julian calendar (Reingold and Dershowitz, Calendrical Calculations, chapter 3).
 //!
-//! Days are found by years that begin on March 1, where a leap day comes last, as those of the Gregorian calendar.
+//! Days are computed in years that begin on March 1, so that the leap day comes last, as for the Gregorian calendar.
 
 ghost use Rattle.std.specs.Prelude.{◌≡◌, ◌+◌, ◌<◌, ◌≤◌, ◌↔◌, IsTrue, pos, neg_ℤ, ◌+ℤ◌, ◌≤ℤ◌, ◌<ℤ◌};
 ghost use Rattle.cal_days.specs.Day.{IsBetween, IsRuleYear, IsValidDay};
@@ -14,24 +14,23 @@ use crate::rata_die::RataDie;
 /// The first day of year 1: 0000-12-30 in the proleptic Gregorian calendar.
 const FIRST_DAY_OF_YEAR_1: i64 = -1;
 
-/// The days of 4 years, after which the leap years repeat.
+/// The number of days in 4 years, after which the leap years repeat.
 const DAYS_IN_4_YEARS: u32 = 1461;
 
 /// The day number of March 1 of year 0.
 const MARCH_OF_YEAR_0: i64 = -307;
 
-/// A number of years, in which the leap years repeat. Counted from so long before year 0, no year here is
-/// negative, and unsigned division rounds down.
+/// A multiple of 4 years. Counting from this many years before year 0 keeps every year here nonnegative, so that
+/// unsigned division rounds down.
 const YEARS_BEFORE: i32 = 8400000;
 
-/// The days of these years.
+/// The number of days in these years.
 const DAYS_BEFORE: i64 = 3068100000;
 
-/// A number of years, in which the leap years repeat. Counted from March 1 so long before year 0, no valid day
-/// is negative.
+/// A multiple of 4 years. Counting from March 1 this many years before year 0 keeps every valid day nonnegative.
 const VALID_YEARS_BEFORE: i32 = 1000000;
 
-/// The days of these years.
+/// The number of days in these years.
 const VALID_DAYS_BEFORE: i64 = 365250000;
 
 /// Returns the first day of a year from -8000000 to 8000000.
@@ -53,7 +52,7 @@ pub fn is_leap_year(year: i32) -> bool
     year.rem_euclid(4) == 0
 }
 
-/// Returns the days of so many years that begin on March 1, counted from one that 4 divides.
+/// Returns the number of days in the first `years` years that begin on March 1, counted from a year that 4 divides.
 fn days_of_march_years(years: u32) -> u64
     requires { years ≤ 17000000 }
     ensures value { result ≡ julian_march_days years }
@@ -71,7 +70,7 @@ pub fn march_start(year: i32) -> RataDie
     RataDie::new(days - DAYS_BEFORE + MARCH_OF_YEAR_0)
 }
 
-/// Returns how many days a valid day lies after March 1 of the year -1000000.
+/// Returns the number of days from March 1 of the year -1000000 to a valid day.
 fn days_since_march(rd: RataDie) -> u32
     requires { IsValidDay rd }
     ensures value { pos result ≡ rd +ℤ pos 365250307 }
@@ -80,7 +79,7 @@ fn days_since_march(rd: RataDie) -> u32
     (rd.to_i64_date() + VALID_DAYS_BEFORE - MARCH_OF_YEAR_0) as u32
 }
 
-/// Returns the year that begins on March 1, and how many of its days have passed, both counted from 0.
+/// Returns the year that begins on March 1 and contains a day, and the day's index in it, all counted from 0.
 fn march_year(days: u32) -> (u32, u32)
     requires { days < 730500000 }
     ensures value { julian_march_days result.0 + result.1 ≡ days }
@@ -92,8 +91,8 @@ fn march_year(days: u32) -> (u32, u32)
     (scaled / DAYS_IN_4_YEARS, scaled % DAYS_IN_4_YEARS / 4)
 }
 
-/// Returns the year on whose March 1, or after it within a year, a valid day lies, -365242499 to 365242134, and how
-/// many days it lies after that.
+/// Returns the year of the last March 1 on or before a valid day, -365242499 to 365242134, and the number of days
+/// from that March 1 to the day, 0 to 365.
 pub fn march_year_and_day_from_fixed(rd: RataDie) -> (i32, u16)
     requires { IsValidDay rd }
     ensures day { julian_first_of_march result.0 +ℤ pos result.1 ≡ rd }
@@ -116,7 +115,7 @@ pub fn year_from_fixed(rd: RataDie) -> i32
     if day >= 306 { year + 1 } else { year }
 }
 
-/// Returns the days from the ecclesiastical full moon to April 19.
+/// Returns the number of days from the ecclesiastical full moon to April 19.
 fn epact(year: i32) -> u32
     ensures value { result ≡ julian_epact year }
     ensures bound { result < 30 }
@@ -133,10 +132,9 @@ fn april_19(year: i32) -> i64
     days + MARCH_OF_YEAR_0 + FROM_MARCH_1_TO_APRIL_19
 }
 
-/// Returns the day of Easter in a year of the Julian calendar: the first Sunday after the ecclesiastical full moon. The
-/// rule is carried on to all years, below year 1 too.
-///
-/// The source is Reingold and Dershowitz, Calendrical Calculations, chapter 9.
+/// Returns the day of Easter in a year of the Julian calendar: the first Sunday after the ecclesiastical full moon.
+/// The rule is extended to all years, including those before year 1. (Reingold and Dershowitz, Calendrical
+/// Calculations, chapter 9)
 pub fn easter(year: i32) -> RataDie
     ensures { IsJulianEaster year result }
 {

@@ -1,6 +1,6 @@
 //! The years of the Persian calendar by the rule of 33 years.
 //!
-//! Of 33 years 8 are leap years. The rule gives the years of the calendar's observed equinoxes but for some, which
+//! Of 33 years, 8 are leap years. The rule agrees with the calendar's observed equinoxes except in some years, which
 //! a calendar corrects one by one.
 
 ghost use Rattle.std.specs.Prelude.{◌≡◌, ◌↔◌, IsTrue, pos, neg_ℤ, ◌+ℤ◌, ◌≤ℤ◌, ◌<ℤ◌};
@@ -12,17 +12,17 @@ use crate::rata_die::RataDie;
 /// The first day of year 1: 0622-03-22 in the proleptic Gregorian calendar.
 const FIRST_DAY_OF_YEAR_1: i64 = 226895;
 
-/// The years after which the leap years repeat.
+/// The number of years after which the leap years repeat.
 const YEARS_IN_CYCLE: u64 = 33;
 
-/// Their days.
+/// The number of days in these years.
 const DAYS_IN_CYCLE: u64 = 12053;
 
-/// A number of years, in which the leap years repeat. Counted from so long before year 1, no valid day is
-/// negative, and unsigned division rounds down.
+/// A multiple of 33 years. Counting from this many years before year 1 keeps every valid day nonnegative, so that
+/// unsigned division rounds down.
 const YEARS_BEFORE: i32 = 1023000;
 
-/// The days of these years.
+/// The number of days in these years.
 const DAYS_BEFORE: i64 = 373643000;
 
 /// Returns the first day of a year from -8000000 to 8000000.
@@ -54,7 +54,7 @@ pub fn year_from_fixed(rd: RataDie) -> i32
     ensures last { rd <ℤ persian_start (result +ℤ pos 1) }
     ensures range { IsBetween (neg_ℤ (pos 1000621)) (pos 999378) result }
 {
-    // 33 times the days before a year is 12053 times the years before it, less at most 3, rounded up to a multiple
+    // 33 times the days before a year is 12053 times the years before it, minus at most 3, rounded up to a multiple
     // of 33.
     let days = (rd.to_i64_date() - FIRST_DAY_OF_YEAR_1 + DAYS_BEFORE) as u64;
     let years = (YEARS_IN_CYCLE * days + 3) / DAYS_IN_CYCLE;

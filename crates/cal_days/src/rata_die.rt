@@ -13,7 +13,7 @@ const MAX: i64 = 36028797018963967;
 
 /// A day number, from -2^55 to 2^55 - 1: day 1 is 0001-01-01 in the proleptic Gregorian calendar.
 ///
-/// The name and the count are those of Reingold and Dershowitz, Calendrical Calculations.
+/// The name and the numbering are from Reingold and Dershowitz, Calendrical Calculations.
 #[derive(Clone, Copy, Debug, PartialEq, Eq, PartialOrd, Ord, Hash)]
 pub struct RataDie {
     day: i64,
@@ -33,7 +33,7 @@ impl Model for RataDie {
 }
 
 impl RataDie {
-    /// Returns the day of a number from -2^55 to 2^55 - 1.
+    /// Creates the day with a number from -2^55 to 2^55 - 1.
     ///
     /// ```
     /// let day = RataDie::new(738946); // 2024-03-01
@@ -58,7 +58,7 @@ impl RataDie {
         self.day
     }
 
-    /// Returns how many days lie from `other` to this day; negative if this day is the earlier one.
+    /// Returns the number of days from `other` to this day, which is negative if this day is earlier.
     ///
     /// ```
     /// assert!(rt; RataDie::new(738946).since(RataDie::new(738915)) == 31); // from 2024-01-30
@@ -69,8 +69,8 @@ impl RataDie {
         self.day - other.day
     }
 
-    /// Returns the day that lies `days` days later, or earlier if `days` is negative. `None` exactly if its
-    /// number isn't from -2^55 to 2^55 - 1.
+    /// Returns the day `days` days later, or earlier if `days` is negative. Returns `None` exactly if its number
+    /// isn't from -2^55 to 2^55 - 1.
     ///
     /// ```
     /// assert!(rt; RataDie::new(738946).checked_add(-1) == Some(RataDie::new(738945)));

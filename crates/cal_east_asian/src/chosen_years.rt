@@ -11,7 +11,7 @@ use crate::east_asian_row::EastAsianRow;
 use crate::east_asian_traditional_year::EastAsianTraditionalYear;
 use crate::sides::Side;
 
-/// Returns the year of the row at an index, counted from 0.
+/// Returns the year of the row at an index, counted from 0, if there is one.
 pub(crate) fn row_at(rows: &[EastAsianRow], index: usize) -> Option<EastAsianTraditionalYear>
     ensures { result ≡ slice_get (years_of rows.now) index }
 {
@@ -21,7 +21,8 @@ pub(crate) fn row_at(rows: &[EastAsianRow], index: usize) -> Option<EastAsianTra
     }
 }
 
-/// Returns the row of a year. Rows are consecutive, so its index follows from the year of the first row.
+/// Returns the row of a year, if it has one. Rows are consecutive, so its index follows from the year of the first
+/// row.
 fn row_of(rows: &[EastAsianRow], related_iso: i32) -> Option<EastAsianTraditionalYear>
     requires { IsRuleYear related_iso }
     ensures { result ≡ table.row_of (years_of rows.now) related_iso }

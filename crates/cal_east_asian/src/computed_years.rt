@@ -21,7 +21,7 @@ use cal_days::{RataDie, gregorian};
 /// Beijing's mean time, in milliseconds from Greenwich.
 const BEIJING_MEAN_TIME: i64 = 27_940_000;
 
-/// The mean new moon that 1900 begins with.
+/// The number of the mean new moon with which the year 1900 begins.
 const FIRST_MOON_OF_1900: i64 = -1236;
 
 /// Returns the standard time from 1912 on, in milliseconds from Greenwich.
@@ -35,10 +35,10 @@ fn standard_offset(side: Side) -> i64
     }
 }
 
-/// Returns the year of a number without a row, from -8000000 to 8000000.
+/// Returns the computed year with a number from -8000000 to 8000000.
 ///
-/// From 1912 on it is the mean year at the standard time, from 1900 to 1911 the year of the Qing calendar, and before
-/// 1900 the mean year at Beijing's mean time.
+/// From 1912 on it is the mean year at the standard time. From 1900 to 1911 it is the year of the Qing calendar.
+/// Before 1900 it is the mean year at Beijing's mean time.
 pub(crate) fn computed_year(side: Side, related_iso: i32) -> EastAsianTraditionalYear
     requires { IsRuleYear related_iso }
     ensures exact { result ≡ computed.computed_year side related_iso }
@@ -59,7 +59,8 @@ pub(crate) fn computed_year(side: Side, related_iso: i32) -> EastAsianTraditiona
 
 /// Returns the computed year that contains a valid day.
 ///
-/// Each year starts within the ISO year of its number, so it is the year of the day's ISO year, or the year before.
+/// Each year starts within the ISO year of its number, so the result is the year of the day's ISO year, or the year
+/// before.
 pub(crate) fn computed_year_containing_rd(side: Side, rd: RataDie) -> EastAsianTraditionalYear
     requires { IsValidDay rd }
     ensures exact { result ≡ computed.computed_year side result.related_iso }
@@ -76,9 +77,9 @@ pub(crate) fn computed_year_containing_rd(side: Side, rd: RataDie) -> EastAsianT
     }
 }
 
-/// Returns the number of the mean new moon that a computed year begins with.
+/// Returns the number of the mean new moon with which a computed year begins.
 ///
-/// The Qing years also begin and end with such moons, and every third of them has a leap month, from 1900 on.
+/// The Qing years also begin and end with mean new moons. From 1900 on, every third of them has a leap month.
 fn computed_first_moon(side: Side, year: i32) -> i64
     requires { IsRuleYear year }
     ensures exact { result ≡ computed.computed_first_moon side year }
@@ -94,9 +95,9 @@ fn computed_first_moon(side: Side, year: i32) -> i64
     i64::from(12 * years + (years + 2) / 3) + FIRST_MOON_OF_1900
 }
 
-/// Returns the number of months of the computed years from one year up to the year before another one.
+/// Returns the number of months in the computed years from `from` up to the year before `to`.
 ///
-/// Both are from -8000000 to 8000000. The number is negative if the other one is earlier.
+/// Both are from -8000000 to 8000000. The number is negative if `to` is earlier.
 pub(crate) fn computed_months_between(side: Side, from: i32, to: i32) -> i64
     requires from { IsRuleYear from }
     requires to { IsRuleYear to }

@@ -1,5 +1,5 @@
-//! The months of a Chinese or Korean year, from the place of its leap month (0 without one) and the bits of its months of
-//! 30 days (bit 0 for the first month).
+//! The months of a Chinese or Korean year, determined by the ordinal month of its leap month (0 without one) and the
+//! bits of its months of 30 days (bit 0 for the first month).
 
 ghost use Rattle.std.specs.Prelude.{◌≡◌, ◌-◌, ◌≤◌, sum_by};
 ghost use Rattle.cal_types.specs.MonthParts.{month_parts};
@@ -10,7 +10,7 @@ ghost use Rattle.cal_east_asian.specs.EastAsianPlaces.{days_of_months, east_asia
 
 use cal_types::{LeapStatus, Month, MonthError, Overflow};
 
-/// Returns the number of months of a year.
+/// Returns the number of months in a year.
 pub(crate) fn months_in_year(leap_month: u8) -> u8
     ensures value { result ≡ months_of_year leap_month }
     ensures bound { result ≤ 13 }
@@ -18,7 +18,7 @@ pub(crate) fn months_in_year(leap_month: u8) -> u8
     if leap_month == 0 { 12 } else { 13 }
 }
 
-/// Returns the number of days of the month in a place.
+/// Returns the number of days in an ordinal month.
 pub(crate) fn days_in_month(long_months: u16, place: u8) -> u8
     requires { (1 ≤ place) × (place ≤ 13) }
     ensures value { result ≡ month_days long_months place }
@@ -27,7 +27,7 @@ pub(crate) fn days_in_month(long_months: u16, place: u8) -> u8
     29 + ((long_months >> (place - 1)) % 2) as u8
 }
 
-/// Returns the number of days of the year before the month in a place.
+/// Returns the number of days in the year before an ordinal month.
 pub(crate) fn days_before_month(long_months: u16, place: u8) -> u16
     requires { (1 ≤ place) × (place ≤ 13) }
     ensures value { result ≡ days_of_months long_months (place - 1) }
@@ -42,7 +42,7 @@ pub(crate) fn days_before_month(long_months: u16, place: u8) -> u16
     days
 }
 
-/// Returns the number of days of a year.
+/// Returns the number of days in a year.
 pub(crate) fn days_in_year(leap_month: u8, long_months: u16) -> u16
     ensures value { result ≡ sum_by days_of (year_entries leap_month long_months) }
     ensures bound { result ≤ 420 }
@@ -58,7 +58,7 @@ pub(crate) fn is_east_asian(month: Month) -> bool
     1 <= month.number() && month.number() <= 12
 }
 
-/// Returns the month in a place. The leap month has the number of the month before it.
+/// Returns the month at an ordinal number. The leap month has the number of the month before it.
 pub(crate) fn month_in_place(leap_month: u8, place: u8) -> Month
     requires { (1 ≤ place) × (place ≤ 13) }
     ensures { month_parts result ≡ month_placed leap_month place }
@@ -72,7 +72,7 @@ pub(crate) fn month_in_place(leap_month: u8, place: u8) -> Month
     }
 }
 
-/// Returns the place of a plain month, 1 to 12.
+/// Returns the ordinal month of a plain month, 1 to 12.
 fn place_of_plain_month(leap_month: u8, number: u8) -> u8
     requires { number ≤ 12 }
     ensures { result ≡ plain_month_place leap_month number }
@@ -84,10 +84,13 @@ fn place_of_plain_month(leap_month: u8, number: u8) -> u8
     }
 }
 
-/// Returns the place of a month.
+/// Returns the ordinal month of a month. Under [`Overflow::Constrain`], the plain month of its number stands in for a
+/// leap month that doesn't occur in the year.
 ///
-/// A leap month that doesn't occur in the year is an error, or with [`Overflow::Constrain`] the plain month of its
-/// number.
+/// # Errors
+///
+/// - [`MonthError::NotInCalendar`] if the month isn't one of the months 1 to 12, plain or leap.
+/// - [`MonthError::NotInYear`] if a leap month doesn't occur in the year and `overflow` is [`Overflow::Reject`].
 pub(crate) fn place_of_month(
     leap_month: u8,
     month: Month,
@@ -110,7 +113,7 @@ pub(crate) fn place_of_month(
     }
 }
 
-/// Returns the relation of the month in a place to the leap month: the month right before the leap month is its base.
+/// Returns the leap status of an ordinal month. The month right before the leap month is its base.
 pub(crate) fn leap_status(leap_month: u8, place: u8) -> LeapStatus
     requires { place ≤ 13 }
     ensures { result ≡ leap_status_of_place leap_month place }

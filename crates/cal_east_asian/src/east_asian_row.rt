@@ -12,12 +12,12 @@ use cal_days::gregorian;
 
 /// A year of an [`EastAsianTable`](crate::EastAsianTable) as plain data, which a `static` can hold.
 ///
-/// A row names a year if each field is within its range. Every year has exactly one such row.
-/// [`EastAsianTable::try_new`](crate::EastAsianTable::try_new) rejects any other row, and tests whether the rows follow
-/// one another.
+/// A row names a year if every field is within its range. Every year has exactly one row that names it.
+/// [`EastAsianTable::try_new`](crate::EastAsianTable::try_new) rejects any other row, and checks whether the rows
+/// follow one another.
 ///
-/// The Chinese year 2023 begins on 2023-01-22, 3 days after January 19. Its third month is the leap month 2, and its
-/// months in the places 2, 5, 6, 8, 9, 11 and 13 have 30 days:
+/// The Chinese year 2023 begins on 2023-01-22, 3 days after January 19. Its ordinal month 3 is the leap month 2, and
+/// its ordinal months 2, 5, 6, 8, 9, 11 and 13 have 30 days:
 ///
 /// ```
 /// static YEAR_2023: EastAsianRow = EastAsianRow {
@@ -35,20 +35,20 @@ pub struct EastAsianRow {
     /// The months of 30 days: bit 0 is set for the first month, up to bit 11, or bit 12 with a leap month. The other
     /// months have 29 days, and the bits above are 0.
     pub long_months: u16,
-    /// The place of the leap month, from 2 to 13, or 0 without one.
+    /// The ordinal month of the leap month, from 2 to 13, or 0 without one.
     pub leap_month: u8,
-    /// The number of days from January 19 of its number to the first day of the year, 0 to 34.
+    /// The number of days from January 19 of the ISO year `related_iso` to the first day of the year, 0 to 34.
     pub start_offset: u8,
 }
 
-/// Returns whether a leap month may have this place, or is missing for 0.
+/// Returns whether a leap month may have this ordinal number, which is 0 for no leap month.
 fn is_leap_place(place: u8) -> bool
     ensures { result ≡ is_leap_place place }
 {
     place == 0 || (2 <= place && place <= 13)
 }
 
-/// Returns whether bits belong to months of a year with its leap month in a place, or without one for 0.
+/// Returns whether the bits belong to months of a year with this leap month, which is 0 for none.
 fn are_bits_of_months(long_months: u16, leap_month: u8) -> bool
     ensures { result ≡ nat_lt long_months (2 ^ months_of_year leap_month) }
 {
@@ -66,7 +66,7 @@ fn is_rule_year(year: i32) -> bool
     -8000000 <= year && year <= 8000000
 }
 
-/// Returns the place of a leap month, or 0 if no year can have one there.
+/// Returns the ordinal month of a leap month, or 0 if no year can have a leap month there.
 fn place_or_none(place: u8) -> u8
     ensures value { result ≡ place_or_none place }
     ensures valid { IsTrue (is_leap_place result) }
@@ -74,7 +74,8 @@ fn place_or_none(place: u8) -> u8
     if is_leap_place(place) { place } else { 0 }
 }
 
-/// Returns the bits of the months of a year with its leap month in a place, or without one for 0.
+/// Returns the bits of the months of a year with this leap month, which is 0 for none. The bits above them are
+/// cleared.
 fn bits_of_months(long_months: u16, leap_month: u8) -> u16
     ensures value { result ≡ long_months % 2 ^ months_of_year leap_month }
     ensures few { result < 2 ^ months_of_year leap_month }
@@ -97,8 +98,8 @@ fn nearest_rule_year(year: i32) -> i32
 impl EastAsianRow {
     /// Returns the year that the row names.
     ///
-    /// If the row names no year, each field out of its range is taken as the nearest value within it, the place of a
-    /// leap month as 0, and the bits above those of the months as 0.
+    /// If the row names no year, a year number or an offset that is out of range counts as the nearest value within
+    /// its range. A leap month that is out of range counts as 0, and so do the bits above the bits of the months.
     ///
     /// # Examples
     ///
@@ -125,7 +126,7 @@ impl EastAsianRow {
         )
     }
 
-    /// Returns whether each field is within its range, so that the row names a year.
+    /// Returns whether every field is within its range, so that the row names a year.
     pub(crate) fn names_year(self) -> bool
         ensures { result ≡ names_year self }
     {

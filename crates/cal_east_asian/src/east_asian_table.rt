@@ -22,14 +22,15 @@ use cal_types::{LengthenFault, TableFault, first_difference};
 
 /// Consecutive years for China or for Korea, which replace the computed years of the same numbers.
 ///
-/// The years are from 1912 to 9999, and each row names its year. Each row starts on the day after the year before it, and
-/// the computed year after the last row on the day after that row. One of any three consecutive years has a leap month.
+/// The years are from 1912 to 9999, and each row names its year. Each row starts on the day after the year before it.
+/// The computed year after the last row starts on the day after that row. One of any three consecutive years has a
+/// leap month.
 ///
-/// [`EastAsianTable::try_new`] tests rows. [`EastAsianTable::none`] creates a table without rows.
+/// [`EastAsianTable::try_new`] checks rows. [`EastAsianTable::none`] creates a table without rows.
 #[derive(Clone, Copy, Debug)]
 pub struct EastAsianTable<'t> {
     side: Side,
-    /// The number of rows with a leap month, so that sums and differences over all rows needn't read each row.
+    /// The number of rows with a leap month, so that sums and differences over all rows don't have to read each row.
     leap_rows: u32,
     rows: &'t [EastAsianRow],
     ghost accepted: { IsAccepted (computed_year side) (years_of rows.now) },
@@ -59,10 +60,10 @@ impl<'t> EastAsianTable<'t> {
         }
     }
 
-    /// Creates a table from rows that are known to be accepted for a side, without testing them. For constant data,
+    /// Creates a table from rows that are known to be accepted for a side, without checking them. For constant data,
     /// acceptance can be proved by computation.
     ///
-    /// The leap months are counted; [`EastAsianTable::with_leap_rows`] reads no row.
+    /// The rows with a leap month are counted; [`EastAsianTable::with_leap_rows`] reads no row.
     ///
     /// ```text
     /// let table = EastAsianTable::new(Side::China, &ROWS);
@@ -79,8 +80,8 @@ impl<'t> EastAsianTable<'t> {
         }
     }
 
-    /// Creates a table from rows that are known to be accepted for a side, and the number of those with a leap month. No
-    /// row is read.
+    /// Creates a table from rows that are known to be accepted for a side, and the number of rows with a leap month.
+    /// No row is read.
     ///
     /// ```text
     /// static ROWS: [EastAsianRow; 188] = ..; // 1912 to 2099
@@ -114,13 +115,13 @@ impl<'t> EastAsianTable<'t> {
     ///   ([`EastAsianRow`]).
     /// - [`Year`](cal_types::TablePart::Year) if the year of the first row is below 1912, the year of another row isn't
     ///   one more than the year of the row before it, or a year is above 9999.
-    /// - [`Join`](cal_types::TablePart::Join) if the row doesn't start on the day after the row before it, or the first
-    ///   row not on the day after the computed year before it.
-    /// - [`End`](cal_types::TablePart::End) if the computed year after the last row doesn't start on the day after that
-    ///   row.
+    /// - [`Join`](cal_types::TablePart::Join) if the row doesn't start on the day after the row before it, or the
+    ///   first row doesn't start on the day after the computed year before it.
+    /// - [`End`](cal_types::TablePart::End) if the computed year after the last row doesn't start on the day after
+    ///   that row.
     /// - [`Leap`](cal_types::TablePart::Leap) if neither the row's year nor one of the two years before it has a leap
-    ///   month. The last row breaks it also if this is so for the first or the second year after it. A year without a
-    ///   row counts as its computed year.
+    ///   month. The last row also breaks this rule if the same holds for the first or the second year after it. A
+    ///   year without a row counts as its computed year.
     ///
     /// # Examples
     ///
@@ -144,17 +145,17 @@ impl<'t> EastAsianTable<'t> {
         }
     }
 
-    /// Creates a table for the same side from longer rows, which begin with the rows of this table. Every year that isn't
-    /// among the added rows keeps its first day and its months.
+    /// Creates a table for the same side from longer rows, which begin with the rows of this table. Every year that
+    /// isn't among the added rows keeps its first day and its months.
     ///
-    /// Rows are equal if their years ([`EastAsianRow::year`]) have the same number, first day, months and place of the
-    /// leap month. No memory is taken.
+    /// Rows are equal if their years ([`EastAsianRow::year`]) have the same number, first day, months and leap month.
+    /// No memory is allocated.
     ///
     /// # Errors
     ///
-    /// - [`LengthenFault::Differs`] if a row of this table has no equal row in the same place of `rows`, for example if
-    ///   `rows` are fewer. It names the first such row, counted from 1.
-    /// - [`LengthenFault::Table`] otherwise, with the fault that [`EastAsianTable::try_new`] finds in `rows`.
+    /// - [`LengthenFault::Differs`] if a row of this table has no equal row in the same place of `rows`, for example
+    ///   because there are fewer `rows`. It names the first row without an equal one, counted from 1.
+    /// - [`LengthenFault::Table`] otherwise, with the error that [`EastAsianTable::try_new`] finds in `rows`.
     ///
     /// # Examples
     ///

@@ -39,7 +39,7 @@ const MEAN_MONTH: u64 = MONTH as u64;
 /// The length of a mean year, in milliseconds.
 const MEAN_YEAR: u64 = YEAR as u64;
 
-/// A date of such a calendar: its year, its ordinal month and its day.
+/// A date of a Chinese or Korean calendar: its year, its ordinal month and its day of the month.
 ///
 /// Dates are equal, ordered and hashed by the number of the year, the ordinal month and the day.
 #[derive_where(Clone, Copy, Debug, PartialEq, Eq, PartialOrd, Ord, Hash)]
@@ -133,8 +133,8 @@ impl<R: Rules> Years for EastAsianTraditional<R> {
         self.0.year_containing_rd(rd)
     }
 
-    /// Estimates by the mean month and year, less two months: a year starts at most 34 days later in its ISO year than
-    /// another.
+    /// Estimates by the mean month and the mean year, minus two months, since one year may start up to 34 days later
+    /// in its ISO year than another.
     fn estimated_years(&self, _from: EastAsianTraditionalYear, months: u32) -> u32 {
         (u64::from(months.saturating_sub(2)) * MEAN_MONTH / MEAN_YEAR) as u32
     }

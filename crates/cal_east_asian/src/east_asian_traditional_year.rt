@@ -18,11 +18,12 @@ use date_bytes::east_asian;
 use std::cmp::Ordering;
 use std::hash::{Hash, Hasher};
 
-/// A year of a Chinese or Korean calendar: its number (the ISO year in which it starts), its first day, the lengths of its
-/// months, and the place of its leap month.
+/// A year of a Chinese or Korean calendar: its number (the ISO year in which it starts), its first day, the lengths
+/// of its months, and its leap month.
 ///
-/// The number is from -8000000 to 8000000, and the year starts 0 to 34 days after January 19 of its number. It has 12
-/// months, or 13 with a leap month in a place from 2 to 13. A leap month has the number of the month before it.
+/// The number is from -8000000 to 8000000, and the year starts 0 to 34 days after January 19 of the ISO year of its
+/// number. It has 12 months, or 13 with a leap month, whose ordinal month is from 2 to 13. A leap month has the
+/// number of the month before it.
 ///
 /// Years are equal, ordered and hashed by the number.
 #[derive(Clone, Copy, Debug)]
@@ -33,7 +34,7 @@ pub struct EastAsianTraditionalYear {
     pub(crate) related_iso: i32,
     /// The months of 30 days: bit 0 is set for the first month. The other months have 29 days.
     pub(crate) long_months: u16,
-    /// The place of the leap month, or 0 without one.
+    /// The ordinal month of the leap month, or 0 without one.
     pub(crate) leap_month: u8,
     ghost valid: { IsEastAsianYear related_iso new_year leap_month },
     ghost few: { long_months < 2 ^ months_of_year leap_month },
@@ -90,11 +91,11 @@ impl Hash for EastAsianTraditionalYear {
 impl EastAsianTraditionalYear {
     /// Creates a year from the first days of its months, and of the first month of the next year.
     ///
-    /// Without a leap month the year has 12 months, and the first 13 days are read. With the place of a leap month it has
-    /// 13 months, and all 14 days are read.
+    /// `leap_month`: the ordinal month of the leap month. Without a leap month the year has 12 months, and the first
+    /// 13 days are read. With one it has 13 months, and all 14 days are read.
     ///
-    /// None if the number isn't from -8000000 to 8000000, a month has neither 29 nor 30 days, the place of the leap month
-    /// isn't from 2 to 13, or the first day isn't 0 to 34 days after January 19 of the number.
+    /// Returns `None` if the number isn't from -8000000 to 8000000, a month has neither 29 nor 30 days, the leap
+    /// month isn't from 2 to 13, or the first day isn't 0 to 34 days after January 19 of the ISO year of the number.
     ///
     /// ```
     /// let starts = [RataDie::new(738926); 14]; // no month has a day
@@ -149,7 +150,7 @@ impl EastAsianTraditionalYear {
         RataDie::new(self.new_year)
     }
 
-    /// Returns the place of the leap month, from 2 to 13, or None if the year has no leap month.
+    /// Returns the ordinal month of the leap month, from 2 to 13, or `None` if the year has no leap month.
     ///
     /// ```
     /// assert!(rt; qing_year(1900)?.leap_month() == Some(9)); // behind the month 8
@@ -164,7 +165,7 @@ impl EastAsianTraditionalYear {
         }
     }
 
-    /// Returns the number of months: 12, or 13 with a leap month.
+    /// Returns the number of months: 12, or 13 in a year with a leap month.
     ///
     /// ```
     /// assert!(rt; qing_year(1900)?.months() == 13);
@@ -175,7 +176,7 @@ impl EastAsianTraditionalYear {
         months_in_year(self.leap_month)
     }
 
-    /// Returns the number of days of the month in a place, 29 or 30. `month`: from 1 to the number of months.
+    /// Returns the number of days in an ordinal month, 29 or 30. `month`: from 1 to the number of months.
     ///
     /// ```
     /// let year = qing_year(1900)?;
@@ -214,7 +215,7 @@ impl EastAsianTraditionalYear {
     }
 }
 
-/// Returns January 19 of an ISO year: the earliest first day of the year of its number.
+/// Returns January 19 of an ISO year, which is the earliest first day of the year with its number.
 fn january_19(related_iso: i32) -> i64
     requires { IsRuleYear related_iso }
     ensures value { result ≡ january_19 related_iso }
@@ -223,7 +224,7 @@ fn january_19(related_iso: i32) -> i64
     gregorian::year_start(related_iso).to_i64_date() + 18
 }
 
-/// Returns the number of days from January 19 of its number to the first day of a year.
+/// Returns the number of days from January 19 of the ISO year `related_iso` to the first day of the year, 0 to 34.
 fn days_after_january_19(related_iso: i32, new_year: i64) -> u8
     requires number { IsRuleYear related_iso }
     requires start { IsNewYear related_iso new_year }

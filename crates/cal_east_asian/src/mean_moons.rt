@@ -106,7 +106,8 @@ pub(crate) fn last_moon_by(utc_offset: i64, day: i64) -> i64
     since_moon_0(utc_offset, day).div_euclid(MONTH)
 }
 
-/// Returns the number of the mean new moon that a mean year begins with: the last moon on or before the day of term 2.
+/// Returns the number of the mean new moon with which a mean year begins, the last moon on or before the day of term
+/// 2.
 ///
 /// The year is from -8000000 to 8000000, and the offset from 27940000 to 32400000 milliseconds.
 #[tactic(auto, using(cal_days::proofs::Signed::signed))]

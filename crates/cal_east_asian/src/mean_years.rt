@@ -1,11 +1,11 @@
 //! Mean lunisolar years: start with [`mean_year`].
 //!
-//! Months begin on the day of a mean new moon. Counted from the month of the mean winter solstice, the first month without
-//! its solar term is the leap month: the next month begins on the day of that term or before.
+//! Months begin on the day of a mean new moon. Counted from the month of the mean winter solstice, the first month
+//! without its solar term is the leap month: the next month begins on or before the day of that term.
 //!
-//! So a year begins with the last moon on or before the day of term 2, whether or not a leap month comes before it. Its
-//! own leap month is the first of its months without its term. Terms are farther apart than moons, always by the same
-//! time, so a division finds the first month that may have no term.
+//! So a year begins with the last moon on or before the day of term 2, whether or not a leap month comes before it.
+//! Its own leap month is the first of its months without its term. The time between terms is always longer than the
+//! time between moons by the same amount, so a division finds the first month that may have no term.
 
 ghost use Rattle.std.specs.Prelude.{◌≡◌, ℕ, ◌+◌, ◌*◌, ◌/◌, ◌%◌, ◌<◌, ◌≤◌, nat_eq, nat_le, if◌then◌else◌, pos, neg_ℤ, ◌+ℤ◌, ◌-ℤ◌, ◌≤ℤ◌, ◌<ℤ◌};
 ghost use Rattle.cal_days.specs.Day.{IsBetween, IsRuleYear, IsValidDay};
@@ -47,8 +47,8 @@ fn lead(first: i64, term: i64) -> u32
 
 /// Returns the first month that ends less than a day after its solar term, or before it.
 ///
-/// Earlier months end after the days of their terms. Months after the next one end on the days of their terms or before.
-/// In between, the days decide.
+/// Earlier months end after the days of their terms. Months after the next one end on or before the days of their
+/// terms. In between, the days decide.
 fn first_near_term(lead: u32) -> u32
     requires { lead < 2637842876 }
     ensures near { lead < 86400000 + 78303124 * result }
@@ -62,7 +62,7 @@ fn first_near_term(lead: u32) -> u32
     }
 }
 
-/// Returns 1 if a month ends after the day of its solar term, or else 0.
+/// Returns 1 if a month ends after the day of its solar term, otherwise 0.
 fn has_term(lead: u32, time: u32, month: u32) -> u32
     requires lead { lead < 2637842876 }
     requires time { time < 86400000 }
@@ -76,14 +76,14 @@ fn has_term(lead: u32, time: u32, month: u32) -> u32
     }
 }
 
-/// Returns the place in the year of a month counted from 0, or 0 if the year has no such month.
+/// Returns the ordinal month of a month counted from 0, or 0 if the year has no such month.
 fn place_in_year(month: u32) -> u8
     ensures { result ≡ if nat_le month 12 then month + 1 else 0 }
 {
     if month <= 12 { month as u8 + 1 } else { 0 }
 }
 
-/// Returns the place of the leap month, or 0.
+/// Returns the ordinal month of the leap month, or 0 without one.
 ///
 /// `time` is the time of day of term 2, and `lead` the time from term 2 to the end of the first month of the year.
 fn leap_place(lead: u32, time: u32) -> u8
@@ -95,8 +95,8 @@ fn leap_place(lead: u32, time: u32) -> u8
     place_in_year(near + has_term(lead, time, near) + has_term(lead, time, near + 1))
 }
 
-/// Returns the time of day at which the month before one begins, from the time of day of that one. Also returns 1 if the
-/// month before has 30 days, or else 0.
+/// Returns the time of day at which the month before a month begins, from the time of day at which the month begins.
+/// Also returns 1 if the month before has 30 days, otherwise 0.
 fn month_before(time: u32) -> (u32, u16)
     requires { time < 86400000 }
     ensures time { result.0 < 86400000 }
@@ -125,8 +125,8 @@ fn thirteenth_bit(start: u32, place: u8) -> u16
     }
 }
 
-/// Returns the bits of the months of 30 days of a year with a leap month in a place, or without one for 0. `time` is the
-/// time of day at which the first month begins.
+/// Returns the bits of the months of 30 days in a year. `time` is the time of day at which the first month begins,
+/// and `place` is the ordinal month of the leap month, or 0 without one.
 fn long_months(time: u32, place: u8) -> u16
     requires { time < 86400000 }
     ensures { result ≡ month_bits time 0 (months_of_year place) }
@@ -143,7 +143,7 @@ fn long_months(time: u32, place: u8) -> u16
     bits
 }
 
-/// Returns the mean lunisolar year of a number at an offset from Greenwich.
+/// Returns the mean lunisolar year with a number, at an offset from Greenwich.
 ///
 /// `related_iso`: from -8000000 to 8000000. `utc_offset`: from 27940000 milliseconds (Beijing's mean time) to 32400000.
 ///
@@ -177,7 +177,8 @@ pub fn mean_year(utc_offset: i64, related_iso: i32) -> EastAsianTraditionalYear
 
 /// Returns the mean year that contains a valid day, at an offset as in [`mean_year`].
 ///
-/// Each year starts within the ISO year of its number, so it is the year of the day's ISO year, or the year before.
+/// Each year starts within the ISO year of its number, so the result is the year of the day's ISO year, or the year
+/// before.
 pub(crate) fn mean_year_containing_rd(utc_offset: i64, rd: RataDie) -> EastAsianTraditionalYear
     requires offset { IsOffset utc_offset }
     requires rd { IsValidDay rd }

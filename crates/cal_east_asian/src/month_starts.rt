@@ -7,7 +7,7 @@ ghost use Rattle.cal_east_asian.specs.MonthStarts.{HaveLengthsOf, HaveMonthLengt
 
 use cal_days::{RataDie, gregorian};
 
-/// Returns the place of the leap month, or 0 without one. None for a place that isn't from 2 to 13.
+/// Returns the ordinal month of the leap month, or 0 without one. Returns `None` if it isn't from 2 to 13.
 pub(crate) fn leap_place(leap_month: Option<u8>) -> Option<u8>
     ensures { result ≡ leap_place_read leap_month }
 {
@@ -30,7 +30,7 @@ pub(crate) fn first_day(starts: &[RataDie; 14]) -> RataDie
     starts[0]
 }
 
-/// Returns whether a number is one of a year, and the year may start on a day.
+/// Returns whether a year number is from -8000000 to 8000000, and the year may start on a day.
 pub(crate) fn is_new_year(related_iso: i32, day: RataDie) -> bool
     ensures { IsTrue result ↔ (IsRuleYear related_iso × IsNewYear related_iso day) }
 {
@@ -56,7 +56,7 @@ fn is_month_length(days: i64) -> bool
     days == 29 || days == 30
 }
 
-/// Returns the bits of the months of 30 days, or None if a month has neither 29 nor 30 days.
+/// Returns the bits of the months of 30 days, or `None` if a month has neither 29 nor 30 days.
 pub(crate) fn long_months(starts: &[RataDie; 14], months: u8) -> Option<u16>
     requires { months ≤ 13 }
     ensures some { IsSome result ↔ HaveMonthLengths starts.now 0 months }

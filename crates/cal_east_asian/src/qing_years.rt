@@ -7,7 +7,7 @@ ghost use Rattle.cal_east_asian.specs.QingYears.{IsQingNumber, IsQingYear, qing_
 
 use crate::east_asian_traditional_year::EastAsianTraditionalYear;
 
-/// The first day of a year, the bits of its months of 30 days, and the place of its leap month or 0.
+/// The first day of a year, the bits of its months of 30 days, and the ordinal month of its leap month or 0.
 #[derive(Clone, Copy)]
 struct QingRow {
     new_year: i64,
@@ -51,7 +51,7 @@ fn qing_row(index: u8) -> QingRow
     }
 }
 
-/// Returns a year of the Qing calendar, from 1900 to 1911. None for any other number.
+/// Returns a year of the Qing calendar, from 1900 to 1911, or `None` for any other number.
 ///
 /// Each of these years starts on the day after the year before it: 1900 on the day after the mean year 1899 at an offset
 /// of 27940000 milliseconds. The mean years 1912 at 28800000 and at 32400000 milliseconds start on the day after 1911.

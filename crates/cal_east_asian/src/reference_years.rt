@@ -132,8 +132,10 @@ fn years_of_month(side: Side, month: Month) -> ReferenceYears
 
 /// Returns the reference year of a month and a day. The day may be above the length of the month.
 ///
-/// Fails with [`EcmaReferenceYearError::MonthNotInCalendar`] if the month isn't one of the months 1 to 12, and with
-/// [`EcmaReferenceYearError::UseRegularIfConstrain`] if a leap month has no reference year for the day.
+/// # Errors
+///
+/// - [`EcmaReferenceYearError::MonthNotInCalendar`] if the month isn't one of the months 1 to 12, plain or leap.
+/// - [`EcmaReferenceYearError::UseRegularIfConstrain`] if a leap month has no reference year for the day.
 pub(crate) fn reference_year(
     side: Side,
     month: Month,

@@ -22,18 +22,18 @@ use std::fmt::Debug;
 
 /// Rules that decide the years of a Chinese or Korean calendar: which months have 30 days, and where leap months are.
 ///
-/// [`EastAsianTraditional`](crate::EastAsianTraditional) is the calendar with such rules. Each year has its number, and
-/// starts on the day after the year before it. One of any three consecutive years has a leap month.
-/// [`EastAsianTraditionalYear`] ensures that each year starts 0 to 34 days after January 19 of its number. A type with
-/// rules of your own proves the laws at the end of the trait.
+/// [`EastAsianTraditional`](crate::EastAsianTraditional) is the calendar over any rules. Each year has its number,
+/// and starts on the day after the year before it. One of any three consecutive years has a leap month.
+/// [`EastAsianTraditionalYear`] ensures that each year starts 0 to 34 days after January 19 of its number. A type
+/// with rules of your own proves the laws at the end of the trait.
 pub trait Rules: Copy + Debug + UnstableSealed + Drop {
     /// The error for dates under two rules that aren't compatible.
     type DateCompatibilityError: Debug + Drop;
 
-    /// The year of a number. Only those from -8000000 to 8000000 count.
+    /// The year of a number. Only the numbers from -8000000 to 8000000 matter.
     ghost year_of: { Self → ℤ → EastAsianTraditionalYear };
 
-    /// The reference year of a month and a day, or why there is none. Only months of the calendar count.
+    /// The reference year of a month and a day, or why there is none. Only months of the calendar matter.
     ghost reference: { Self → MonthParts → ℕ → Result ℤ EcmaReferenceYearError };
 
     /// Whether two rules are compatible, so that dates under them can be compared.
@@ -52,8 +52,8 @@ pub trait Rules: Copy + Debug + UnstableSealed + Drop {
 
     /// Returns the year that contains a valid day.
     ///
-    /// `rd`: rata die, -365242499 to 365242134. A year starts from January 19 to February 22 of its number, so it is the
-    /// year of the day's ISO year, or the year before.
+    /// `rd`: rata die, -365242499 to 365242134. A year starts from January 19 to February 22 of its number, so the
+    /// result is the year of the day's ISO year, or the year before.
     fn year_containing_rd(&self, rd: RataDie) -> EastAsianTraditionalYear
         requires { IsValidDay rd }
         ensures given { result ≡ year_of self.now result.related_iso }
@@ -100,15 +100,15 @@ pub trait Rules: Copy + Debug + UnstableSealed + Drop {
     fn ecma_reference_year(&self, month: Month, day: u8) -> Result<i32, EcmaReferenceYearError>
         ensures { result ≡ reference self.now (month_parts month) day };
 
-    /// Tests whether two rules are compatible, so that dates under them can be compared.
+    /// Checks whether two rules are compatible, so that dates under them can be compared.
     ///
     /// # Errors
     ///
-    /// - [`DateCompatibilityError`](Rules::DateCompatibilityError) if the rules aren't compatible.
+    /// - [`DateCompatibilityError`](Rules::DateCompatibilityError) exactly if the rules aren't compatible.
     fn check_date_compatibility(&self, other: &Self) -> Result<(), Self::DateCompatibilityError>
         ensures { IsOk result ↔ IsTrue (compatible self.now other.now) };
 
-    /// Returns the algorithm by which CLDR names the calendar (UTS 35), or None if it has no name for it.
+    /// Returns the algorithm by which CLDR names the calendar (UTS 35), or `None` if it has no name for it.
     fn calendar_algorithm(&self) -> Option<CalendarAlgorithm>
         ensures { result ≡ algorithm self.now };
 
@@ -120,22 +120,22 @@ pub trait Rules: Copy + Debug + UnstableSealed + Drop {
     /// a leap month.
     ghost lawful: { (s : Self) → AreYears (year_of s) };
 
-    /// A reference year is a year that fields may name.
+    /// Reference years are from -1040000 to 1040000.
     ghost reference_in_range: { (s : Self) (m : MonthParts) (d : ℕ) (y : ℤ) → reference s m d ≡ Ok y →
         IsFieldYear y };
 
-    /// No month of the calendar is rejected as one that isn't.
+    /// `MonthNotInCalendar` is only for months other than the months 1 to 12, plain or leap.
     ghost reference_of_kind: { (s : Self) (m : MonthParts) (d : ℕ) → reference s m d ≡ Err MonthNotInCalendar →
         is_east_asian_month m ≡ false };
 
-    /// The plain month of its number replaces only a leap month of the calendar.
+    /// `UseRegularIfConstrain` is only for a leap month of the calendar.
     ghost reference_of_leap_month: { (s : Self) (m : MonthParts) (d : ℕ) →
         reference s m d ≡ Err UseRegularIfConstrain → IsTrue m.is_leap × IsTrue (is_east_asian_month m) };
 
-    /// There is an error for rules that aren't compatible.
+    /// If two rules aren't compatible, the error type has a value.
     ghost refusal: { (s t : Self) → compatible s t ≡ false → Self.DateCompatibilityError };
 
-    /// Compatibility is an equivalence: reflexive, symmetric and transitive.
+    /// Compatibility is an equivalence relation.
     ghost alike: { IsEquivalence compatible };
 
     /// Compatible rules have the same years.

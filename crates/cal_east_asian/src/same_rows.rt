@@ -20,14 +20,14 @@ pub(crate) fn is_same_year(one: EastAsianTraditionalYear, other: EastAsianTradit
         && one.leap_month == other.leap_month
 }
 
-/// Returns one more than the greatest bits of the months of a year with its leap month in a place, or without one for 0.
+/// Returns one more than the greatest bits of the months of a year with this leap month, which is 0 for none.
 fn bits_end(leap_month: u8) -> u16
     ensures { result ≡ bits_end leap_month }
 {
     if leap_month == 0 { 4096 } else { 8192 }
 }
 
-/// Returns whether two years have the same number, first day, months and place of the leap month.
+/// Returns whether two years have the same number, first day, month lengths and leap month.
 fn is_equal_year(one: EastAsianTraditionalYear, other: EastAsianTraditionalYear) -> bool
     ensures { result ≡ is_equal_year one other }
 {
@@ -55,7 +55,7 @@ fn is_same_row(one: EastAsianRow, other: EastAsianRow) -> bool
     is_same_year(one.year(), other.year())
 }
 
-/// Returns whether two lists have equally many rows, with the same years.
+/// Returns whether two lists have the same number of rows, with the same years.
 fn are_same_rows(one: &[EastAsianRow], other: &[EastAsianRow]) -> bool
     ensures { result ≡ pointwise is_same_row one.now other.now }
 {
@@ -72,7 +72,7 @@ fn are_same_rows(one: &[EastAsianRow], other: &[EastAsianRow]) -> bool
     true
 }
 
-/// Returns whether two tables have equally many rows, with the same years.
+/// Returns whether two tables have the same number of rows, with the same years.
 pub(crate) fn have_same_rows(one: &[EastAsianRow], other: &[EastAsianRow]) -> bool
     ensures { result ≡ pointwise same_year (years_of one.now) (years_of other.now) }
 {

@@ -1,4 +1,4 @@
-//! Tests the rows of a table.
+//! Checks the rows of a table.
 
 ghost use Rattle.std.specs.Prelude.{◌≡◌, ◌↔◌, ◌<◌, ◌+◌, ◌&&◌, ◌||◌, nat_lt, int_le, length, slice_get, Some, IsTrue, IfSome, IsNone, IsOk, MatchOption, MatchResult, pos};
 ghost use Rattle.cal_days.specs.Day.{IsBetween};
@@ -33,7 +33,7 @@ fn follows(before: EastAsianTraditionalYear, row: EastAsianTraditionalYear) -> b
     row.new_year == end_day(before)
 }
 
-/// Returns the year of the row before the one at an index.
+/// Returns the year of the row before the row at an index, if there is one.
 fn row_before(rows: &[EastAsianRow], index: usize) -> Option<EastAsianTraditionalYear>
     ensures { result ≡ row_before (years_of rows.now) index }
 {
@@ -44,7 +44,8 @@ fn row_before(rows: &[EastAsianRow], index: usize) -> Option<EastAsianTraditiona
     }
 }
 
-/// Returns whether the year of a row is the next one.
+/// Returns whether the year of a row is one more than the year of the row before it, or at least 1912 for the first
+/// row.
 fn is_next(before: Option<EastAsianTraditionalYear>, row: EastAsianTraditionalYear) -> bool
     requires { IfSome before (λ before. IsTableYear before.related_iso) }
     ensures { result ≡ is_next before row }
@@ -101,7 +102,8 @@ fn is_leap_in_three(side: Side, rows: &[EastAsianRow], related_iso: i32) -> bool
     )
 }
 
-/// Returns whether there is a leap month in the three years up to the first year after a row, and up to the second.
+/// Returns whether there is a leap month in the three years up to the first year after a row, and also in the three
+/// years up to the second year after it.
 fn leaps_after(side: Side, rows: &[EastAsianRow], row: EastAsianTraditionalYear) -> bool
     requires { IsTableYear row.related_iso }
     ensures { result ≡ leaps_after (table.chosen_year (computed.computed_year side) (years_of rows.now)) row }
@@ -143,7 +145,8 @@ fn has_leaps_after(
     index + 1 < rows.len() || leaps_after(side, rows, row)
 }
 
-/// Returns whether the three years up to the row's have a leap month, and for the last row those up to the next two.
+/// Returns whether there is a leap month in the three years up to the row's year, and for the last row also in the
+/// three years up to the first and up to the second year after it.
 fn meets_leap(
     side: Side,
     rows: &[EastAsianRow],
@@ -185,7 +188,7 @@ fn first_broken_of_year(
     None
 }
 
-/// Returns the row at an index, counted from 0.
+/// Returns the row at an index, counted from 0, if there is one.
 fn row_in(rows: &[EastAsianRow], index: usize) -> Option<EastAsianRow>
     ensures { result ≡ slice_get rows.now index }
 {
@@ -211,7 +214,7 @@ fn first_broken(
     first_broken_of_year(side, rows, index, row.year())
 }
 
-/// Tests rows, and returns the first row that breaks a rule, and the first rule that it breaks.
+/// Checks rows, and returns the first row that breaks a rule, and the first rule that it breaks.
 pub(crate) fn check(side: Side, rows: &[EastAsianRow]) -> Result<(), TableFault>
     ensures first { MatchResult result (λ _. by_rows.IsAccepted (computed.computed_year side) rows.now)
         (by_rows.IsFirstFault (computed.computed_year side) rows.now) }

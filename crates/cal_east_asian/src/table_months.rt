@@ -1,5 +1,5 @@
-//! Counts the months between two years of a table: for computed years in closed form, and for rows by the number of those
-//! with a leap month.
+//! Counts the months between two years of a table: in closed form for computed years, and from the number of rows
+//! with a leap month for rows.
 
 ghost use Rattle.std.specs.Prelude.{◌≡◌, ◌≤◌, ◌-◌, ◌≤ℤ◌, ◌<ℤ◌, ◌+ℤ◌, ℤ, pos, length, take, drop};
 ghost use Rattle.cal_days.specs.Day.{IsBetween, IsRuleYear};
@@ -12,7 +12,7 @@ use crate::computed_years::computed_months_between;
 use crate::east_asian_table::EastAsianTable;
 use crate::leap_rows::count_leap_rows;
 
-/// Returns the nearest year to one, of the years from `from` to `to`.
+/// Returns the year from `from` to `to` that is nearest to a year.
 fn nearest_year(year: i32, from: i32, to: i32) -> i32
     requires { from ≤ℤ to }
     ensures within { IsBetween from to result }
@@ -28,7 +28,7 @@ fn nearest_year(year: i32, from: i32, to: i32) -> i32
     }
 }
 
-/// Returns the number of months between the first days of two years if no year from the one up to the other has a row.
+/// Returns the number of months between the first days of two years if all years from `from` up to `to` are computed.
 fn months_without_rows(table: &EastAsianTable<'_>, from: i32, to: i32) -> u32
     requires from { IsRuleYear from }
     requires to { IsRuleYear to }
@@ -42,7 +42,7 @@ fn months_without_rows(table: &EastAsianTable<'_>, from: i32, to: i32) -> u32
     computed_months_between(table.side(), from, to) as u32
 }
 
-/// Returns the number of rows with a leap month from one place up to another.
+/// Returns the number of rows with a leap month from one index up to another.
 fn leap_rows_between(table: &EastAsianTable<'_>, from: usize, to: usize) -> u32
     requires order { from ≤ to }
     requires within { to ≤ length table.now.rows.now }
@@ -55,7 +55,7 @@ fn leap_rows_between(table: &EastAsianTable<'_>, from: usize, to: usize) -> u32
     count_leap_rows(&rows[from..to])
 }
 
-/// Returns the number of months between the first days of two years if every year from the one up to the other has a row.
+/// Returns the number of months between the first days of two years if every year from `from` up to `to` has a row.
 fn months_of_rows(table: &EastAsianTable<'_>, first: i32, from: i32, to: i32) -> u32
     requires first { IsFirstNumber table.now first }
     requires order { from ≤ℤ to }
@@ -69,7 +69,7 @@ fn months_of_rows(table: &EastAsianTable<'_>, first: i32, from: i32, to: i32) ->
     12 * (to - from) as u32 + leaps
 }
 
-/// Returns the number of months between the first days of two years, from the number of the first row.
+/// Returns the number of months between the first days of two years. `first`: the number of the first row.
 fn months_beside_rows(table: &EastAsianTable<'_>, first: i32, from: i32, to: i32) -> u32
     requires first { IsFirstNumber table.now first }
     requires from { IsRuleYear from }
@@ -84,7 +84,7 @@ fn months_beside_rows(table: &EastAsianTable<'_>, first: i32, from: i32, to: i32
         + months_without_rows(table, end, to)
 }
 
-/// Returns the number of months between the first days of a year and of another one that isn't before it.
+/// Returns the number of months from the first day of a year to the first day of another year, which isn't before it.
 pub(crate) fn months_between(table: &EastAsianTable<'_>, from: i32, to: i32) -> u32
     requires from { IsRuleYear from }
     requires to { IsRuleYear to }

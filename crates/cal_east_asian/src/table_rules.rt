@@ -29,9 +29,9 @@ pub struct TableRules<'t, S: TableSide> {
 /// ones. For the published years, pass the table of the crate `published_years` (`china_table`) to
 /// [`China::new`](TableRules::new), or use its calendar `chinese`.
 ///
-/// A year without a row is the mean year at 8 hours from Greenwich from 1912 on, the year of the Qing calendar from 1900
-/// to 1911, and the mean year at Beijing's mean time before 1900. CLDR's name for the calendar is `chinese`. Dates of two
-/// such calendars can be compared if the tables have the same rows.
+/// From 1912 on, a year without a row is the mean year at 8 hours from Greenwich. From 1900 to 1911 it is the year of
+/// the Qing calendar, and before 1900 the mean year at Beijing's mean time. CLDR's name for the calendar is
+/// `chinese`. Dates under two of these rules can be compared if their tables have the same rows.
 pub type China<'t> = TableRules<'t, OfChina>;
 
 /// The rules of the Korean calendar with a table of years.
@@ -40,9 +40,9 @@ pub type China<'t> = TableRules<'t, OfChina>;
 /// ones. For the published years, pass the table of the crate `published_years` (`korea_table`) to
 /// [`Korea::new`](TableRules::new), or use its calendar `korean`.
 ///
-/// A year without a row is the mean year at 9 hours from Greenwich from 1912 on, the year of the Qing calendar from 1900
-/// to 1911, and the mean year at Beijing's mean time before 1900. CLDR's name for the calendar is `dangi`. Dates of two
-/// such calendars can be compared if the tables have the same rows.
+/// From 1912 on, a year without a row is the mean year at 9 hours from Greenwich. From 1900 to 1911 it is the year of
+/// the Qing calendar, and before 1900 the mean year at Beijing's mean time. CLDR's name for the calendar is `dangi`.
+/// Dates under two of these rules can be compared if their tables have the same rows.
 pub type Korea<'t> = TableRules<'t, OfKorea>;
 
 /// The Chinese calendar with a table of years.

@@ -81,7 +81,7 @@ impl CalendarAlgorithm {
         }
     }
 
-    /// Returns the algorithm with this name, or None if no algorithm has it.
+    /// Returns the algorithm with this name, or `None` if no algorithm has it.
     ///
     /// ```
     /// assert!(rt; CalendarAlgorithm::from_name(b"hebrew") == Some(CalendarAlgorithm::Hebrew));

@@ -19,7 +19,7 @@ pub struct RangeError {
     pub max: i32,
 }
 
-/// The reason why an era, a year, a month and a day, each as a number, make no date.
+/// The reason why an era code, and a year, a month and a day as numbers, don't form a date.
 #[derive(Clone, Copy, Debug, PartialEq, Error)]
 pub enum DateError {
     /// A number is out of its range, as with [`RangeError`].
@@ -39,7 +39,7 @@ pub enum DateError {
     UnknownEra,
 }
 
-/// The reason why a bag of fields makes no date.
+/// The reason why a bag of fields doesn't name a date.
 #[derive(Clone, Copy, Debug, PartialEq, Error)]
 pub enum DateFromFieldsError {
     /// Fields are missing: the others name no whole date.
@@ -124,7 +124,7 @@ pub enum DateAddError {
     },
 }
 
-/// The reason why a year, a month and a day make no date.
+/// The reason why a year, a month and a day don't form a date.
 #[derive(Clone, Copy, Debug, PartialEq, Error)]
 pub enum DateNewError {
     /// The given year isn't from -9999 to 9999.
@@ -147,7 +147,7 @@ pub enum DateNewError {
     },
 }
 
-/// The reason why an extended year, a month and a day make no date of a lunisolar calendar.
+/// The reason why an extended year, a month and a day don't form a date of a lunisolar calendar.
 #[derive(Clone, Copy, Debug, PartialEq, Error)]
 pub enum LunisolarDateError {
     /// The extended year isn't from -9999 to 9999.
@@ -172,7 +172,7 @@ pub enum LunisolarDateError {
 #[error("Attempted to interact two `Date`s with different calendars")]
 pub struct MismatchedCalendarError;
 
-/// The reason why a text is no duration.
+/// The reason why a text isn't a duration.
 #[derive(Clone, Copy, Debug, PartialEq, Eq)]
 pub enum DateDurationParseError {
     /// The text isn't an optional minus, `P`, and numbers, each followed by `Y`, `M`, `W` or `D`.
@@ -183,9 +183,9 @@ pub enum DateDurationParseError {
     MissingValue,
     /// A unit occurs twice.
     DuplicateUnit,
-    /// A number is above the greatest `u32`.
+    /// A number is above `u32::MAX`.
     NumberOverflow,
-    /// The text begins with a plus.
+    /// The text begins with `+`.
     PlusNotAllowed,
 }
 
@@ -193,21 +193,21 @@ pub enum DateDurationParseError {
 #[derive(Clone, Copy, Debug, PartialEq)]
 pub struct UnknownEraError;
 
-/// The reason why a text is no month code.
+/// The reason why a text isn't a month code.
 #[derive(Clone, Copy, Debug, PartialEq, Eq)]
 pub enum MonthCodeParseError {
     /// The text isn't `M`, two digits and an optional `L`.
     InvalidSyntax,
 }
 
-/// The reason why a year has no such month.
+/// The reason why a month doesn't occur in a year.
 #[derive(Clone, Copy, Debug, PartialEq)]
 pub enum MonthError {
     /// The month isn't one of the calendar's months: `M13` in a calendar of twelve months, or `M03L` in the Hebrew
     /// calendar.
     ///
-    /// No year has such a month. A leap month that the calendar's rules may place is one of its months, even if no
-    /// year has it yet: [`MonthError::NotInYear`] is the error for it.
+    /// It occurs in no year. A leap month that the calendar's rules may place is one of its months, even if no year
+    /// has it yet: [`MonthError::NotInYear`] is the error for it.
     NotInCalendar,
     /// The month is one of the calendar's months, but doesn't occur in this year.
     NotInYear,
@@ -220,12 +220,12 @@ pub enum EcmaReferenceYearError {
     Unimplemented,
     /// The month isn't one of the calendar's months, as with [`MonthError::NotInCalendar`].
     MonthNotInCalendar,
-    /// No reference year has the leap month with so many days. With `Overflow::Constrain` the plain month of its
-    /// number takes its place.
+    /// No reference year has the leap month with this day. With `Overflow::Constrain` the plain month of its number
+    /// takes its place.
     UseRegularIfConstrain,
 }
 
-/// The reason why bytes are no small ASCII text.
+/// The reason why bytes aren't a small ASCII text.
 #[derive(Clone, Copy, Debug, PartialEq)]
 pub enum TinyStrError {
     /// There are more bytes than the text can hold.
@@ -234,7 +234,7 @@ pub enum TinyStrError {
     NonAscii,
 }
 
-/// The first fault of rows that make no table of years.
+/// The first error in rows that don't form a table of years.
 #[derive(Clone, Copy, Debug, PartialEq, Eq, Error)]
 #[error("Row {row} of the table breaks its rule on {part}")]
 pub struct TableFault {
@@ -244,7 +244,7 @@ pub struct TableFault {
     pub part: TablePart,
 }
 
-/// A rule for the rows of a table of years. Each row is tested for the rules in the order of the variants.
+/// A rule for the rows of a table of years. Each row is checked against the rules in the order of the variants.
 #[derive(Clone, Copy, Debug, PartialEq, Eq, Error)]
 pub enum TablePart {
     /// Each field of the row is within its range, so that the row names a year.
@@ -274,10 +274,10 @@ pub enum LengthenFault {
     /// The rows don't begin with the rows of the table.
     #[error("Row {row} of the table isn't among the new rows in its place")]
     Differs {
-        /// The first row of the table, counted from 1, that the rows don't have in its place.
+        /// The first row of the table, counted from 1, that has no equal row in the same place.
         row: usize,
     },
-    /// The rows begin with the rows of the table, but make no table themselves.
+    /// The rows begin with the rows of the table, but don't form a table themselves.
     #[error("{0}")]
     Table(TableFault),
 }
@@ -362,10 +362,10 @@ impl From<MonthError> for DateFromFieldsError {
     }
 }
 
-/// Converts to the error of fields without a year.
+/// Converts to the error for fields without a year.
 ///
-/// If the calendar has no reference years, fields are missing: the year. A leap month without a reference year
-/// doesn't occur in the year.
+/// Without reference years, the year is missing: [`DateFromFieldsError::NotEnoughFields`]. A leap month without a
+/// reference year doesn't occur in the year: [`DateFromFieldsError::MonthNotInYear`].
 impl From<EcmaReferenceYearError> for DateFromFieldsError {
     ghost use Rattle.cal_errors.specs.Errors.{fields_error_of_reference_year};
 

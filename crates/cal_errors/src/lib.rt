@@ -1,8 +1,8 @@
 //! The errors of the calendars, and the names of calendars in CLDR.
 //!
 //! [`errors`] has one type for each kind of call, and [`ParseError`] is the error of reading a date from a text.
-//! [`CalendarAlgorithm`] names a calendar; [`CalendarPreference`] completes a name that is missing or leaves the kind of
-//! Hijri calendar open. Names and texts are those of `icu_calendar`.
+//! [`CalendarAlgorithm`] names a calendar; [`CalendarPreference`] completes a name that is missing or leaves the kind
+//! of Hijri calendar open. Names and texts follow `icu_calendar`.
 #![tactic(auto)]
 
 pub mod algorithm;

@@ -18,8 +18,7 @@ pub enum ParseError {
     /// No calendar algorithm has the name in the text.
     #[error("Unknown calendar")]
     UnknownCalendar,
-    /// The text names another calendar than the date is read in: first the expected calendar, then the one in the
-    /// text.
+    /// The text names a different calendar: first the expected calendar, then the calendar in the text.
     #[error("Expected calendar {} but found calendar {}", .0.as_str(), .1.as_str())]
     MismatchedCalendar(CalendarAlgorithm, CalendarAlgorithm),
     /// A year, a month or a day is out of its range.

@@ -13,19 +13,19 @@ use cal_types::{
 use std::convert::Infallible;
 use std::sync::ledger::Ledger;
 
-/// The Buddhist calendar, as Thailand uses it: the ISO calendar with years that are counted from ISO year -543.
+/// The Buddhist calendar, as used in Thailand: the ISO calendar with years that are counted from ISO year -543.
 ///
-/// Extended year 2515 is ISO year 1972. The one era has the code `be`, and the year in it is the extended year
-/// (CLDR, UTS 35). It is proleptic, and its months, leap years and reference years are those of the ISO calendar.
-/// CLDR's name for it is `buddhist`.
+/// Extended year 2515 is ISO year 1972. Its only era has the code `be`, and the era year is the extended year (CLDR,
+/// UTS 35). It is proleptic, and has the months, leap years and reference years of the ISO calendar. CLDR's name for
+/// it is `buddhist`.
 #[derive(Clone, Copy, Debug, Default)]
 pub struct Buddhist;
 
-/// A date of the Buddhist calendar: its year, its month and its day.
+/// A date of the Buddhist calendar: its year, its ordinal month and its day of the month.
 #[derive(Clone, Copy, Debug, PartialEq, Eq, PartialOrd, Ord, Hash)]
 pub struct BuddhistDateInner(ArithmeticDate<AbstractGregorian<BuddhistEraYears>>);
 
-/// The years of the Buddhist calendar, which are counted from ISO year -543 in the one era `be`.
+/// The years of the Buddhist calendar, counted from ISO year -543 in the only era `be`.
 #[derive(Clone, Copy, Debug)]
 pub struct BuddhistEraYears;
 

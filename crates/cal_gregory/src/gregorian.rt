@@ -19,16 +19,16 @@ use std::sync::ledger::Ledger;
 
 /// The Gregorian calendar: the ISO calendar with the eras `ce` and `bce` (CLDR, UTS 35).
 ///
-/// It is proleptic, and extended year 0 is 1 BCE. Years are read in `ce` or `ad`, and in `bce` or `bc`. Its months,
-/// leap years and reference years are those of the ISO calendar. CLDR's name for it is `gregory`.
+/// It is proleptic, and extended year 0 is 1 BCE. Years may be given in `ce` or `ad`, and in `bce` or `bc`. It has
+/// the months, leap years and reference years of the ISO calendar. CLDR's name for it is `gregory`.
 #[derive(Clone, Copy, Debug, Default)]
 pub struct Gregorian;
 
-/// A date of the Gregorian calendar: its year, its month and its day.
+/// A date of the Gregorian calendar: its year, its ordinal month and its day of the month.
 #[derive(Clone, Copy, Debug, PartialEq, Eq, PartialOrd, Ord, Hash)]
 pub struct GregorianDateInner(ArithmeticDate<AbstractGregorian<CommonEraYears>>);
 
-/// How much of a year of the Common Era a reader needs.
+/// Returns how much of a year of the Common Era a reader needs.
 fn common_era_ambiguity(year: i32) -> YearAmbiguity
     ensures { result ≡ common_era_ambiguity year }
 {
@@ -39,7 +39,7 @@ fn common_era_ambiguity(year: i32) -> YearAmbiguity
     }
 }
 
-/// Returns an extended year in its era.
+/// Returns the era year of an extended year from -1040000 to 1040000: in `ce`, or in `bce` before year 1.
 pub(crate) fn era_year(year: i32) -> EraYear
     requires { IsFieldYear year }
     ensures { result ≡ common_era_year year }
@@ -63,7 +63,7 @@ pub(crate) fn era_year(year: i32) -> EraYear
     }
 }
 
-/// The years of the Gregorian calendar, which are the ISO years in the eras `ce` and `bce`.
+/// The years of the Gregorian calendar: the ISO years, in the eras `ce` and `bce`.
 #[derive(Clone, Copy, Debug)]
 pub struct CommonEraYears;
 

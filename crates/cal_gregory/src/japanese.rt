@@ -25,11 +25,11 @@ use std::sync::ledger::Ledger;
 
 /// The Japanese calendar: the Gregorian calendar with the eras of Japan (CLDR, UTS 35).
 ///
-/// A date is printed in the last listed era that starts on or before it, but in `ce` and `bce` before Meiji, and in
-/// the years of Meiji below 6, in which Japan still counted by moons. Years are read in these eras, in `ce` or `ad`,
-/// and in `bce` or `bc`; any year of an era is read, also one outside it. It is proleptic, and its months, leap years
-/// and reference years are those of the ISO calendar. CLDR's name for it is `japanese`. The default lists the eras
-/// up to Reiwa.
+/// The era of a date is the last listed era that starts on or before it. Before Meiji, and in the Meiji years below
+/// 6, when Japan still used a lunisolar calendar, it is `ce` or `bce` instead. Years may be given in the listed eras,
+/// in `ce` or `ad`, and in `bce` or `bc`. Any era year is accepted, even one outside its era. The calendar is
+/// proleptic, and has the months, leap years and reference years of the ISO calendar. CLDR's name for it is
+/// `japanese`. The default lists the eras up to Reiwa.
 #[derive(Clone, Copy, Debug, Default)]
 pub struct Japanese {
     eras: JapaneseEras,
@@ -63,18 +63,18 @@ impl Japanese {
     }
 }
 
-/// A date of the Japanese calendar: its year, its month and its day.
+/// A date of the Japanese calendar: its year, its ordinal month and its day of the month.
 #[derive(Clone, Copy, Debug, PartialEq, Eq, PartialOrd, Ord, Hash)]
 pub struct JapaneseDateInner(ArithmeticDate<AbstractGregorian<JapaneseEras>>);
 
-/// Returns whether a year of an era is one of the years of Meiji below 6.
+/// Returns whether an era year is one of the Meiji years below 6.
 fn is_early_meiji(code: &[u8], number: i32) -> bool
     ensures { result ≡ (is_code code.now (codes "meiji") && int_lt number (pos 6)) }
 {
     code == b"meiji".as_slice() && number < 6
 }
 
-/// Returns an extended year in a listed era, but in the Gregorian ones in the years of Meiji below 6.
+/// Returns the era year of an extended year in a listed era, or in `ce` or `bce` for the Meiji years below 6.
 fn year_in_era(era: ListedEra, year: i32) -> EraYear
     requires year { IsFieldYear year }
     requires start { IsStartYear era.0.year }
@@ -95,7 +95,7 @@ fn year_in_era(era: ListedEra, year: i32) -> EraYear
     }
 }
 
-/// The ISO years, in the eras of the Gregorian calendar and those that are listed.
+/// The ISO years, in the eras of the Gregorian calendar and the listed eras.
 impl GregorianYears for JapaneseEras {
     ghost use Rattle.std.specs.Prelude.{codes, pos, refl, Some};
     ghost use Rattle.cal_errors.specs.declared.algorithm.CalendarAlgorithm.TheVariants as algorithms;

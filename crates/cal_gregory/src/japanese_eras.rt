@@ -11,10 +11,9 @@ use crate::japanese_eras_iter::JapaneseErasIter;
 use crate::later_era::LaterEra;
 use cal_types::TinyAsciiStr;
 
-/// The eras that a Japanese calendar lists: Meiji, Taisho, Showa, Heisei and Reiwa, and a later one, if there is
-/// one.
+/// The eras that a Japanese calendar lists: Meiji, Taisho, Showa, Heisei and Reiwa, and optionally a later era.
 ///
-/// The default is up to Reiwa. The starts and the codes are those of CLDR (UTS 35).
+/// The default ends with Reiwa. The starts and the codes are from CLDR (UTS 35).
 #[derive(Clone, Copy, Debug, Default, PartialEq)]
 pub struct JapaneseEras {
     later: Option<LaterEra>,
@@ -31,7 +30,7 @@ impl JapaneseEras {
     ghost use Rattle.cal_gregory.specs.JapaneseErasLeft.{eras_left};
     ghost use Rattle.cal_gregory.specs.LastEra.{eras_with_last};
 
-    /// Returns the eras up to Reiwa, and no later one.
+    /// Returns the eras up to Reiwa, without a later one.
     ///
     /// ```
     /// assert!(rt; JapaneseEras::up_to_reiwa().eras().count() == 5);
@@ -43,11 +42,11 @@ impl JapaneseEras {
         JapaneseEras { later: None }
     }
 
-    /// Returns the eras up to Reiwa, and a last one with this start, code and index.
+    /// Returns the eras up to Reiwa, followed by an era with this start, code and index.
     ///
-    /// A start before 2026 is that of no later era: the eras are then those up to Reiwa, whatever the code and the
-    /// index are. Otherwise `None` where the year is above 2089, the month isn't from 1 to 15, the day isn't from 1
-    /// to 31, the code is empty or has another byte than the letters `a` to `z`, or the index is neither 7 nor 8.
+    /// If the start is before 2026, returns the eras up to Reiwa only, whatever the code and the index are. Otherwise
+    /// returns `None` if the year is above 2089, the month isn't from 1 to 15, the day isn't from 1 to 31, the code
+    /// is empty or has a byte other than the letters `a` to `z`, or the index is neither 7 nor 8.
     ///
     /// ```
     /// let start = EraStartDate {
@@ -74,7 +73,8 @@ impl JapaneseEras {
         }
     }
 
-    /// Returns the listed eras in order, from both ends: the start, the code and the index of each.
+    /// Returns an iterator over the listed eras, in order and from both ends: the start, the code and the index of
+    /// each.
     ///
     /// ```
     /// assert!(rt; JapaneseEras::up_to_reiwa().eras().count() == 5);
@@ -85,7 +85,7 @@ impl JapaneseEras {
         JapaneseErasIter::new(self)
     }
 
-    /// Returns how many eras are listed.
+    /// Returns the number of listed eras.
     pub(crate) fn count(&self) -> usize
         ensures { result ≡ length (listed_eras self.now) }
     {
@@ -95,7 +95,7 @@ impl JapaneseEras {
         }
     }
 
-    /// Returns the listed era in a place, counted from 0.
+    /// Returns the listed era at an index, counted from 0.
     pub(crate) fn listed(&self, place: usize) -> ListedEra
         requires { place < length (listed_eras self.now) }
         ensures { slice_get (listed_eras self.now) place ≡ Some result }

@@ -1,4 +1,4 @@
-//! The listed eras, one after another.
+//! An iterator over the listed eras.
 
 ghost use Rattle.std.specs.Prelude.{◌≡◌, ◌≤◌, length};
 ghost use Rattle.std.specs.Iterator.{YieldsFirst, YieldsLast, item_count};
@@ -8,7 +8,8 @@ use crate::era_start_date::EraStartDate;
 use crate::japanese_eras::JapaneseEras;
 use cal_types::TinyAsciiStr;
 
-/// The listed eras of a Japanese calendar in order, from both ends: the start, the code and the index of each.
+/// An iterator over the listed eras of a Japanese calendar, in order and from both ends: the start, the code and the
+/// index of each.
 #[derive(Clone, Copy, Debug)]
 pub struct JapaneseErasIter {
     eras: JapaneseEras,
@@ -21,7 +22,7 @@ pub struct JapaneseErasIter {
 impl JapaneseErasIter {
     ghost use Rattle.cal_gregory.specs.JapaneseErasLeft.{eras_left};
 
-    /// All listed eras.
+    /// Creates an iterator over all listed eras.
     pub(crate) fn new(eras: JapaneseEras) -> JapaneseErasIter
         ensures { eras_left result ≡ listed_eras eras }
     {

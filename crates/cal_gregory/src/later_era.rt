@@ -8,7 +8,7 @@ ghost use Rattle.cal_gregory.specs.LastEra.{is_code_letter, is_last_code, is_las
 use crate::era_start_date::EraStartDate;
 use cal_types::TinyAsciiStr;
 
-/// An era after Reiwa. It keeps its code as bytes, filled with 0.
+/// An era after Reiwa. Its code is stored as bytes, padded with 0.
 #[derive(Clone, Copy, Debug, PartialEq)]
 pub(crate) struct LaterEra {
     start: EraStartDate,
@@ -23,7 +23,7 @@ impl LaterEra {
     ghost use Rattle.std.specs.Option.{option_map};
     ghost use Rattle.cal_gregory.specs.JapaneseEras.{later_listed};
 
-    /// Returns the era with this start, code and index, if it may be listed after Reiwa.
+    /// Creates the era with this start, code and index, or returns `None` if it may not be listed after Reiwa.
     pub(crate) fn try_new(start: EraStartDate, code: TinyAsciiStr<8>, index: u8) -> Option<LaterEra>
         ensures { option_map later_listed result ≡ last_listed start code index }
     {
@@ -38,7 +38,7 @@ impl LaterEra {
         })
     }
 
-    /// Its start, its code and its index.
+    /// Returns the start, the code and the index of the era.
     pub(crate) fn listed(&self) -> (EraStartDate, TinyAsciiStr<8>, u8)
         ensures { result ≡ later_listed self.now }
     {
@@ -71,7 +71,7 @@ fn is_last_code(code: &[u8]) -> bool
     !code.is_empty() && are_letters(code)
 }
 
-/// Returns whether each byte is a letter from `a` to `z`.
+/// Returns whether every byte is a letter from `a` to `z`.
 fn are_letters(code: &[u8]) -> bool
     ensures { result ≡ list_all is_code_letter code.now }
 {

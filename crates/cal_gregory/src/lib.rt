@@ -1,4 +1,4 @@
-//! Calendars whose months are those of the Gregorian calendar.
+//! The calendars with the months of the Gregorian calendar: [`Gregorian`], [`Buddhist`], [`Japanese`] and [`Roc`].
 #![tactic(auto)]
 
 mod buddhist;

@@ -17,21 +17,25 @@ use cal_types::{
 use std::convert::Infallible;
 use std::sync::ledger::Ledger;
 
-/// The calendar of the Republic of China, or Minguo calendar: the ISO calendar with years that are counted from
-/// ISO year 1911.
+/// The calendar of the Republic of China, or Minguo calendar: the ISO calendar with years that are counted from ISO
+/// year 1911.
 ///
-/// Extended year 1 is ISO year 1912, and the first year of the era `roc`; extended year 0 is the first year
-/// before it, in the era `broc`, which counts back (CLDR, UTS 35). It is proleptic, and its months, leap years and
-/// reference years are those of the ISO calendar. CLDR's name for it is `roc`.
+/// Extended year 1 is ISO year 1912, and the first year of the era `roc`. Extended year 0 is the first year of the
+/// era `broc`, which counts back (CLDR, UTS 35). It is proleptic, and has the months, leap years and reference years
+/// of the ISO calendar. CLDR's name for it is `roc`.
 #[derive(Clone, Copy, Debug, Default)]
 pub struct Roc;
 
-/// A date of the calendar of the Republic of China: its year, its month and its day.
+/// A date of the calendar of the Republic of China: its year, its ordinal month and its day of the month.
 #[derive(Clone, Copy, Debug, PartialEq, Eq, PartialOrd, Ord, Hash)]
 pub struct RocDateInner(ArithmeticDate<AbstractGregorian<MinguoYears>>);
 
-/// Returns the extended year of a year, from -1040000 to 1040000, in the era `roc` or before it (`broc`, which counts
-/// back: 1 is extended year 0). Fails with [`UnknownEraError`] for any other code.
+/// Returns the extended year of an era year, -1040000 to 1040000, in the era `roc`, or in the era `broc`, which
+/// counts back: year 1 of `broc` is extended year 0.
+///
+/// # Errors
+///
+/// - [`UnknownEraError`] if the code is neither `roc` nor `broc`.
 fn year_in_minguo_era(era: &[u8], year: i32) -> Result<i32, UnknownEraError>
     requires { IsFieldYear year }
     ensures { result ≡ era_read (roc_reads era.now year) }
@@ -45,7 +49,7 @@ fn year_in_minguo_era(era: &[u8], year: i32) -> Result<i32, UnknownEraError>
     }
 }
 
-/// Returns an extended year in its era.
+/// Returns the era year of an extended year from -1040000 to 1040000: in `roc`, or in `broc` before year 1.
 fn era_year(year: i32) -> EraYear
     requires { IsFieldYear year }
     ensures { result ≡ roc_era_year year }
@@ -69,8 +73,7 @@ fn era_year(year: i32) -> EraYear
     }
 }
 
-/// The years of the calendar of the Republic of China, which are counted from ISO year 1911 in the eras `roc` and
-/// `broc`.
+/// The years of the calendar of the Republic of China, counted from ISO year 1911 in the eras `roc` and `broc`.
 #[derive(Clone, Copy, Debug)]
 pub struct MinguoYears;
 

@@ -29,10 +29,10 @@ use std::sync::ledger::Ledger;
 
 /// The Hebrew calendar, in years from the creation of the world (anno mundi).
 ///
-/// A year starts in autumn with Tishri, the month 1, by the mean new moon and the postponements of the new year; it
-/// has 353, 354 or 355 days. Of 19 years 7 are leap years, of 383, 384 or 385 days: they have the leap month `M05L`
-/// (Adar I) in the sixth place, and the month 6 beside it (Adar, then Adar II) is formatted as `M06L`. In a common
-/// year the month 6 stands in for the leap month.
+/// A year starts in autumn with month 1, Tishri, by the mean new moon and the postponements of the new year. It has
+/// 353, 354 or 355 days. Of 19 years, 7 are leap years with 383, 384 or 385 days. Their ordinal month 6 is the leap
+/// month `M05L` (Adar I), and month 6 (Adar, then called Adar II) is formatted as `M06L`. In a common year, month 6
+/// stands in for the leap month.
 ///
 /// | Code | Month | Code | Month |
 /// |---|---|---|---|
@@ -41,11 +41,11 @@ use std::sync::ledger::Ledger;
 /// | `M03` | Kislev | `M08` | Iyar |
 /// | `M04` | Tevet | `M09` | Sivan |
 /// | `M05` | Shevat | `M10` | Tammuz |
-/// | `M05L` | Adar I, in leap years alone | `M11` | Av |
+/// | `M05L` | Adar I, in leap years only | `M11` | Av |
 /// | | | `M12` | Elul |
 ///
-/// The calendar is used for all years by today's rule. Its era is `am` (CLDR, UTS 35). The reference year of a day is
-/// the latest in which it falls on or before 1972-12-31 of the ISO calendar.
+/// Today's rule is applied to all years. The era is `am` (CLDR, UTS 35). The reference year of a day is the latest
+/// year in which the day falls on or before 1972-12-31 of the ISO calendar.
 #[derive(Clone, Copy, Debug, Default, PartialEq, Eq, PartialOrd, Ord, Hash)]
 pub struct Hebrew;
 
@@ -61,11 +61,11 @@ impl Hebrew {
     }
 }
 
-/// A date of the Hebrew calendar: its year, the place of its month and its day.
+/// A date of the Hebrew calendar: its year, its ordinal month and its day of the month.
 #[derive(Clone, Copy, Debug, PartialEq, Eq, PartialOrd, Ord, Hash)]
 pub struct HebrewDateInner(ArithmeticDate<Hebrew>);
 
-/// Returns the year of an extended year from -8000000 to 8000000.
+/// Returns the Hebrew year of an extended year from -8000000 to 8000000.
 fn year_of(extended_year: i32) -> HebrewYear
     requires { IsRuleYear extended_year }
     ensures { result ≡ hebrew_years.year_of extended_year }
@@ -176,14 +176,14 @@ impl Years for Hebrew {
         month_and_day(year.length, day_of_year)
     }
 
-    /// Exactly: 19 years have 235 months.
+    /// The estimate is exact, since 19 years have 235 months.
     fn estimated_years(&self, from: HebrewYear, months: u32) -> u32 {
         (19 * months + months_left_over(from.extended_year)) / 235
     }
 }
 
-/// Returns the reference year of a day of a month: the latest year in which it falls on or before 1972-12-31 of the ISO
-/// calendar, the 26th of the month 4 of 5733.
+/// Returns the reference year of a day of a month: the latest year in which the day falls on or before 1972-12-31 of
+/// the ISO calendar, which is day 26 of month 4 of 5733.
 fn reference_year(month: Month, day: u8) -> i32
     ensures year { result ≡ hebrew_reference_year (month_parts month) day }
     ensures range { IsRuleYear result }
@@ -240,7 +240,7 @@ impl DateFieldsResolver for Hebrew {
         (hebrew_reference_year m d) e };
 }
 
-/// Returns an extended year in the era `am` (CLDR, UTS 35).
+/// Returns the era year of an extended year, in the era `am` (CLDR, UTS 35).
 fn era_year(year: i32) -> EraYear
     ensures { result ≡ hebrew_era_year year }
 {

@@ -1,7 +1,7 @@
-//! The months of a Hebrew year, by how many days the year has.
+//! The months of a Hebrew year, determined by the number of days in the year.
 //!
-//! Heshvan, the second month, has 30 days in years of 355 or 385 days, and Kislev, the third, 29 in years of 353 or
-//! 383. A leap year has a leap month in the sixth place. Otherwise months of 30 and 29 days alternate.
+//! Heshvan, month 2, has 30 days in years of 355 or 385 days. Kislev, month 3, has 29 days in years of 353 or 383
+//! days. In a leap year, ordinal month 6 is a leap month. Otherwise months of 30 and 29 days alternate.
 
 ghost use Rattle.std.specs.Prelude.{◌≡◌, ◌&&◌, ◌||◌, ◌+◌, ◌-◌, ◌*◌, ◌/◌, ◌<◌, ◌≤◌, nat_le, if◌then◌else◌, pos, neg_ℤ};
 ghost use Rattle.cal_days.specs.Day.{IsBetween, IsRuleYear};
@@ -12,28 +12,28 @@ ghost use Rattle.cal_hebrew.specs.HebrewPlaces.{IsYearLength, days_before_place,
 
 use cal_types::{LeapStatus, Month, MonthError, Overflow};
 
-/// Returns whether a year of so many days has 13 months.
+/// Returns whether a year with this number of days has 13 months.
 pub(crate) fn is_leap(length: u16) -> bool
     ensures { result ≡ is_leap_length length }
 {
     length >= 383
 }
 
-/// Returns whether the second month of a year of so many days has 30 days.
+/// Returns whether the second month of a year with this number of days has 30 days.
 fn is_second_long(length: u16) -> bool
     ensures { result ≡ is_complete length }
 {
     length == 355 || length == 385
 }
 
-/// Returns whether the third month of a year of so many days has 29 days.
+/// Returns whether the third month of a year with this number of days has 29 days.
 fn is_third_short(length: u16) -> bool
     ensures { result ≡ is_deficient length }
 {
     length == 353 || length == 383
 }
 
-/// Returns how many months a year of so many days has.
+/// Returns the number of months in a year with this number of days.
 pub(crate) fn months_in_year(length: u16) -> u8
     ensures value { result ≡ place_count length }
     ensures bound { result ≤ 13 }
@@ -41,7 +41,7 @@ pub(crate) fn months_in_year(length: u16) -> u8
     if is_leap(length) { 13 } else { 12 }
 }
 
-/// Returns how many days the month in a place has.
+/// Returns the number of days in an ordinal month.
 pub(crate) fn days_in_month(length: u16, place: u8) -> u8
     requires { place ≤ 13 }
     ensures { result ≡ place_length length place }
@@ -57,8 +57,7 @@ pub(crate) fn days_in_month(length: u16, place: u8) -> u8
     }
 }
 
-/// Returns how many days of the year go before the month in a place, where the second month has 29 days and the third
-/// 30.
+/// Returns the number of days in the year before an ordinal month, if the second month has 29 days and the third 30.
 fn days_before_regular_month(length: u16, place: u8) -> u32
     requires { (1 ≤ place) × (place ≤ 13) }
     ensures value { result ≡ regular_days_before (is_leap_length length) place }
@@ -68,7 +67,7 @@ fn days_before_regular_month(length: u16, place: u8) -> u32
     (59 * (u32::from(place) - 1) + odd_days) / 2
 }
 
-/// Returns how many days a year has over the shortest one, which has 353 days, or as a leap year 383.
+/// Returns the number of days by which a year exceeds the shortest one, which has 353 days, or 383 in a leap year.
 fn days_over_shortest(length: u16) -> u32
     requires { IsYearLength length }
     ensures value { result + (if is_leap_length length then 383 else 353) ≡ length }
@@ -81,8 +80,8 @@ fn days_over_shortest(length: u16) -> u32
     }
 }
 
-/// Returns by how many days a year is ahead of one whose second month has 29 days and third 30, and one more, so that
-/// it isn't negative: after the third month, after the second, or before.
+/// Returns the number of days by which a year is ahead of a year whose second month has 29 days and third month 30,
+/// plus one so that it isn't negative. It depends on whether the second and the third month have passed.
 fn days_over_regular(length: u16, has_second_passed: bool, has_third_passed: bool) -> u32
     requires { IsYearLength length }
     ensures value { result ≡ (if has_third_passed && is_deficient length then 0 else (
@@ -99,7 +98,7 @@ fn days_over_regular(length: u16, has_second_passed: bool, has_third_passed: boo
     }
 }
 
-/// Returns how many days of the year go before the month in a place.
+/// Returns the number of days in the year before an ordinal month.
 pub(crate) fn days_before_month(length: u16, place: u8) -> u32
     requires length { IsYearLength length }
     requires place { (1 ≤ place) × (place ≤ 13) }
@@ -119,8 +118,8 @@ fn day_of_regular_year(length: u16, day: u16) -> u32
     u32::from(day) + 1 - days_over_regular(length, day >= 59, day >= 88)
 }
 
-/// Twice the day of the year, from 0, that a day would be if the second month had 29 days and the third 30, less one
-/// from the leap month on. Two months have 59 days, so a month takes 59 of it.
+/// Returns twice the day of the year, from 0, that a day would be if the second month had 29 days and the third 30,
+/// minus one from the leap month on. Two months have 59 days, so a month takes 59 of the result.
 fn twice_regular_day(length: u16, day: u16) -> u32
     requires length { IsYearLength length }
     requires day { day < 385 }
@@ -137,7 +136,7 @@ fn twice_regular_day(length: u16, day: u16) -> u32
     }
 }
 
-/// Returns the place of the month, and the day of the month, of a day of a year, which is counted from 0.
+/// Returns the ordinal month and the day of the month of a day of the year, counted from 0.
 pub(crate) fn month_and_day(length: u16, day: u16) -> (u8, u8)
     requires length { IsYearLength length }
     requires within { day < length }
@@ -145,7 +144,7 @@ pub(crate) fn month_and_day(length: u16, day: u16) -> (u8, u8)
     ensures before { days_before_place length result.0 + result.1 ≡ day + 1 }
     ensures day { (1 ≤ result.1) × (result.1 ≤ place_length length result.0) }
 {
-    // Where the second month has 29 days there is no such day.
+    // A second month of 29 days doesn't have this day.
     if day == 59 && is_second_long(length) {
         return (2, 30);
     }
@@ -164,9 +163,14 @@ pub(crate) fn is_hebrew(month: Month) -> bool
     }
 }
 
-/// Returns the place of a month in a year of so many days.
+/// Returns the ordinal month of a month in a year with this number of days. Under [`Overflow::Constrain`], month 6
+/// stands in for the leap month in a common year.
 ///
-/// In a common year the leap month has none, and under [`Overflow::Constrain`] the sixth month stands in for it.
+/// # Errors
+///
+/// - [`MonthError::NotInCalendar`] if the month is neither a plain month 1 to 12 nor the leap month 5.
+/// - [`MonthError::NotInYear`] if the month is the leap month, the year is a common year and `overflow` is
+///   [`Overflow::Reject`].
 pub(crate) fn place_of_month(
     length: u16,
     month: Month,
@@ -190,7 +194,7 @@ pub(crate) fn place_of_month(
     }
 }
 
-/// Returns the month in a place of a year of so many days.
+/// Returns the month at an ordinal number of a year with this number of days.
 pub(crate) fn month_in_place(length: u16, place: u8) -> Month
     requires { (1 ≤ place) × (place ≤ 13) }
     ensures { month_parts result ≡ month_of_place (is_leap_length length) place }
@@ -204,7 +208,7 @@ pub(crate) fn month_in_place(length: u16, place: u8) -> Month
     }
 }
 
-/// How the month in a place of a year of so many days stands to leap months.
+/// Returns the leap status of an ordinal month of a year with this number of days.
 pub(crate) fn leap_status(length: u16, place: u8) -> LeapStatus
     ensures { result ≡ leap_status_of_place (is_leap_length length) place }
 {
@@ -217,7 +221,7 @@ pub(crate) fn leap_status(length: u16, place: u8) -> LeapStatus
     }
 }
 
-/// Returns the month by which the month in a place of a year of so many days is formatted.
+/// Returns the month by which an ordinal month of a year with this number of days is formatted.
 pub(crate) fn formatted_month(length: u16, place: u8, month: Month) -> Month
     ensures { month_parts result ≡ formatted_month_of_place (is_leap_length length) place (month_parts month) }
 {
@@ -228,7 +232,7 @@ pub(crate) fn formatted_month(length: u16, place: u8, month: Month) -> Month
     }
 }
 
-/// Returns how many months lie between the first day of year 1 and that of a year.
+/// Returns the number of months from the first day of year 1 to the first day of a year from -8000000 to 8000000.
 #[tactic(auto, using(cal_days::proofs::Signed::signed))]
 pub(crate) fn months_before_year(year: i32) -> i64
     requires { IsRuleYear year }
@@ -238,8 +242,8 @@ pub(crate) fn months_before_year(year: i32) -> i64
     (235 * i64::from(year) - 234).div_euclid(19)
 }
 
-/// 18 less what the division by 19 leaves that counts the months before a year: by so many nineteenths of a month the
-/// year could begin later with as many months before it.
+/// Returns 18 minus the remainder of the division by 19 that counts the months before a year. The year could begin
+/// this many nineteenths of a month later with the same number of months before it.
 #[tactic(auto, using(cal_days::proofs::Signed::signed_casts))]
 pub(crate) fn months_left_over(year: i32) -> u32
     requires { IsRuleYear year }

@@ -12,7 +12,7 @@ use date_bytes::hebrew;
 use std::cmp::Ordering;
 use std::hash::{Hash, Hasher};
 
-/// A year of the Hebrew calendar: its extended year, and how many days it has, which decides the lengths of its
+/// A year of the Hebrew calendar: its extended year, and its number of days, which determines the lengths of its
 /// months.
 ///
 /// Years are equal, ordered and hashed by the extended year.

@@ -85,7 +85,7 @@ impl<'t> Hijri<AstronomicalSimulation<'t>> {
     }
 }
 
-/// A date of a Hijri calendar: its year, its month and its day.
+/// A date of a Hijri calendar: its year, its ordinal month and its day of the month.
 ///
 /// Dates are equal, ordered and hashed by the extended year, the month and the day.
 #[derive_where(Clone, Copy, Debug, PartialEq, Eq, PartialOrd, Ord, Hash)]
@@ -187,9 +187,11 @@ impl<R: Rules> Years for Hijri<R> {
     }
 }
 
-/// Returns the extended year of a year in the era `ah` or `bh`, or an error for any other code.
+/// Returns the extended year of an era year, -1040000 to 1040000, in the era `ah` or `bh`.
 ///
-/// `year`: from -1040000 to 1040000.
+/// # Errors
+///
+/// - [`UnknownEraError`] if the code is neither `ah` nor `bh`.
 fn year_in_era(era: &[u8], year: i32) -> Result<i32, UnknownEraError>
     requires { IsFieldYear year }
     ensures { result ≡ era_read (hijri_reads era.now year) }
@@ -243,7 +245,8 @@ impl<R: Rules> DateFieldsResolver for Hijri<R> {
     ghost reference_of_leap_month = { λ s m d e. no_leap_month (R.reference s.0) (R.references s.0) m d e };
 }
 
-/// Returns an extended year in its era: `ah`, or `bh` before year 1 (CLDR, UTS 35).
+/// Returns the era year of an extended year from -1040000 to 1040000: in `ah`, or in `bh` before year 1 (CLDR, UTS
+/// 35).
 fn era_year(year: i32) -> EraYear
     requires { IsFieldYear year }
     ensures { result ≡ hijri_era_year year }

@@ -12,9 +12,9 @@ use cal_days::islamic;
 
 /// A year of a [`HijriTable`](crate::HijriTable) as plain data, which a `static` can hold.
 ///
-/// A row names a year if each field is within its range. Every year from -8000000 to 8000000 has exactly one such row.
-/// [`HijriTable::try_new`](crate::HijriTable::try_new) rejects any other row, and tests whether the rows follow one
-/// another.
+/// A row names a year if every field is within its range. Every year from -8000000 to 8000000 has exactly one row
+/// that names it. [`HijriTable::try_new`](crate::HijriTable::try_new) rejects any other row, and checks whether the
+/// rows follow one another.
 ///
 /// The year 1445 begins on 2023-07-19, 5 days after the earliest day. Its months 2, 3, 4, 6, 9 and 12 have 30 days:
 ///
@@ -53,7 +53,7 @@ fn nearest_rule_year(year: i32) -> i32
     year.clamp(-8000000, 8000000)
 }
 
-/// Returns the day at an offset from the earliest first day of a year. An offset above 10 is taken as 10.
+/// Returns the day at an offset from the earliest first day of a year. An offset above 10 counts as 10.
 fn start_after(year: i32, offset: u8) -> i64
     requires { IsRuleYear year }
     ensures value { result ≡ islamic_mean_start year -ℤ pos 5 +ℤ pos (min offset 10) }
@@ -65,8 +65,8 @@ fn start_after(year: i32, offset: u8) -> i64
 impl HijriRow {
     /// Returns the year that the row names.
     ///
-    /// If the row names no year, each field out of its range is taken as the nearest value within it, and the bits
-    /// above bit 11 of [`long_months`](HijriRow::long_months) as 0.
+    /// If the row names no year, every field that is out of range counts as the nearest value within its range, and
+    /// the bits above bit 11 of [`long_months`](HijriRow::long_months) count as 0.
     ///
     /// # Examples
     ///
@@ -89,7 +89,7 @@ impl HijriRow {
         }
     }
 
-    /// Returns whether each field is within its range, so that the row names a year.
+    /// Returns whether every field is within its range, so that the row names a year.
     pub(crate) fn names_year(self) -> bool
         ensures { result ≡ names_year self }
     {
@@ -98,9 +98,8 @@ impl HijriRow {
 }
 
 impl HijriYear {
-    /// Returns the row that names this year.
-    ///
-    /// None if the extended year isn't from -8000000 to 8000000. [`HijriYear::try_new`] makes no such year.
+    /// Returns the row that names this year, or `None` if the extended year isn't from -8000000 to 8000000.
+    /// [`HijriYear::try_new`] never creates a year outside of this range.
     ///
     /// # Examples
     ///

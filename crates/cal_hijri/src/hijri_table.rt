@@ -48,8 +48,8 @@ impl<'t> HijriTable<'t> {
         HijriTable { rows: &[] }
     }
 
-    /// Creates a table from rows that are known to be accepted, without testing them. For constant data, acceptance can
-    /// be proved by computation.
+    /// Creates a table from rows that are known to be accepted, without checking them. For constant data, acceptance
+    /// can be proved by computation.
     ///
     /// ```text
     /// static ROWS: [HijriRow; 301] = ..; // 1300 to 1600
@@ -72,8 +72,8 @@ impl<'t> HijriTable<'t> {
     /// - [`TablePart::Range`] if the row names no year: a field is out of its range ([`HijriRow`]).
     /// - [`TablePart::Year`] if the year of the first row is below 1, the year of another row isn't one more than the
     ///   year of the row before it, or a year is above 9999.
-    /// - [`TablePart::Join`] if the row doesn't start on the day after the row before it, or the first row not on the
-    ///   day after the tabular year before it.
+    /// - [`TablePart::Join`] if the row doesn't start on the day after the row before it, or the first row doesn't
+    ///   start on the day after the tabular year before it.
     /// - [`TablePart::End`] if the tabular year after the last row doesn't start on the day after that row.
     ///
     /// # Examples
@@ -94,17 +94,17 @@ impl<'t> HijriTable<'t> {
         }
     }
 
-    /// Creates a table from longer rows, which begin with the rows of this table. Every year that isn't among the added
-    /// rows keeps its first day and its months.
+    /// Creates a table from longer rows, which begin with the rows of this table. Every year that isn't among the
+    /// added rows keeps its first day and its months.
     ///
-    /// Rows are equal if their years ([`HijriRow::year`]) have the same extended year, first day and months. No memory
-    /// is taken.
+    /// Rows are equal if their years ([`HijriRow::year`]) have the same extended year, first day and months. No
+    /// memory is allocated.
     ///
     /// # Errors
     ///
-    /// - [`LengthenFault::Differs`] if a row of this table has no equal row in the same place of `rows`, for example if
-    ///   `rows` are fewer. It names the first such row, counted from 1.
-    /// - [`LengthenFault::Table`] otherwise, with the fault that [`HijriTable::try_new`] finds in `rows`.
+    /// - [`LengthenFault::Differs`] if a row of this table has no equal row in the same place of `rows`, for example
+    ///   because there are fewer `rows`. It names the first row without an equal one, counted from 1.
+    /// - [`LengthenFault::Table`] otherwise, with the error that [`HijriTable::try_new`] finds in `rows`.
     ///
     /// # Examples
     ///
@@ -139,7 +139,8 @@ impl<'t> HijriTable<'t> {
         self.rows
     }
 
-    /// Returns whether another table has as many rows, with the same extended years, first days and months.
+    /// Returns whether another table has the same number of rows, with the same extended years, first days and
+    /// months.
     pub(crate) fn has_rows_of(&self, other: &HijriTable<'t>) -> bool
         ensures { result ≡ are_same_rows (years_of self.now.rows.now) (years_of other.now.rows.now) }
     {
@@ -196,7 +197,7 @@ fn is_same_row(row: HijriRow, other: HijriRow) -> bool
     row.year().has_parts_of(other.year())
 }
 
-/// Returns whether two lists have equally many rows, and their years are the same.
+/// Returns whether two lists have the same number of rows, with the same extended years, first days and months.
 fn are_same_rows(rows: &[HijriRow], others: &[HijriRow]) -> bool
     ensures { result ≡ pointwise is_same_row rows.now others.now }
 {
@@ -225,14 +226,14 @@ fn friday_year(extended_year: i32) -> HijriYear
     tabular_year(rules, extended_year)
 }
 
-/// Returns the row at an index, counted from 0.
+/// Returns the row at an index, counted from 0, if there is one.
 fn row_in(rows: &[HijriRow], index: usize) -> Option<HijriRow>
     ensures { result ≡ slice_get rows.now index }
 {
     rows.get(index).copied()
 }
 
-/// Returns the year of the row at an index, counted from 0.
+/// Returns the year of the row at an index, counted from 0, if there is one.
 fn row_at(rows: &[HijriRow], index: usize) -> Option<HijriYear>
     ensures { result ≡ slice_get (years_of rows.now) index }
 {
@@ -242,7 +243,8 @@ fn row_at(rows: &[HijriRow], index: usize) -> Option<HijriYear>
     }
 }
 
-/// Returns the row of a year. Rows are consecutive, so its index follows from the year of the first row.
+/// Returns the row of a year, if it has one. Rows are consecutive, so its index follows from the year of the first
+/// row.
 fn row_of(rows: &[HijriRow], extended_year: i32) -> Option<HijriYear>
     requires { IsRuleYear extended_year }
     ensures { result ≡ table.row_of (years_of rows.now) extended_year }
@@ -274,7 +276,7 @@ fn follows(before: HijriYear, row: HijriYear) -> bool
     row.first_day == end_day(before)
 }
 
-/// Returns the year of the row before the one at an index.
+/// Returns the year of the row before the row at an index, if there is one.
 fn row_before(rows: &[HijriRow], index: usize) -> Option<HijriYear>
     ensures { result ≡ row_before (years_of rows.now) index }
 {
@@ -285,7 +287,7 @@ fn row_before(rows: &[HijriRow], index: usize) -> Option<HijriYear>
     }
 }
 
-/// Returns whether the year of a row is the next one.
+/// Returns whether the year of a row is one more than the year of the row before it, or at least 1 for the first row.
 fn is_next(before: Option<HijriYear>, row: HijriYear) -> bool
     requires { IfSome before (λ before. IsTableYear before.extended_year) }
     ensures { result ≡ is_next before row }
@@ -368,7 +370,7 @@ fn first_broken(rows: &[HijriRow], index: usize, row: HijriRow) -> Option<TableP
     first_broken_of_year(rows, index, row.year())
 }
 
-/// Tests rows, and returns the first row that breaks a rule, and the first rule that it breaks.
+/// Checks rows, and returns the first row that breaks a rule, and the first rule that it breaks.
 fn check(rows: &[HijriRow]) -> Result<(), TableFault>
     ensures first { MatchResult result (λ _. by_rows.IsAccepted beside.friday_year rows.now)
         (by_rows.IsFirstFault beside.friday_year rows.now) }

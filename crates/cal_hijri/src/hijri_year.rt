@@ -33,8 +33,8 @@ pub struct HijriYear {
 impl HijriYear {
     /// Creates a year from the first days of its months, and of the first month of the next year.
     ///
-    /// None if the extended year isn't from -8000000 to 8000000, a month has neither 29 nor 30 days, or the first day is
-    /// more than 5 days before or after the start of the mean year.
+    /// Returns `None` if the extended year isn't from -8000000 to 8000000, a month has neither 29 nor 30 days, or the
+    /// first day is more than 5 days before or after the start of the mean year.
     ///
     /// ```
     /// let starts = [RataDie::new(738720); 13]; // no month has a day
@@ -91,7 +91,7 @@ impl HijriYear {
         RataDie::new(self.first_day)
     }
 
-    /// Returns the number of days of a month, 29 or 30. `month`: from 1 to 12.
+    /// Returns the number of days in a month, 29 or 30. `month`: from 1 to 12.
     ///
     /// ```
     /// let row = HijriRow {
@@ -109,7 +109,8 @@ impl HijriYear {
     }
 }
 
-/// Returns whether a year is from -8000000 to 8000000, and its first day at most 5 days from the start of the mean year.
+/// Returns whether a year is from -8000000 to 8000000, and its first day is at most 5 days from the start of the mean
+/// year.
 fn is_near_mean(extended_year: i32, first_day: RataDie) -> bool
     ensures { IsTrue result ↔ (IsRuleYear extended_year × IsNearMean extended_year first_day) }
 {
@@ -127,8 +128,8 @@ fn is_month_length(days: i64) -> bool
     29 <= days && days <= 30
 }
 
-/// Returns the bits of the months of 30 days, from the first days of the months and of the next year. None if a month
-/// has neither 29 nor 30 days.
+/// Returns the bits of the months of 30 days, from the first days of the months and of the next year, or `None` if a
+/// month has neither 29 nor 30 days.
 fn long_months(starts: &[RataDie; 13]) -> Option<u16>
     ensures some { IsSome result ↔ HaveMonthLengths starts.now 0 }
     ensures months { IfSome result (λ long. HasLengthsOf starts.now long) }
@@ -147,7 +148,7 @@ fn long_months(starts: &[RataDie; 13]) -> Option<u16>
     Some(long_months)
 }
 
-/// Returns the number of days of a month, 1 to 12: 30 if its bit is set.
+/// Returns the number of days in a month, 1 to 12: 30 if its bit is set, otherwise 29.
 pub(crate) fn days_in_month(long_months: u16, month: u8) -> u8
     requires { (1 ≤ month) × (month ≤ 12) }
     ensures value { result ≡ month_days long_months month }
@@ -156,7 +157,8 @@ pub(crate) fn days_in_month(long_months: u16, month: u8) -> u8
     29 + ((long_months >> (month - 1)) % 2) as u8
 }
 
-/// Returns the number of days before a month, 1 to 12. For the month 13 it is the number of days of the year.
+/// Returns the number of days in the year before a month, 1 to 12. For month 13, returns the number of days in the
+/// year.
 pub(crate) fn days_before_month(long_months: u16, month: u8) -> u16
     requires { (1 ≤ month) × (month ≤ 13) }
     ensures value { result ≡ prior_days long_months month }

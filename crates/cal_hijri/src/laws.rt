@@ -12,14 +12,14 @@ use crate::tabular_algorithm::{
 };
 use std::cmp::Ordering;
 
-/// Compares two epochs: Thursday is less than Friday.
+/// Epochs are ordered: Thursday is less than Friday.
 pub fn order_of_epochs(first: TabularAlgorithmEpoch, second: TabularAlgorithmEpoch) -> Ordering
     ensures { result ≡ nat_cmp (epoch_place first) (epoch_place second) }
 {
     first.cmp(&second)
 }
 
-/// Compares two rules of leap years: type II is less than type I.
+/// Rules of leap years are ordered: type II is less than type I.
 pub fn order_of_leap_years(
     first: TabularAlgorithmLeapYears,
     second: TabularAlgorithmLeapYears,
@@ -29,7 +29,7 @@ pub fn order_of_leap_years(
     first.cmp(&second)
 }
 
-/// Compares two tabular rules: by their leap years, then by their epoch.
+/// Tabular rules are ordered by their leap years, then by their epoch.
 pub fn order_of_rules(first: TabularAlgorithm, second: TabularAlgorithm) -> Ordering
     ensures { result ≡ nat_cmp (rules_place first) (rules_place second) }
 {

@@ -18,8 +18,8 @@ use std::fmt::Debug;
 
 /// Rules that decide the years of a Hijri calendar: the first day of each year, and which of its months have 30 days.
 ///
-/// [`Hijri`](crate::Hijri) is the calendar with such rules. A type with rules of your own proves the laws at the end of
-/// the trait.
+/// [`Hijri`](crate::Hijri) is the calendar over any rules. A type with rules of your own proves the laws at the end
+/// of the trait.
 pub trait Rules: Copy + Debug + UnstableSealed + Drop {
     ghost use Rattle.cal_hijri.specs.HijriList.{Joins, Numbered, hijri_days};
     ghost use Rattle.cal_hijri.specs.HijriNames.{AreReferences};
@@ -27,7 +27,7 @@ pub trait Rules: Copy + Debug + UnstableSealed + Drop {
     /// The error for dates under two rules that aren't compatible.
     type DateCompatibilityError: Debug + Drop;
 
-    /// The year of an extended year. Only those from -8000000 to 8000000 count.
+    /// The year of an extended year. Only the extended years from -8000000 to 8000000 matter.
     ghost year_of: { Self → ℤ → HijriYear };
 
     /// The reference year of a month from 1 to 12 and a day. By default there are no reference years.
@@ -49,8 +49,8 @@ pub trait Rules: Copy + Debug + UnstableSealed + Drop {
 
     /// Returns the year that contains a valid day.
     ///
-    /// `rd`: rata die, -365242499 to 365242134. A year starts at most 5 days from its mean start, so it is the mean year
-    /// of the day, or the year before or after it.
+    /// `rd`: rata die, -365242499 to 365242134. A year starts at most 5 days from its mean start, so the result is
+    /// the mean year of the day, or the year before or after it.
     fn year_containing_rd(&self, rd: RataDie) -> HijriYear
         requires { IsValidDay rd }
         ensures given { result ≡ year_of self.now result.extended_year }
@@ -86,15 +86,15 @@ pub trait Rules: Copy + Debug + UnstableSealed + Drop {
     fn ecma_reference_year(&self, month: Month, day: u8) -> Result<i32, EcmaReferenceYearError>
         ensures { result ≡ reference self.now (month_parts month) day };
 
-    /// Tests whether two rules are compatible, so that dates under them can be compared.
+    /// Checks whether two rules are compatible, so that dates under them can be compared.
     ///
     /// # Errors
     ///
-    /// - [`DateCompatibilityError`](Rules::DateCompatibilityError) if the rules aren't compatible.
+    /// - [`DateCompatibilityError`](Rules::DateCompatibilityError) exactly if the rules aren't compatible.
     fn check_date_compatibility(&self, other: &Self) -> Result<(), Self::DateCompatibilityError>
         ensures { IsOk result ↔ IsTrue (compatible self.now other.now) };
 
-    /// Returns the algorithm by which CLDR names the calendar (UTS 35), or None if it has no name for it.
+    /// Returns the algorithm by which CLDR names the calendar (UTS 35), or `None` if it has no name for it.
     fn calendar_algorithm(&self) -> Option<CalendarAlgorithm>
         ensures { result ≡ algorithm self.now };
 
@@ -102,19 +102,20 @@ pub trait Rules: Copy + Debug + UnstableSealed + Drop {
     fn debug_name(&self) -> &'static str
         ensures { result.now ≡ name self.now };
 
-    /// Each year has its number.
+    /// The year of an extended year has that extended year.
     ghost numbered: { (s : Self) → Numbered (year_of s) };
 
-    /// Each year starts on the day after the year before it.
+    /// Every year starts on the day after the year before it.
     ghost joins: { (s : Self) → Joins (year_of s) };
 
-    /// Reference years are in their range, and no month of the calendar is rejected as another one.
+    /// Reference years are from -1040000 to 1040000. `MonthNotInCalendar` is only for months other than the plain
+    /// months 1 to 12, and `UseRegularIfConstrain` is never returned.
     ghost references: { (s : Self) → AreReferences (reference s) };
 
-    /// There is an error for rules that aren't compatible.
+    /// If two rules aren't compatible, the error type has a value.
     ghost refusal: { (s t : Self) → compatible s t ≡ false → Self.DateCompatibilityError };
 
-    /// Compatibility is an equivalence: reflexive, symmetric and transitive.
+    /// Compatibility is an equivalence relation.
     ghost alike: { IsEquivalence compatible };
 
     /// Compatible rules have the same years.

@@ -14,7 +14,7 @@ use cal_types::{
 };
 use std::marker::PhantomData;
 
-/// The calendar that a table of years is for: its names.
+/// The names of a calendar with a table of years.
 pub trait TablePurpose: UnstableSealed {
     /// The algorithm by which CLDR names the calendar.
     ghost algorithm: { Option CalendarAlgorithm };
@@ -22,7 +22,7 @@ pub trait TablePurpose: UnstableSealed {
     /// The name of the calendar in English.
     ghost name: { List ℕ };
 
-    /// Returns the algorithm by which CLDR names the calendar (UTS 35), or None if it has no name for it.
+    /// Returns the algorithm by which CLDR names the calendar (UTS 35), or `None` if it has no name for it.
     fn calendar_algorithm() -> Option<CalendarAlgorithm>
         ensures { result ≡ algorithm };
 
@@ -82,7 +82,7 @@ impl TablePurpose for OfMecca {
 /// A year is its row in the table, or else the tabular year of type II with the epoch Friday. **Years without a row are
 /// computed**: they and their months may begin a day or more before or after the published ones.
 ///
-/// Dates under two such rules of one purpose can be compared if the tables have the same rows.
+/// Dates under two rules of the same purpose can be compared if their tables have the same rows.
 #[derive_where(Clone, Copy, Debug)]
 pub struct TableRules<'t, P> {
     table: HijriTable<'t>,
@@ -97,8 +97,8 @@ pub struct TableRules<'t, P> {
 /// For the published years, pass the table of the crate `published_years` (`umm_al_qura_table`) to
 /// [`UmmAlQura::new`](TableRules::new), or use its calendar `umm_al_qura`.
 ///
-/// CLDR's name for the calendar is `islamic-umalqura`. Dates under two such rules can be compared if the tables have the
-/// same rows.
+/// CLDR's name for the calendar is `islamic-umalqura`. Dates under two of these rules can be compared if their tables
+/// have the same rows.
 pub type UmmAlQura<'t> = TableRules<'t, OfSaudiArabia>;
 
 /// The rules of the calendar of the simulated first sight of the new moon at Mecca, with a table of years.
@@ -108,7 +108,8 @@ pub type UmmAlQura<'t> = TableRules<'t, OfSaudiArabia>;
 ///
 /// The crate `published_years` has no years of this calendar. Pass rows of your own to [`HijriTable::try_new`].
 ///
-/// CLDR has no name for the calendar. Dates under two such rules can be compared if the tables have the same rows.
+/// CLDR has no name for the calendar. Dates under two of these rules can be compared if their tables have the same
+/// rows.
 pub type AstronomicalSimulation<'t> = TableRules<'t, OfMecca>;
 
 impl<'t, P> TableRules<'t, P> {

@@ -38,7 +38,7 @@ pub enum TabularAlgorithmEpoch {
 /// The tabular rules: odd months have 30 days and even months 29, and the last month of a leap year has 30.
 ///
 /// CLDR's name for the calendar with the leap years of type II is `islamic-civil` with the epoch Friday, and
-/// `islamic-tbla` with the epoch Thursday. Dates under two such rules can be compared if the rules are the same.
+/// `islamic-tbla` with the epoch Thursday. Dates under two tabular rules can be compared if the rules are equal.
 ///
 /// Rules are ordered by the leap years, then by the epoch, each in the order of its variants.
 #[derive(Clone, Copy, Debug, PartialEq, Eq, PartialOrd, Ord, Hash)]
@@ -97,7 +97,7 @@ impl TabularAlgorithmEpoch {
 }
 
 impl TabularAlgorithmLeapYears {
-    /// Returns whether a year is a leap year, of 355 days.
+    /// Returns whether a year is a leap year, which has 355 days.
     fn is_leap_year(self, year: i32) -> bool
         ensures { IsTrue result ↔ IsTrue (is_leap self year) }
     {
@@ -107,7 +107,7 @@ impl TabularAlgorithmLeapYears {
         }
     }
 
-    /// Returns the bits of the months of 30 days.
+    /// Returns the bits of the months of 30 days in a year.
     fn long_months(self, year: i32) -> u16
         ensures { result ≡ long_by (is_leap self year) }
     {
@@ -145,8 +145,8 @@ pub(crate) fn tabular_year(rules: TabularAlgorithm, extended_year: i32) -> Hijri
     }
 }
 
-/// Returns the reference year of a day of a month, 1 to 12: the latest year in which it falls on or before 1972-12-31
-/// of the ISO calendar.
+/// Returns the reference year of a day of a month, 1 to 12: the latest year in which the day falls on or before
+/// 1972-12-31 of the ISO calendar.
 pub(crate) fn reference_year(epoch: TabularAlgorithmEpoch, month: u8, day: u8) -> i32
     ensures { result ≡ tabular_reference_year epoch month day }
 {

@@ -11,8 +11,9 @@ use cal_types::Window;
 
 /// The holidays in a window: an iterator in order of the days, and on one day in order of the rules' numbers.
 ///
-/// [`holidays()`] creates it. It takes no memory, and keeps the next day of each of 64 groups of rules. An item looks at
-/// these 64 days, and then searches the next day of each rule in the item's group, which is one rule in 64.
+/// [`holidays()`] creates it. It takes no memory. It keeps the next day of each of 64 groups of rules. To return an
+/// item, it looks at these 64 days, and then searches for the next day of each rule in the item's group, which has
+/// one rule in 64.
 ///
 /// [`Holidays::rest`](Merged::rest) returns the rest of the list.
 pub type Holidays<'b, 't> = Merged<BookRules<'b, 't>>;
@@ -26,8 +27,9 @@ ghost use Rattle.cal_holidays.specs.NamedDays.{AreHolidays};
 
 /// Returns the days of a window that the rules of a book name, each with the number of its rule.
 ///
-/// An item is a day of the window and the number of a rule that names it. Each such pair is listed once, in order of the
-/// days, and on one day in order of the rules' numbers. [`HolidayRule`](crate::HolidayRule) says which days a rule names.
+/// An item is a day of the window and the number of a rule that names it. Each pair is listed once, in order of the
+/// days, and on one day in order of the rules' numbers. [`HolidayRule`](crate::HolidayRule) says which days a rule
+/// names.
 ///
 /// On the window's first day, rules with a number below `first_rule` are left out. Pass 0 to list the whole window. A
 /// number that isn't below [`Book::len`] leaves out the first day.

@@ -12,7 +12,8 @@ use cal_days::{RataDie, gregorian, julian};
 /// How many years before and after a day's year have to be searched for an Easter at most 400 days away.
 const YEARS_BESIDE: i32 = 2;
 
-/// Returns the first day from `first` to `last` that lies `offset` days after Easter, or before it if `offset` is negative.
+/// Returns the first day from `first` to `last` that lies `offset` days after Easter, or before it if `offset` is
+/// negative.
 pub(crate) fn first_easter(
     julian: bool,
     offset: i32,

@@ -39,7 +39,7 @@ pub(crate) struct Fields<'r> {
     pub last: &'r [u8],
 }
 
-/// Returns a field by its place from 0, or an empty text if there is no such field.
+/// Returns the field at a place, counted from 0, or an empty text if the record has fewer fields.
 fn field(row: &ByteRecord, place: usize) -> &[u8]
     ensures { result.now ≡ get_or (fields_of row.now) place [] }
 {

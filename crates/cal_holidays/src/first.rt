@@ -9,7 +9,7 @@ use crate::rest::Rest;
 use crate::rules::NumberedRules;
 use cal_days::RataDie;
 
-/// How many first days are kept. The rules whose numbers are so many apart share a place.
+/// The number of first days that are kept. Rules whose numbers differ by a multiple of 64 share a place.
 pub(crate) const PLACES: usize = 64;
 
 /// A day and a rule that names it.
@@ -21,7 +21,7 @@ pub(crate) struct First {
 
 ghost use Rattle.cal_holidays.specs.Found.{IsEarlier, IsEarliest, pair_of, stretch_of};
 
-/// Returns the earlier of two, by day and then by rule.
+/// Returns the earlier of two first days, by day and then by rule.
 fn earlier(a: Option<First>, b: Option<First>) -> Option<First>
     ensures { IsEarlier a b result }
 {
@@ -32,7 +32,7 @@ fn earlier(a: Option<First>, b: Option<First>) -> Option<First>
     }
 }
 
-/// Returns the earliest of all, by day and then by rule.
+/// Returns the earliest of some first days, by day and then by rule.
 pub(crate) fn earliest(all: &[Option<First>]) -> Option<First>
     ensures { IsEarliest all.now (length all.now) result }
 {
@@ -43,7 +43,7 @@ pub(crate) fn earliest(all: &[Option<First>]) -> Option<First>
     best
 }
 
-/// Returns the first day from one to another that a rule names. `None` if the one lies past the other.
+/// Returns the first day from `from` to `last` that a rule names. `from` may be after `last`.
 fn first_day<R: NumberedRules>(rules: &R, rule: usize, from: i64, last: RataDie) -> Option<RataDie>
     requires rule { rule < R.count_of rules.now }
     requires from { FIRST_VALID_DAY ≤ℤ from }
@@ -56,7 +56,7 @@ fn first_day<R: NumberedRules>(rules: &R, rule: usize, from: i64, last: RataDie)
     rules.first_day(rule, RataDie::new(from), last)
 }
 
-/// Returns the first day of a stretch that one rule names.
+/// Returns the first day in the rest of a list that a rule names.
 fn first_of_rule<R: NumberedRules>(rules: &R, rule: usize, rest: Rest) -> Option<First>
     requires { rule < R.count_of rules.now }
     ensures { let names = R.names rules.now in let count = R.count_of rules.now in
@@ -69,7 +69,7 @@ fn first_of_rule<R: NumberedRules>(rules: &R, rule: usize, rest: Rest) -> Option
     })
 }
 
-/// Returns the first day of a stretch that any rule of a place names.
+/// Returns the first day in the rest of a list that any rule of a place names.
 pub(crate) fn first_of_place<R: NumberedRules>(rules: &R, place: usize, rest: Rest) -> Option<First>
     requires { place < 64 }
     ensures { let names = R.names rules.now in let count = R.count_of rules.now in

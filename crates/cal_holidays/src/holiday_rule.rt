@@ -32,15 +32,15 @@ pub enum HolidayRule {
         /// The number of days, from -400 to 400.
         offset: i32,
     },
-    /// The nth or the last of a weekday in a month of a calendar: the fourth Thursday of November.
+    /// The nth or the last of a weekday in a month of a calendar, such as the fourth Thursday of November.
     ///
-    /// A month without a fifth one has no such day.
+    /// In a month without a fifth one, the rule for the fifth names no day.
     Nth {
         /// The calendar.
         calendar: AnyCalendarKind,
         /// The month, which occurs in some year of the calendar.
         month: Month,
-        /// Which one in the month: 1 to 5, or -1 for the last.
+        /// The number of the weekday in the month: 1 to 5, or -1 for the last.
         nth: i8,
         /// The weekday.
         weekday: Weekday,

@@ -3,8 +3,8 @@
 //! [`Book::try_read`] reads a book, and [`holidays()`] lists the days of a window that its rules name. [`HolidayRule`]
 //! says which days a rule names.
 //!
-//! A book has no header. A record has six fields: the kind of its rule, the name of the holiday, the calendar, the month,
-//! a value, and a last field.
+//! A book has no header. A record has six fields: the kind of its rule, the name of the holiday, the calendar, the
+//! month, a value, and a last field.
 //!
 //! | Kind | Name | Calendar | Month | Value | Last |
 //! |---|---|---|---|---|---|

@@ -20,8 +20,8 @@ ghost use Rattle.cal_holidays.specs.Kept.{AreFirsts, AreKept};
 
 /// An iterator over the days that rules name, in order, and on one day by the number of the rule.
 ///
-/// Rules whose numbers are 64 apart share a place, and the first day of each place is kept. So an item looks at 64 days,
-/// and then searches the next day of each rule of its place.
+/// Rules whose numbers differ by a multiple of 64 share a place, and the first day of each place is kept. To return
+/// an item, the iterator looks at 64 days, and then searches for the next day of each rule of the item's place.
 #[derive(Drop)]
 pub struct Merged<R: NumberedRules> {
     rules: R,
@@ -59,7 +59,7 @@ impl<R: NumberedRules> Merged<R> {
         }
     }
 
-    /// Moves past the first day that a rule names.
+    /// Moves past the first item of the rest of the list.
     fn go_behind(&mut self, rest: Rest, first: First)
         requires left { self.old.rest ≡ Some rest }
         requires first { let names = R.names self.old.rules in let count = R.count_of self.old.rules in
@@ -80,9 +80,9 @@ impl<R: NumberedRules> Merged<R> {
 
     /// Returns the rest of the list: before the first item, the window and first rule that were passed in.
     ///
-    /// After a holiday it is the window from the holiday's day and the next rule's number. After the last rule it is the
-    /// window from the next day, and rule 0. `None` exactly if the last holiday was on the window's last day and of the
-    /// last rule, or if `next` has returned `None`.
+    /// After a holiday it is the window from the holiday's day and the next rule's number. After the last rule it is
+    /// the window from the next day, and rule 0. `None` exactly if the last holiday was on the window's last day and
+    /// of the last rule, or if `next` has returned `None`.
     ///
     /// # Examples
     ///

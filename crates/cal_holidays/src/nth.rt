@@ -20,7 +20,7 @@ use cal_types::{Month, Weekday};
 pub(crate) struct NthWeekday {
     /// The month.
     pub(crate) month: Month,
-    /// Which one in the month: 1 to 5, or -1 for the last.
+    /// The number of the weekday in the month: 1 to 5, or -1 for the last.
     pub(crate) nth: i8,
     /// The weekday.
     pub(crate) weekday: Weekday,
@@ -89,7 +89,7 @@ fn nth_from(days: MonthDays, asked: NthWeekday, from: i64) -> Option<i64>
     }
 }
 
-/// Returns the rank of a month, which no other month has.
+/// Returns a number for a month that no other month has.
 fn rank(month: Month) -> u16
     ensures { result ≡ month_rank (month_parts month) }
 {

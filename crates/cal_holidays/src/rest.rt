@@ -20,7 +20,7 @@ pub struct Rest {
 
 ghost use Rattle.cal_holidays.specs.Found.{IsWindowFrom, stretch_of};
 
-/// Returns the days of a window from one of them on.
+/// Returns the window from a day of a window to its last day.
 fn window_from(window: Window, day: RataDie) -> Option<Window>
     requires { IsBetween window.first window.last day }
     ensures { IsWindowFrom window day result }
@@ -29,7 +29,7 @@ fn window_from(window: Window, day: RataDie) -> Option<Window>
 }
 
 impl Rest {
-    /// Returns the first day on which a rule is listed.
+    /// Returns the number of the first day on which a rule is listed.
     pub(crate) fn begin_of(self, rule: usize) -> i64
         ensures day { BeginsAt (stretch_of self) rule result }
         ensures low { self.window.first ≤ℤ result }

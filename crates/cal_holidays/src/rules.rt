@@ -8,10 +8,10 @@ use cal_days::RataDie;
 
 /// Rules that name days, numbered from 0.
 pub trait NumberedRules: Copy {
-    /// Which rule names which day.
+    /// Whether a rule names a day.
     ghost names: { Self → ℕ → ℤ → Bool };
 
-    /// How many rules there are.
+    /// The number of rules.
     ghost count_of: { Self → ℕ };
 
     /// Returns the number of rules.

@@ -1,25 +1,25 @@
-//! Why the reading of a text stops.
+//! The reasons why reading a text stops.
 
 ghost use Rattle.std.specs.Prelude.{◌≡◌};
 
 use crate::book::BookError;
 
-/// Why the reading of a text's records stops.
+/// The reason why reading the records of a text stopped.
 #[derive(Drop)]
 pub(crate) enum Unread {
-    /// A record isn't one of a book.
+    /// A record is invalid.
     Bad {
         /// The number of the record, from 1.
         number: usize,
         /// The number of its first invalid field, from 1; 0 if it doesn't have six fields.
         field: u8,
     },
-    /// A record is one of a book, but there is no memory to keep it.
+    /// A record is valid, but there is no memory to keep it.
     Unkept {
         /// The number of the record, from 1.
         number: usize,
     },
-    /// `csv` can't read a record. Its error is never about the text: memory is lacking.
+    /// `csv` can't read a record, because memory is lacking. Its error is never about the text.
     Unreadable {
         /// The error.
         error: csv::Error,

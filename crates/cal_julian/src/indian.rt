@@ -25,18 +25,18 @@ use cal_types::{
 use std::convert::Infallible;
 use std::sync::ledger::Ledger;
 
-/// The Gregorian year in which a year begins, less the extended year.
+/// The Gregorian year in which a year begins, minus the extended year.
 const YEARS_BEHIND: i32 = 78;
 
-/// The days from March 1 to April 21, on which the second month, Vaisakha, begins in each year.
+/// The number of days from March 1 to April 21, on which month 2, Vaisakha, begins in every year.
 const VAISAKHA_AFTER_MARCH: u16 = 51;
 
 /// The Indian national calendar, in the Saka era.
 ///
-/// A year begins on day 81 of a Gregorian year, and is a leap year where that one is. Its first month has 30 days,
-/// or 31 in a leap year, the next five have 31, and the last six 30. Its one era has the code `shaka`, and the year
-/// in it is the extended year, also before year 1. The reference year of a day is 1894 up to the 10th of the tenth
-/// month, and 1893 after it. CLDR's name for it is `indian`.
+/// A year begins on day 81 of a Gregorian year, and is a leap year if that Gregorian year is one. Month 1 has 30
+/// days, or 31 in a leap year; months 2 to 6 have 31 days, and months 7 to 12 have 30. Its only era has the code
+/// `shaka`, and the era year is the extended year, even before year 1. The reference year of a day is 1894 up to day
+/// 10 of month 10, and 1893 after it. CLDR's name for it is `indian`.
 #[derive(Clone, Copy, Debug, Default, PartialEq, Eq, PartialOrd, Ord, Hash)]
 pub struct Indian;
 
@@ -52,11 +52,11 @@ impl Indian {
     }
 }
 
-/// A date of the Indian calendar: its year, its month and its day.
+/// A date of the Indian calendar: its year, its ordinal month and its day of the month.
 #[derive(Clone, Copy, Debug, PartialEq, Eq, PartialOrd, Ord, Hash)]
 pub struct IndianDateInner(ArithmeticDate<Indian>);
 
-/// Returns whether the year has 366 days.
+/// Returns whether a year from -8000000 to 8000000 has 366 days.
 fn is_leap(year: NumberedYear) -> bool
     requires { IsRuleYear year.number }
     ensures { IsTrue result ↔ IsTrue (indian_leap year.number) }
@@ -64,7 +64,7 @@ fn is_leap(year: NumberedYear) -> bool
     gregorian::is_leap_year(year.number + YEARS_BEHIND)
 }
 
-/// Returns the days of a month, 1 to 12. Only the first asks whether the year is a leap year.
+/// Returns the number of days in a month, 1 to 12. Only month 1 depends on whether the year is a leap year.
 fn days_in_month_of(year: NumberedYear, month: u8) -> u8
     requires year { IsRuleYear year.number }
     requires month { (1 ≤ month) × (month ≤ 12) }
@@ -77,7 +77,7 @@ fn days_in_month_of(year: NumberedYear, month: u8) -> u8
     }
 }
 
-/// Returns the days of a month, 1 to 12, in a leap year or a common one.
+/// Returns the number of days in a month, 1 to 12, of a leap year or a common year.
 fn days_in_month(leap: bool, month: u8) -> u8
     requires { (1 ≤ month) × (month ≤ 12) }
     ensures { result ≡ indian_month_length leap month }
@@ -90,8 +90,10 @@ fn days_in_month(leap: bool, month: u8) -> u8
     }
 }
 
-/// Returns the year on whose first day of Vaisakha a month's year begins, and the month as such years count it, 2 to
-/// 13.
+/// Returns the year of the last first day of Vaisakha (month 2) on or before the start of a month, and the month's
+/// number in the year that begins there, 2 to 13. Month 13 is month 1 of the next year.
+///
+/// `year`: -8000000 to 8000000. `month`: 1 to 12.
 fn in_vaisakha_year(year: i32, month: u8) -> (i32, u8)
     requires year { IsRuleYear year }
     requires month { (1 ≤ month) × (month ≤ 12) }
@@ -107,8 +109,8 @@ fn in_vaisakha_year(year: i32, month: u8) -> (i32, u8)
     }
 }
 
-/// Returns the days from the first day of Vaisakha to that of a month, 2 to 12, or of 13, which is the first of the
-/// next year.
+/// Returns the number of days from the first day of Vaisakha to the first day of a month, 2 to 13. Month 13 is month
+/// 1 of the next year.
 fn days_from_vaisakha(month: u8) -> u16
     requires { (2 ≤ month) × (month ≤ 13) }
     ensures value { result ≡ vaisakha_days_before month }
@@ -118,8 +120,8 @@ fn days_from_vaisakha(month: u8) -> u16
     30 * months + months.min(5)
 }
 
-/// Returns the month, 2 to 12, and the day of the month, of a day that lies 0 to 334 days after the first day of
-/// Vaisakha.
+/// Returns the month, 2 to 12, and the day of the month of the day that is `day` days after the first day of
+/// Vaisakha, 0 to 334.
 fn month_and_day_from_vaisakha(day: u16) -> (u8, u8)
     requires { day < 335 }
     ensures month { (2 ≤ result.0) × (result.0 ≤ 12) }
@@ -147,7 +149,7 @@ fn day_number(year: i32, month: u8, day: u8) -> i64
     gregorian::march_start(vaisakha_year + YEARS_BEHIND).to_i64_date() + i64::from(before)
 }
 
-/// Returns the date of a valid day: the year, the month and the day of the month.
+/// Returns the year, the ordinal month and the day of the month of a valid day.
 fn date_on(rd: RataDie) -> (i32, u8, u8)
     requires { IsValidDay rd }
     ensures on { IsOn indian_list rd (date result.0 result.1 result.2) }
@@ -161,7 +163,8 @@ fn date_on(rd: RataDie) -> (i32, u8, u8)
     (march_year - YEARS_BEHIND, month, day)
 }
 
-/// Returns the date of a day that lies 0 to 50 days after March 1 of a Gregorian year.
+/// Returns the year, the ordinal month and the day of the month of the day that is `since_march` days, 0 to 50, after
+/// March 1 of a Gregorian year from -1000000 to 999999.
 fn date_before_vaisakha(march_year: i32, since_march: u8) -> (i32, u8, u8)
     requires year { IsBetween (neg_ℤ (pos 1000000)) (pos 999999) march_year }
     requires day { since_march < 51 }
@@ -169,7 +172,7 @@ fn date_before_vaisakha(march_year: i32, since_march: u8) -> (i32, u8, u8)
     ensures year { IsBetween (neg_ℤ (pos 1000079)) (pos 999921) result.0 }
 {
     let year = march_year - YEARS_BEHIND;
-    // The first month begins on March 22, or a day earlier where a leap day goes before.
+    // The first month begins on March 22, or a day earlier after a leap day.
     let day = since_march + leap_days(march_year);
     if day < 21 {
         (year - 1, 12, day + 10)
@@ -178,7 +181,7 @@ fn date_before_vaisakha(march_year: i32, since_march: u8) -> (i32, u8, u8)
     }
 }
 
-/// Returns the leap days of a Gregorian year, 0 or 1.
+/// Returns the number of leap days in a Gregorian year, 0 or 1.
 fn leap_days(gregorian_year: i32) -> u8
     ensures { result ≡ (if gregorian_leap gregorian_year then 1 else 0) }
 {
@@ -296,8 +299,8 @@ impl Years for Indian {
     }
 }
 
-/// Returns the reference year of a day of a month, 1 to 12: the latest year in which it falls on or before 1972-12-31
-/// of the ISO calendar.
+/// Returns the reference year of a day of a month, 1 to 12: the latest year in which the day falls on or before
+/// 1972-12-31 of the ISO calendar.
 fn reference_year(month: u8, day: u8) -> i32
     ensures year { result ≡ indian_reference_year month day }
     ensures range { IsRuleYear result }

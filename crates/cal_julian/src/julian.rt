@@ -29,10 +29,9 @@ use std::sync::ledger::Ledger;
 
 /// The Julian calendar, with astronomical year numbers: year 0 is 1 BCE.
 ///
-/// It has the months of the Gregorian calendar, and every fourth year is a leap year, the centuries too. It
-/// is proleptic: the rule holds for the years before 8 CE as well. Its eras are `ce` and `bce`; they are also read
-/// as `ad` and `bc`. The reference year of a day is 1972, and 1971 from December 19 on. CLDR has no algorithm for
-/// it.
+/// It has the months of the Gregorian calendar. Every fourth year is a leap year, including centuries. It is
+/// proleptic: the rule also applies to the years before 8 CE. Its eras are `ce` and `bce`, which may also be given as
+/// `ad` and `bc`. The reference year of a day is 1972, or 1971 from December 19 on. CLDR has no algorithm for it.
 #[derive(Clone, Copy, Debug, Default, PartialEq, Eq, PartialOrd, Ord, Hash)]
 pub struct Julian;
 
@@ -48,11 +47,11 @@ impl Julian {
     }
 }
 
-/// A date of the Julian calendar: its year, its month and its day.
+/// A date of the Julian calendar: its year, its ordinal month and its day of the month.
 #[derive(Clone, Copy, Debug, PartialEq, Eq, PartialOrd, Ord, Hash)]
 pub struct JulianDateInner(ArithmeticDate<Julian>);
 
-/// Returns whether the year has 366 days.
+/// Returns whether a year from -8000000 to 8000000 has 366 days.
 fn is_leap(year: NumberedYear) -> bool
     requires { IsRuleYear year.number }
     ensures { IsTrue result ↔ IsTrue (julian_leap year.number) }
@@ -60,7 +59,7 @@ fn is_leap(year: NumberedYear) -> bool
     julian::is_leap_year(year.number)
 }
 
-/// Returns the days of a month, 1 to 12. Only February asks whether the year is a leap year.
+/// Returns the number of days in a month, 1 to 12. Only February depends on whether the year is a leap year.
 fn days_in_month_of(year: NumberedYear, month: u8) -> u8
     requires year { IsRuleYear year.number }
     requires month { (1 ≤ month) × (month ≤ 12) }
@@ -81,7 +80,7 @@ fn day_number(year: i32, month: u8, day: u8) -> i64
     julian::march_start(march_year).to_i64_date() + i64::from(before)
 }
 
-/// Returns the date of a valid day: the year, the ordinal month and the day of the month.
+/// Returns the year, the ordinal month and the day of the month of a valid day.
 fn date_on(rd: RataDie) -> (i32, u8, u8)
     requires { IsValidDay rd }
     ensures on { IsOn julian_list rd (date result.0 result.1 result.2) }
@@ -203,8 +202,8 @@ impl Years for Julian {
     }
 }
 
-/// Returns the reference year of a day of a month, 1 to 12: the latest year in which it falls on or before 1972-12-31
-/// of the ISO calendar.
+/// Returns the reference year of a day of a month, 1 to 12: the latest year in which the day falls on or before
+/// 1972-12-31 of the ISO calendar.
 fn reference_year(month: u8, day: u8) -> i32
     ensures year { result ≡ julian_reference_year month day }
     ensures range { IsRuleYear result }
@@ -254,7 +253,8 @@ impl DateFieldsResolver for Julian {
         (julian_reference_year m.number d) e };
 }
 
-/// Returns an extended year in its era: `ce`, or `bce` before year 1 (CLDR, UTS 35).
+/// Returns the era year of an extended year from -1040000 to 1040000: in `ce`, or in `bce` before year 1 (CLDR, UTS
+/// 35).
 fn era_year(year: i32) -> EraYear
     requires { IsFieldYear year }
     ensures { result ≡ julian_era_year year }

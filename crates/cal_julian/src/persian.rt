@@ -1,4 +1,4 @@
-//! The Persian calendar, which Iran uses.
+//! The Persian calendar, as used in Iran.
 
 ghost use Rattle.std.specs.Prelude.{◌≡◌};
 ghost use Rattle.cal_days.specs.Day.{IsRuleYear};
@@ -21,12 +21,12 @@ use cal_types::{
 use std::cmp::Ordering;
 use std::sync::ledger::Ledger;
 
-/// The Persian calendar, or Solar Hijri calendar, as Iran uses it.
+/// The Persian calendar, or Solar Hijri calendar, as used in Iran.
 ///
-/// A year has six months of 31 days, five of 30, and a last one of 29 or, in leap years, 30. Of 33 years 8 are leap
-/// years, but for the years that are corrected. Its one era has the code `ap`, and the year in it is the extended
-/// year (CLDR, UTS 35). The reference year of a day is 1351, and 1350 from month 10, day 11 on. CLDR's name for it
-/// is `persian`. Dates of two such calendars can be compared if the same years are corrected in both.
+/// A year has six months of 31 days, five of 30, and a last month of 29 days, or 30 in a leap year. Of 33 years, 8
+/// are leap years, except for the corrected years. Its only era has the code `ap`, and the era year is the extended
+/// year (CLDR, UTS 35). The reference year of a day is 1351, or 1350 from day 11 of month 10 on. CLDR's name for it
+/// is `persian`. Dates of two Persian calendars can be compared if the same years are corrected in both.
 #[derive(Clone, Copy, Debug)]
 pub struct Persian<'t> {
     corrections: PersianCorrections<'t>,
@@ -47,7 +47,7 @@ impl<'t> Persian<'t> {
     }
 }
 
-/// A date of the Persian calendar: its year, its month and its day.
+/// A date of the Persian calendar: its year, its ordinal month and its day of the month.
 #[derive(Clone, Copy, Debug, PartialEq, Eq, PartialOrd, Ord, Hash)]
 pub struct PersianDateInner<'t>(ArithmeticDate<Persian<'t>>);
 
@@ -77,7 +77,7 @@ impl<'t> YearShapes for Persian<'t> {
     }
 
     fn days_in_provided_month(&self, year: NumberedYear, month: u8) -> u8 {
-        // Only the last month asks whether the year is a leap year.
+        // Only the last month depends on whether the year is a leap year.
         if month == 12 {
             days_in_month(self.corrections.is_leap_year(year.number), month)
         } else {
@@ -167,8 +167,8 @@ impl<'t> Years for Persian<'t> {
     }
 }
 
-/// Returns the reference year of a day of a month, 1 to 12: the latest year in which it falls on or before 1972-12-31
-/// of the ISO calendar.
+/// Returns the reference year of a day of a month, 1 to 12: the latest year in which the day falls on or before
+/// 1972-12-31 of the ISO calendar.
 fn reference_year(month: u8, day: u8) -> i32
     ensures year { result ≡ persian_reference_year month day }
     ensures range { IsRuleYear result }

@@ -11,10 +11,10 @@ use crate::persian_rule::year_and_day_from_fixed;
 use cal_days::{RataDie, persian};
 use cal_types::{TableFault, TablePart};
 
-/// Years of the Persian calendar in which the rule of 33 years is corrected: such a year is a common year, and the
-/// next one is a leap year in its place, which starts one day earlier.
+/// Years of the Persian calendar in which the rule of 33 years is corrected. A corrected year is a common year. The
+/// year after it is a leap year instead, and starts one day earlier.
 ///
-/// The years rise. Each is from 1 to 9999, and a leap year by the rule.
+/// The years are in ascending order. Each is from 1 to 9999, and a leap year by the rule.
 #[derive(Clone, Copy, Debug)]
 pub struct PersianCorrections<'t> {
     years: &'t [i32],
@@ -23,7 +23,7 @@ pub struct PersianCorrections<'t> {
 }
 
 impl<'t> PersianCorrections<'t> {
-    /// Returns no corrections: every year goes by the rule.
+    /// Returns no corrections: every year follows the rule.
     ///
     /// ```
     /// assert!(rt; PersianCorrections::none().years().is_empty());
@@ -34,8 +34,8 @@ impl<'t> PersianCorrections<'t> {
         PersianCorrections { years: &[] }
     }
 
-    /// Returns the corrections of years that are known to be accepted, as those of constant data can be by computation.
-    /// No year is looked at.
+    /// Creates corrections from years that are known to be accepted, without checking them. For constant data,
+    /// acceptance can be proved by computation.
     ///
     /// ```text
     /// static YEARS: [i32; 78] = ..; // 1502 to 2987
@@ -48,13 +48,13 @@ impl<'t> PersianCorrections<'t> {
         PersianCorrections { years }
     }
 
-    /// Creates the corrections of some years.
+    /// Creates corrections from years.
     ///
     /// # Errors
     ///
-    /// - [`TableFault`] names the first invalid row, counted from 1, and the first part that breaks there:
-    ///   [`TablePart::Year`] if the year isn't from 1 to 9999, or isn't above the year before it;
-    ///   [`TablePart::Rule`] if it isn't a leap year by the rule of 33 years.
+    /// - [`TableFault`] names the first row, counted from 1, that breaks a rule, and the first rule that it breaks:
+    ///   [`TablePart::Year`] if the year isn't from 1 to 9999, or isn't above the year before it; [`TablePart::Rule`]
+    ///   if it isn't a leap year by the rule of 33 years.
     ///
     /// ```
     /// let corrections = PersianCorrections::try_new(&[1502])?;
@@ -83,7 +83,7 @@ impl<'t> PersianCorrections<'t> {
         self.years
     }
 
-    /// Returns whether a year is a corrected one.
+    /// Returns whether a year is corrected.
     fn contains(&self, year: i32) -> bool
         ensures { result ≡ is_corrected self.now.years.now year }
     {
@@ -115,8 +115,8 @@ impl<'t> PersianCorrections<'t> {
         }
     }
 
-    /// Returns the year that contains a valid day, -365242499 to 365242134, and how many of its days lie before that
-    /// day.
+    /// Returns the year that contains a valid day, -365242499 to 365242134, and the number of days in that year
+    /// before the day.
     pub(crate) fn year_and_day_from_fixed(&self, rd: RataDie) -> (i32, u16)
         requires { IsValidDay rd }
         ensures day { persian_new_year self.now.years.now result.0 +ℤ pos result.1 ≡ rd }
@@ -130,8 +130,9 @@ impl<'t> PersianCorrections<'t> {
         self.corrected(year, day)
     }
 
-    /// The year of a day, and how many of its days lie before that day, given both as they are by the rule.
-    // The look-up of a year without corrections is compiled in place where this isn't.
+    /// Returns the corrected year of a day, and the number of days in that year before the day, from both numbers by
+    /// the rule.
+    // Kept out of line, so that the look-up of a year without corrections is inlined.
     #[inline(never)]
     fn corrected(&self, year: i32, day: u16) -> (i32, u16)
         requires year { IsBetween (neg_ℤ (pos 1000621)) (pos 999378) year }
@@ -144,7 +145,7 @@ impl<'t> PersianCorrections<'t> {
         if starts_early {
             return (year, day + 1);
         }
-        // A corrected year leaves its last day to the next year.
+        // The last day of a corrected year becomes the first day of the next year.
         if day == 365 && self.contains(year) {
             (year + 1, 0)
         } else {
@@ -153,7 +154,7 @@ impl<'t> PersianCorrections<'t> {
     }
 }
 
-/// Returns the first part that a year breaks, after the year before it, if there is one.
+/// Returns the first rule that a year breaks, given the year before it in the list, if there is one.
 fn first_broken(before: Option<i32>, year: i32) -> Option<TablePart>
     ensures { MatchOption result (MeetsAll before year) (IsFirstBroken before year) }
 {
@@ -184,7 +185,7 @@ fn is_above(before: Option<i32>, year: i32) -> bool
     }
 }
 
-/// Returns whether years are accepted; if not, the first year and its first part that break.
+/// Checks years, and returns the first year that breaks a rule, and the first rule that it breaks.
 fn check(years: &[i32]) -> Result<(), TableFault>
     ensures first { MatchResult result (λ _. AreCorrections years.now) (IsFirstFault years.now) }
     ensures exact { IsOk result ↔ AreCorrections years.now }

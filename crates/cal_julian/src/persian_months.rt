@@ -6,10 +6,10 @@ ghost use Rattle.cal_julian.specs.PersianMonths.{month_of_day};
 
 use crate::long_months::months_and_day;
 
-/// The days of the six months of 31 days.
+/// The number of days in the six months of 31 days.
 const DAYS_IN_LONG_MONTHS: u16 = 186;
 
-/// Returns the days of a month, 1 to 12, in a leap year or a common one.
+/// Returns the number of days in a month, 1 to 12, of a leap year or a common year.
 pub fn days_in_month(leap: bool, month: u8) -> u8
     requires { (1 ≤ month) × (month ≤ 12) }
     ensures { result ≡ persian_month_length leap month }
@@ -21,7 +21,7 @@ pub fn days_in_month(leap: bool, month: u8) -> u8
     }
 }
 
-/// Returns the days of a year before a month, 1 to 12.
+/// Returns the number of days in a year before a month, 1 to 12.
 fn days_before_month(month: u8) -> u16
     requires { (1 ≤ month) × (month ≤ 12) }
     ensures bound { result ≤ 336 }
@@ -31,7 +31,7 @@ fn days_before_month(month: u8) -> u16
     30 * months + months.min(6)
 }
 
-/// Returns the days of a year before a day of a month, 1 to 12.
+/// Returns the number of days in a year before a day, 1 to 31, of a month, 1 to 12.
 pub fn days_before_day(month: u8, day: u8) -> u16
     requires month { (1 ≤ month) × (month ≤ 12) }
     requires day { (1 ≤ day) × (day ≤ 31) }
@@ -41,7 +41,7 @@ pub fn days_before_day(month: u8, day: u8) -> u16
     days_before_month(month) + u16::from(day - 1)
 }
 
-/// Returns the month, 1 to 12, and the day of the month, of a day of the year, which is counted from 0.
+/// Returns the month, 1 to 12, and the day of the month of a day of the year, 0 to 365.
 pub fn month_and_day(day_of_year: u16) -> (u8, u8)
     requires { day_of_year < 366 }
     ensures month { result.0 ≡ month_of_day day_of_year }

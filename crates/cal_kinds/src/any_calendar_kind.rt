@@ -57,7 +57,7 @@ pub enum AnyCalendarKind {
     HijriTabularTypeIThursday,
 }
 
-/// Returns whether a text is a name.
+/// Returns whether a text equals a name.
 fn is_name(bytes: &[u8], name: &[u8]) -> bool
     ensures { result ≡ is_code bytes.now name.now }
 {
@@ -75,8 +75,8 @@ fn kind_if(word: &[u8], name: &[u8], kind: AnyCalendarKind) -> Option<AnyCalenda
     }
 }
 
-/// Returns the place of a word in the table of names, from its length, its first byte and its last. Every name has a
-/// place of its own, so a word is compared with one name only.
+/// Returns the index of a word in the table of names, from its length, its first byte and its last. Every name has
+/// its own index, so a word is compared with one name only.
 fn place_of(word: &[u8]) -> usize
     requires { 0 < length word.now }
     ensures { result ≡ place_of word.now }
@@ -86,7 +86,7 @@ fn place_of(word: &[u8]) -> usize
     (2 * (word.len() % 16) + first + last) % 64
 }
 
-/// Returns the name at a place in the table of names, and its kind.
+/// Returns the name at an index of the table of names, and its kind.
 fn named_at(place: usize) -> Option<(&'static [u8], AnyCalendarKind)>
     ensures { option_map (λ named. (named.0.now, named.1)) result ≡ named_at place }
 {
@@ -122,7 +122,7 @@ fn named_at(place: usize) -> Option<(&'static [u8], AnyCalendarKind)>
 }
 
 impl AnyCalendarKind {
-    /// Returns the kind with a program name. Names that CLDR has are CLDR's (UTS 35).
+    /// Returns the kind with a program name. The names are CLDR's if CLDR has one (UTS 35).
     ///
     /// The names are `iso`, `gregorian`, `julian`, `buddhist`, `chinese`, `coptic`, `dangi`, `ethiopic`, `ethioaa`,
     /// `hebrew`, `indian`, `islamic-civil`, `islamic-simulated`, `islamic-tbla`, `islamic-umalqura`, `japanese`,

@@ -7,8 +7,8 @@ ghost use Rattle.cal_kinds.specs.KindOrder.{kind_place};
 use crate::any_calendar_kind::AnyCalendarKind;
 use std::cmp::Ordering;
 
-/// The order of two kinds: Buddhist, Chinese, Coptic, Dangi, Ethiopian, EthiopianAmeteAlem, Gregorian, Hebrew, Indian,
-/// HijriTabularTypeIIFriday, HijriSimulatedMecca, HijriTabularTypeIIThursday, HijriUmmAlQura, Iso, Japanese,
+/// Kinds are ordered as follows: Buddhist, Chinese, Coptic, Dangi, Ethiopian, EthiopianAmeteAlem, Gregorian, Hebrew,
+/// Indian, HijriTabularTypeIIFriday, HijriSimulatedMecca, HijriTabularTypeIIThursday, HijriUmmAlQura, Iso, Japanese,
 /// JapaneseExtended, Julian, Persian, Roc, HijriTabularTypeIFriday, HijriTabularTypeIThursday.
 pub fn order_of_kinds(first: AnyCalendarKind, second: AnyCalendarKind) -> Ordering
     ensures { result ≡ nat_cmp (kind_place first) (kind_place second) }

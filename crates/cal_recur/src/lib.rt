@@ -9,7 +9,7 @@
 //! - [`occurrence_counted`] computes the day of one occurrence from its index.
 //! - [`first_index_counted`] finds the index of the first occurrence on or after a day.
 //!
-//! No call takes memory. The last days of January and February 2021:
+//! No call allocates memory. The last days of January and February 2021:
 //!
 //! ```
 //! let window = Window::try_new(RataDie::new(737821), RataDie::new(737910))?;

@@ -12,7 +12,7 @@ use cal_days::RataDie;
 use cal_types::{DateDifferenceOptions, DateDurationUnit};
 
 /// Returns an index near the first occurrence on or after a day. Occurrences with a smaller index are before the day,
-/// and those with a greater index are after it.
+/// and occurrences with a greater index are after it.
 pub(crate) fn index_near<C: Calendar>(
     calendar: &C,
     start: &C::DateInner,
@@ -28,8 +28,8 @@ pub(crate) fn index_near<C: Calendar>(
     units_near(calendar, start, rule.unit(), day).div_ceil(rule.every())
 }
 
-/// Returns how many of a unit lead near a day: fewer lead before it, and more lead after it. Weeks and days are counted
-/// from the start's day number, so they don't need the date of the day.
+/// Returns a number of units that leads near a day: a smaller number leads before it, and a greater number after it.
+/// Weeks and days are counted from the start's day number, so they don't need the date of the day.
 fn units_near<C: Calendar>(
     calendar: &C,
     start: &C::DateInner,
@@ -48,8 +48,8 @@ fn units_near<C: Calendar>(
     }
 }
 
-/// Returns how many years lead near a day: the day's year minus the start's, or 0 if that is negative. They lead into
-/// the day's year, possibly to an earlier day.
+/// Returns a number of years that leads near a day: the day's year minus the start's, or 0 if that is negative. It
+/// leads into the day's year, possibly to an earlier day.
 fn years_near<C: Calendar>(calendar: &C, start: &C::DateInner, day: RataDie) -> u32
     requires belongs { IsTrue (C.belongs calendar.now start.now) }
     requires valid { IsValidDay day }
@@ -64,8 +64,8 @@ fn years_near<C: Calendar>(calendar: &C, start: &C::DateInner, day: RataDie) -> 
     (last - first) as u32
 }
 
-/// Returns how many months lead near a day: the months of the difference from the start to the day. If the difference
-/// has days, one more, since its months alone lead before the day.
+/// Returns a number of months that leads near a day: the months of the difference from the start to the day. If the
+/// difference has days, one more, since its months alone lead before the day.
 fn months_near<C: Calendar>(calendar: &C, start: &C::DateInner, day: RataDie) -> u32
     requires belongs { IsTrue (C.belongs calendar.now start.now) }
     requires valid { IsValidDay day }
@@ -85,7 +85,7 @@ fn months_near<C: Calendar>(calendar: &C, start: &C::DateInner, day: RataDie) ->
     difference.months + 1
 }
 
-/// Returns how many days a day lies after a start, or 0 if it isn't after it.
+/// Returns the number of days from a start to a day, or 0 if the day isn't after the start.
 fn days_ahead(start: RataDie, day: RataDie) -> u32
     requires from { IsValidDay start }
     requires to { IsValidDay day }

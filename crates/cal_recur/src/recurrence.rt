@@ -25,7 +25,7 @@ pub struct Occurrence {
     pub day: RataDie,
 }
 
-/// The occurrences of a rule in a window: an iterator whose indices rise, and so do its days. [`recur`] creates it.
+/// The occurrences of a rule in a window: an iterator with ascending indices and days. [`recur`] creates it.
 #[derive(Drop)]
 pub struct Recurrence<C: Calendar> {
     calendar: C,
@@ -42,17 +42,17 @@ pub struct Recurrence<C: Calendar> {
 
 /// Returns the occurrences of a rule in a window, in order: the start with 0, 1, 2, .. times the rule's units added.
 ///
-/// Each occurrence counts from the start (ECMAScript Temporal, `NonISODateAdd`), and none is before it. Occurrences that
-/// the rule skips, or whose sum is out of range, are left out. The start has to belong to the calendar, which
-/// [`Calendar::owns`] tests. Every inner date that the calendar returns does.
+/// Each occurrence counts from the start (ECMAScript Temporal, `NonISODateAdd`), and none is before it. Occurrences
+/// that the rule skips, or whose sum is out of range, are left out. The start has to belong to the calendar, which
+/// [`Calendar::owns`] checks. Every inner date that the calendar returns does.
 ///
 /// Monthly from January 31, 2021 (day 737821) to April 30 (737910), the indices are 0, 1, 2 and 3 under
 /// [`Missing::Constrain`]: the last days of the months. Under [`Missing::Skip`] they are 0 and 2: January 31 and March
 /// 31.
 ///
-/// Months take one difference ([`Calendar::until`]), from the start to the window's first day. Each occurrence
-/// takes one sum ([`Calendar::add`]), or two if it is skipped, and at most one occurrence before the window is computed.
-/// The cost doesn't depend on the distance from the start, and no memory is taken.
+/// Months take one difference ([`Calendar::until`]), from the start to the window's first day. Each occurrence takes
+/// one sum ([`Calendar::add`]), or two if it is skipped, and at most one occurrence before the window is computed.
+/// The cost doesn't depend on the distance from the start, and no memory is allocated.
 ///
 /// [`Missing::Constrain`]: crate::Missing::Constrain
 /// [`Missing::Skip`]: crate::Missing::Skip
@@ -96,9 +96,9 @@ pub fn recur<C: Calendar + Copy>(
 impl<C: Calendar + Copy> Recurrence<C> {
     /// Returns the rest of the window: the days after the last item, or the whole window before the first item.
     ///
-    /// `None` if the last item was on the window's last day, or if `next` has returned `None`. A caller may stop after
-    /// any item and continue later: [`recur`] with the same start and rule over the rest lists the remaining items, with
-    /// their indices.
+    /// Returns `None` if the last item was on the window's last day, or if `next` has returned `None`. A caller may
+    /// stop after any item and continue later: [`recur`] with the same start and rule over the rest lists the
+    /// remaining items, with their indices.
     ///
     /// # Examples
     ///

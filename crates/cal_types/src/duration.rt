@@ -1,4 +1,4 @@
-//! Durations in years, months, weeks and days, as the date part of ECMAScript Temporal's `Duration`.
+//! Durations in years, months, weeks and days, like the date part of ECMAScript Temporal's `Duration`.
 
 ghost use Rattle.std.specs.Prelude.{◌≡◌};
 ghost use Rattle.cal_types.specs.Duration.{duration_of};
@@ -20,7 +20,7 @@ pub enum DateDurationUnit {
     Days,
 }
 
-/// A signed duration. Its parts have no sign; `is_negative` turns the whole back in time.
+/// A signed duration. Its parts have no sign; if `is_negative` is true, the whole duration leads back in time.
 #[derive(Clone, Copy, Debug, PartialEq, Eq, Default)]
 pub struct DateDuration {
     /// Whether the duration leads back in time. An empty duration may have either sign.
@@ -104,7 +104,7 @@ impl DateDuration {
         }
     }
 
-    /// Reads a duration from a text, as [`DateDuration::try_from_utf8`].
+    /// Reads a duration from a text, like [`DateDuration::try_from_utf8`].
     ///
     /// # Errors
     ///
@@ -127,16 +127,16 @@ impl DateDuration {
     ///
     /// # Errors
     ///
-    /// The first thing that is wrong, from left to right:
+    /// The first error from left to right:
     ///
     /// - [`DateDurationParseError::PlusNotAllowed`] if the text begins with `+`.
-    /// - [`DateDurationParseError::InvalidStructure`] if `P` and something behind it don't follow, or a number is
-    ///   followed by no unit's letter.
-    /// - [`DateDurationParseError::TimeNotSupported`] if a `T` stands where a part begins.
-    /// - [`DateDurationParseError::MissingValue`] if a part begins with no digit.
-    /// - [`DateDurationParseError::NumberOverflow`] if a number is above the greatest `u64`, which is seen before its
-    ///   unit, or above the greatest `u32`, which is seen after it.
-    /// - [`DateDurationParseError::DuplicateUnit`] if a unit came before.
+    /// - [`DateDurationParseError::InvalidStructure`] if `P` and something after it don't follow, or a number isn't
+    ///   followed by the letter of a unit.
+    /// - [`DateDurationParseError::TimeNotSupported`] if a part begins with `T`.
+    /// - [`DateDurationParseError::MissingValue`] if a part doesn't begin with a digit.
+    /// - [`DateDurationParseError::NumberOverflow`] if a number is above `u64::MAX` (checked before its unit), or
+    ///   above `u32::MAX` (checked after its unit).
+    /// - [`DateDurationParseError::DuplicateUnit`] if a unit occurs a second time.
     ///
     /// # Examples
     ///

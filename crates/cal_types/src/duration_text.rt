@@ -191,7 +191,7 @@ fn unit_at(end: Option<u8>) -> Option<DateDurationUnit>
     }
 }
 
-/// Returns the number of digits, or None if it is above the greatest `u64`.
+/// Returns the number that the digits stand for, or `None` if it is above `u64::MAX`.
 fn number(digits: &[u8]) -> Option<u64>
     requires digits { list_all is_ascii_digit digits.now ≡ true }
     requires some { 0 < length digits.now }

@@ -15,7 +15,7 @@ pub trait Row: Copy {
         ensures { result ≡ equal self other };
 }
 
-/// Returns the number, from 1, of the first row in `old` that has no equal row in the same place of `rows`. Returns
+/// Returns the number, from 1, of the first row in `old` that has no equal row at the same index of `rows`. Returns
 /// `None` exactly if `rows` begin with `old`.
 pub fn first_difference<Y: Row>(old: &[Y], rows: &[Y]) -> Option<usize>
     ensures { MatchOption result (BeginWith Y.equal old.now rows.now) (IsFirstDifference Y.equal old.now rows.now) }
@@ -28,14 +28,14 @@ pub fn first_difference<Y: Row>(old: &[Y], rows: &[Y]) -> Option<usize>
     None
 }
 
-/// Whether rows have an equal row at an index.
+/// Returns whether rows have an equal row at an index.
 fn has_row<Y: Row>(rows: &[Y], index: usize, row: Y) -> bool
     ensures { result ≡ stands_in Y.equal rows.now index row }
 {
     is_like(row_at(rows, index), row)
 }
 
-/// Whether a row exists and is equal to another.
+/// Returns whether a row exists and is equal to another.
 fn is_like<Y: Row>(there: Option<Y>, row: Y) -> bool
     ensures { result ≡ is_like Y.equal there row }
 {
@@ -45,7 +45,7 @@ fn is_like<Y: Row>(there: Option<Y>, row: Y) -> bool
     }
 }
 
-/// The row at an index.
+/// Returns the row at an index, if there is one.
 fn row_at<Y: Copy>(rows: &[Y], index: usize) -> Option<Y>
     ensures { result ≡ slice_get rows.now index }
 {

@@ -1,7 +1,7 @@
 //! The plain types of dates: months, years, bags of fields, options, durations, windows and small texts. Over them
 //! `specs/` defines what a calendar, a date, fields, sums, differences and rows of tables mean in any calendar.
 //!
-//! Names and shapes follow the Rust crate `icu_calendar`. Month codes and options are those of ECMAScript Temporal.
+//! Names and shapes follow the Rust crate `icu_calendar`. Month codes and options follow ECMAScript Temporal.
 //! Callers find all types in the crate `icu_calendar`.
 #![tactic(auto)]
 

@@ -1,4 +1,4 @@
-//! A month by its number and leap status, as month codes of ECMAScript Temporal have it.
+//! Months: a number and a leap status, as in the month codes of ECMAScript Temporal.
 
 ghost use Rattle.std.specs.Prelude.{◌≡◌, ◌≤◌, min, Some, IfOk, ok_or};
 ghost use Rattle.cal_types.specs.Month.{plain_month, leap_month, code_numbered, code_text, month_numbered, month_read};
@@ -53,11 +53,11 @@ impl Month {
         }
     }
 
-    /// Reads a month code, as [`Month::try_from_utf8`].
+    /// Reads a month code, like [`Month::try_from_utf8`].
     ///
     /// # Errors
     ///
-    /// - [`MonthCodeParseError::InvalidSyntax`] if the text is no month code.
+    /// - [`MonthCodeParseError::InvalidSyntax`] if the text isn't a month code.
     ///
     /// # Examples
     ///
@@ -75,7 +75,7 @@ impl Month {
     ///
     /// # Errors
     ///
-    /// - [`MonthCodeParseError::InvalidSyntax`] for any other text.
+    /// - [`MonthCodeParseError::InvalidSyntax`] if the text isn't a month code.
     ///
     /// # Examples
     ///
@@ -156,7 +156,7 @@ impl Month {
     }
 }
 
-/// Returns the plain month with this number, as [`Month::new`].
+/// Returns the plain month with this number, like [`Month::new`].
 impl From<u8> for Month {
     ghost use Rattle.std.specs.Prelude.{◌≡◌};
     ghost use Rattle.cal_types.specs.Month.{plain_month};
@@ -169,7 +169,7 @@ impl From<u8> for Month {
     }
 }
 
-/// The number, or 99 if it is larger.
+/// Returns the number, or 99 if it is larger.
 const fn at_most_99(number: u8) -> u8
     ensures { result ≡ min number 99 }
 {

@@ -9,7 +9,7 @@ use std::fmt;
 
 /// A month code: `M`, two digits, and `L` for a leap month, such as `M05L`.
 ///
-/// It may hold any text of at most four bytes. [`MonthCode::parsed`] returns `None` if the text is no month code.
+/// It may hold any text of at most four bytes. [`MonthCode::parsed`] returns `None` if the text isn't a month code.
 #[derive(Clone, Copy, Debug, PartialEq, Eq, Hash, PartialOrd, Ord)]
 pub struct MonthCode(pub TinyAsciiStr<4>);
 
@@ -31,7 +31,7 @@ impl MonthCode {
         }
     }
 
-    /// Returns the month's number and whether it is a leap month, or `None` exactly if the text is no month code.
+    /// Returns the month's number and whether it is a leap month, or `None` exactly if the text isn't a month code.
     ///
     /// # Examples
     ///
@@ -48,7 +48,7 @@ impl MonthCode {
     }
 }
 
-/// The code's text.
+/// Writes the code's text.
 impl fmt::Display for MonthCode {
     ghost use Rattle.std.specs.Prelude.{Some};
 

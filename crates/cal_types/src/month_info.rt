@@ -22,7 +22,7 @@ pub enum LeapStatus {
 pub struct MonthInfo {
     /// The ordinal month: its number in the year, from 1.
     pub ordinal: u8,
-    /// The month code, by which it is the same month in every year.
+    /// The month code, which names the same month in every year.
     pub standard_code: MonthCode,
     /// The code to look up the month's name with: `M06L` for Adar in a Hebrew leap year, otherwise the standard code.
     pub formatting_code: MonthCode,
@@ -34,7 +34,7 @@ impl MonthInfo {
     ghost use Rattle.cal_types.specs.MonthParts.{month_parts};
     ghost use Rattle.cal_types.specs.MonthInfoParts.{month_info_parts};
 
-    /// Creates the month at an ordinal number of a year, which is formatted by the code of `formatting_month`.
+    /// Creates a `MonthInfo`. Its formatting code is the code of `formatting_month`.
     ///
     /// # Examples
     ///
@@ -89,7 +89,7 @@ impl MonthInfo {
         self.leap_status
     }
 
-    /// Returns the month as constructors of dates take it.
+    /// Returns the month in the form that date constructors take.
     ///
     /// # Examples
     ///

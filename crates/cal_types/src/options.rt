@@ -11,7 +11,7 @@ pub enum Overflow {
     Reject,
 }
 
-/// [`Overflow::Reject`].
+/// The default is [`Overflow::Reject`].
 impl Default for Overflow {
     ghost use Rattle.std.specs.Prelude.{◌≡◌};
     ghost use Rattle.cal_types.specs.declared.options.Overflow.TheVariants.{Reject};
@@ -33,7 +33,7 @@ pub enum MissingFieldsStrategy {
     Ecma,
 }
 
-/// [`MissingFieldsStrategy::Reject`].
+/// The default is [`MissingFieldsStrategy::Reject`].
 impl Default for MissingFieldsStrategy {
     ghost use Rattle.std.specs.Prelude.{◌≡◌};
     ghost use Rattle.cal_types.specs.declared.options.MissingFieldsStrategy.TheVariants.{Reject};

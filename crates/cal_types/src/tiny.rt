@@ -17,8 +17,7 @@ use std::str;
 
 /// A text of at most `N` ASCII bytes, each from 1 to 127.
 ///
-/// Equality, order and hash are those of the text as a `str`. It stands for the type with this name in the crate
-/// `tinystr`.
+/// It compares and hashes like the text as a `str`. It corresponds to the type with this name in the crate `tinystr`.
 #[derive(Clone, Copy, Debug)]
 pub struct TinyAsciiStr<const N: usize> {
     bytes: [u8; N],
@@ -152,7 +151,7 @@ impl<const N: usize> TinyAsciiStr<N> {
         self.len
     }
 
-    /// Returns the same text with room for `M` bytes, which it must not exceed.
+    /// Returns the same text with room for `M` bytes. The text must have at most `M` bytes.
     ///
     /// # Examples
     ///
@@ -170,7 +169,7 @@ impl<const N: usize> TinyAsciiStr<N> {
     }
 }
 
-/// Whether each byte is from 1 to 127.
+/// Returns whether every byte is from 1 to 127.
 fn is_text(bytes: &[u8]) -> bool
     ensures { result ≡ list_all is_text_byte bytes.now }
 {

@@ -26,7 +26,7 @@ pub enum Weekday {
 }
 
 impl Weekday {
-    /// Returns the weekday of the day a number of days after a Sunday, or before it if the number is negative.
+    /// Returns the weekday of the day `input` days after a Sunday, or before it if `input` is negative.
     ///
     /// # Examples
     ///
@@ -61,7 +61,7 @@ impl Weekday {
         self as u8
     }
 
-    /// The number of days after Sunday, from 0 to 6.
+    /// Returns the number of days after Sunday, from 0 to 6.
     pub(crate) const fn days_since_sunday(self) -> usize
         ensures value { result ≡ days_since_sunday self }
         ensures bound { result < 7 }
@@ -77,7 +77,7 @@ impl Weekday {
         }
     }
 
-    /// The day after.
+    /// Returns the next weekday.
     pub(crate) const fn next(self) -> Weekday
         ensures { result ≡ next_weekday self }
     {
@@ -93,7 +93,7 @@ impl Weekday {
     }
 }
 
-/// The weekday of a day number. Day 0 is a Sunday. (Reingold and Dershowitz, Calendrical Calculations)
+/// Returns the weekday of a day number. Day 0 is a Sunday. (Reingold and Dershowitz, Calendrical Calculations)
 impl From<RataDie> for Weekday {
     ghost from_gives = { λ rd day. pos (days_since_sunday day) ≡ int_rem_euclid rd (pos 7) };
 

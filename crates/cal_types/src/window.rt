@@ -98,7 +98,7 @@ impl Window {
         self.first <= day && day <= self.last
     }
 
-    /// Returns the days after one of the window's days, or `None` if that day is the last.
+    /// Returns the part of the window after one of its days, or `None` if that day is the last.
     ///
     /// # Examples
     ///

@@ -6,7 +6,7 @@ ghost use Rattle.cal_types.specs.declared.year.YearInfo.{YearInfo};
 
 use crate::tiny::TinyAsciiStr;
 
-/// A year as constructors of dates take it.
+/// A year in the form that date constructors take.
 #[derive(Clone, Copy, Debug, PartialEq)]
 pub enum YearInput<'a> {
     /// The extended year, which numbers a calendar's years without eras.
@@ -15,7 +15,7 @@ pub enum YearInput<'a> {
     EraYear(&'a str, i32),
 }
 
-/// The extended year.
+/// Returns the number as an extended year.
 impl<'a> From<i32> for YearInput<'a> {
     ghost use Rattle.cal_types.specs.declared.year.YearInput.TheVariants.{Extended};
 
@@ -142,7 +142,7 @@ impl YearInfo {
     }
 }
 
-/// [`YearInfo::Era`].
+/// Returns the year as [`YearInfo::Era`].
 impl From<EraYear> for YearInfo {
     ghost use Rattle.cal_types.specs.declared.year.YearInfo.TheVariants.{Era};
 
@@ -153,7 +153,7 @@ impl From<EraYear> for YearInfo {
     }
 }
 
-/// [`YearInfo::Cyclic`].
+/// Returns the year as [`YearInfo::Cyclic`].
 impl From<CyclicYear> for YearInfo {
     ghost use Rattle.cal_types.specs.declared.year.YearInfo.TheVariants.{Cyclic};
 

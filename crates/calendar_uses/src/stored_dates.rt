@@ -28,6 +28,7 @@ pub fn updated_date<'u>(
         let year = (kept_date stored.now.inner.0.parts).year in
         stored.now.calendar.0.table.rows.now ≡ old → IsNotAdded old longer year
         → IfOk result (λ r. r.moved ≡ false) }
+    ensures longer { IfOk result (λ r. r.date.calendar.0.table.rows.now ≡ rows.now.hijri.items) }
 {
     match table.lengthened(rows.umm_al_qura()) {
         Ok(longer) => Ok(hijri_date_kept(stored, Hijri::new_umm_al_qura(longer))),

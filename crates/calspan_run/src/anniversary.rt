@@ -1,4 +1,4 @@
-//! The command `anniversary`: the days that a month and a day name, year after year.
+//! The command `anniversary`: the days in a window on which a month and a day fall, year after year.
 
 pub(crate) mod days;
 pub(crate) mod words;

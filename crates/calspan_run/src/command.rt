@@ -1,4 +1,4 @@
-//! The command of a command line.
+//! Reading a command from the words of a command line.
 ghost use Rattle.std.specs.Prelude.{◌≡◌, ◌≤◌, IfSome, string_bytes, map};
 ghost use Rattle.std.specs.Option.{option_map};
 ghost use Rattle.request_lines.specs.Reading.{IsReading, next_word};
@@ -18,11 +18,11 @@ const MOST_REQUESTS: u32 = 100_000;
 /// A command with its arguments.
 #[derive(Clone, Copy, Debug)]
 pub enum Command<'a> {
-    /// `span`: answer the lines of the input.
+    /// `span`: answer each request line of the input.
     Span,
-    /// `gen COUNT`: sum up the answers to so many requests, at most 100000.
+    /// `gen COUNT`: count and sum up the answers to `COUNT` generated requests, at most 100000.
     Generate(u32),
-    /// `anniversary CAL SHOWN exact|constrain CODE DAY FIRST LAST`: list anniversaries.
+    /// `anniversary CAL SHOWN exact|constrain CODE DAY FIRST LAST`: list the anniversaries of a month and a day.
     Anniversary(AnniversaryWords),
     /// `recur CAL SHOWN UNIT EVERY skip|constrain FIRST LAST FIELDS`: list the occurrences of a rule.
     Recur(RecurWords<'a>),
@@ -32,7 +32,7 @@ pub enum Command<'a> {
 
 ghost use Rattle.calspan_run.specs.CommandSaid.{command_said};
 
-/// Returns the number of requests of the next word, one to six digits, up to 100000.
+/// Returns the number of the next word: one to six digits, at most 100000.
 fn next_count(words: &mut CommandWords) -> Option<u32>
     ensures read { IsReading (next_word count_of (words_left words.old)) result (words_left words.new) }
     ensures few { IfSome result (λ n. n ≤ 100000) }
@@ -45,7 +45,7 @@ fn next_count(words: &mut CommandWords) -> Option<u32>
     }
 }
 
-/// Returns the command if no word is left.
+/// Returns the command if no word is left after its arguments.
 fn at_end<'a>(command: Command<'a>, words: &CommandWords) -> Option<Command<'a>>
     requires { is_command (command_said command) }
     ensures said { option_map command_said result ≡ at_end (command_said command.entry) (words_left words.now) }
@@ -81,7 +81,7 @@ fn read_window(mut words: CommandWords<'_>) -> Option<Command<'_>>
     at_end(Command::Holidays(asked), &words)
 }
 
-/// Reads a command from all words behind a cursor.
+/// Reads a command from all remaining words.
 fn read_words(mut words: CommandWords<'_>) -> Option<Command<'_>>
     ensures said { option_map command_said result ≡ command_of (words_left words.entry) }
     ensures few { IfSome result (λ c. is_command (command_said c)) }
@@ -114,8 +114,8 @@ pub fn read_command(words: &[String]) -> Option<Command<'_>>
     read_words(CommandWords::new(words))
 }
 
-/// Reads a command from a command line in one text, with a single space between two words. `None` exactly if its words
-/// name no command.
+/// Reads a command from a command line in one text, with a single space between two words. `None` exactly if its
+/// words name no command.
 pub fn read_command_text(words: &str) -> Option<Command<'_>>
     ensures said { option_map command_said result ≡ command_of (words_in words.now) }
     ensures few { IfSome result (λ c. is_command (command_said c)) }

@@ -1,4 +1,4 @@
-//! The run of a command.
+//! Running a command.
 ghost use Rattle.std.specs.Prelude.{◌≡◌, ℕ, Option, Some, None, IfSome, ◌↔◌, map, string_bytes};
 ghost use Rattle.std.specs.Option.{option_map};
 ghost use Rattle.calspan_run.specs.Command.{Asked, Generate, command_of, is_command};
@@ -17,7 +17,7 @@ use crate::status::Status;
 use byte_io::{Sink, Source};
 use std::alloc::Global;
 
-/// Runs a command that was read.
+/// Runs a command.
 fn run_command<S: Source, K: Sink>(
     alloc: Global,
     command: Command<'_>,
@@ -39,7 +39,7 @@ fn run_command<S: Source, K: Sink>(
     }
 }
 
-/// Runs the command that was read, if there is one.
+/// Runs a command, or returns `Words` if there is none.
 fn run_read<S: Source, K: Sink>(
     alloc: Global,
     command: Option<Command<'_>>,
@@ -73,40 +73,41 @@ fn run_read<S: Source, K: Sink>(
 /// | `recur ..` | row lines | a line for each occurrence | `Done`, `Refused`, `TableRefused` |
 /// | `holidays FIRST LAST` | a book | a line for each holiday | `Done`, `Refused` |
 ///
-/// - `span` answers the requests over the tables whose rows stand before the first request line.
-/// - `gen` sums up the answers to `COUNT` generated requests. `COUNT` is one to six digits, up to 100000.
-/// - `anniversary CAL SHOWN exact|constrain CODE DAY FIRST LAST` lists the anniversaries of a month code and a day in the
-///   calendar `CAL`. A line has the date in `CAL` and the date in `SHOWN`.
-/// - `recur CAL SHOWN UNIT EVERY skip|constrain FIRST LAST FIELDS` lists the occurrences of every so many `years`,
-///   `months`, `weeks` or `days` from the date that the fields name. A line has the index before the two dates.
-/// - `holidays` reads a book (see [`cal_holidays`]). A line has the date in the ISO calendar and the holiday's name. The
-///   lines are in order of their days, and on one day in order of the book.
+/// - `span` answers the request lines. Its tables are the row lines before the first request line.
+/// - `gen` counts and sums up the answers to `COUNT` generated requests. `COUNT` is one to six digits, up to 100000.
+/// - `anniversary CAL SHOWN exact|constrain CODE DAY FIRST LAST` lists the anniversaries of a month code and a day in
+///   the calendar `CAL`. A line has the date in `CAL` and the date in `SHOWN`.
+/// - `recur CAL SHOWN UNIT EVERY skip|constrain FIRST LAST FIELDS` lists the occurrences of a rule: the date of the
+///   fields with 0, 1, 2, .. times `EVERY` `years`, `months`, `weeks` or `days` added. A line has the index, the date
+///   in `CAL` and the date in `SHOWN`.
+/// - `holidays` reads a book (see [`cal_holidays`]). A line has the date in the ISO calendar and the holiday's name.
+///   The lines are in order of their days, and on one day in the order of the book.
 ///
-/// A list covers the day numbers from `FIRST` to `LAST` (rata die). If its arguments or its book are invalid, one line
-/// stands in its place, for the first of these:
+/// A list covers the day numbers from `FIRST` to `LAST` (rata die). If its arguments or its book are invalid, one
+/// `err` line replaces the list. It names the first of these:
 ///
 /// - `err InvalidWindow` if `FIRST` and `LAST` aren't valid days in order.
 /// - `anniversary`: `err MonthNotInCalendar`, then `err InvalidDay`.
 /// - `recur`: `err Every` if `EVERY` is 0, then `err` with the first invalid field.
-/// - `holidays`: `err record R field F` for the first invalid record and its first invalid field. `F` is 0 if the record
-///   hasn't six fields.
+/// - `holidays`: `err record R field F` for the first invalid record and its first invalid field. `F` is 0 if the
+///   record doesn't have six fields.
 ///
 /// With `anniversary` and `recur`, the first line that isn't a row line ends the run with `err line N syntax` or
 /// `err line N long`.
 ///
-/// The status says how the run ended:
+/// The status says how the run ended.
 ///
-/// - `Done` and `Refused`: the whole text is written. `Refused` if one of its lines is `err`.
+/// - `Done` and `Refused`: the whole text is written. The status is `Refused` if one of its lines is `err`.
 /// - `Words`: the words name no command. Nothing was read or written.
-/// - `TableRefused`: a row line is invalid (`table line N syntax`, `range` or `late`), or a table (`table NAME ROW PART`).
-///   The answers before it and that line are written.
+/// - `TableRefused`: a row line is invalid (`table line N syntax`, `range` or `late`), or a table
+///   (`table NAME ROW PART`). The answers before it and the line about it are written.
 /// - `ReadFault`: the source counted a fault. With `span`, the answers to all lines whose LF was read are written;
 ///   otherwise nothing.
 /// - `WriteFault`: the sink counted a fault. A prefix of the text is written; its length isn't specified.
-/// - `TooLong`: the source gave more than 16777216 bytes. With `span`, the answers to all lines whose LF is among the
-///   first 16777216 are written; otherwise nothing.
-/// - `NoMemory`: there was no memory for a row of a year, or with `holidays` for the book. Nothing is written. A
-///   row line that is invalid or names an era needs no memory, and a book longer than 16777216 bytes is `TooLong`.
+/// - `TooLong`: the source has more than 16777216 bytes. With `span`, the answers to all lines whose LF is among the
+///   first 16777216 bytes are written; otherwise nothing.
+/// - `NoMemory`: there was no memory for a row of a year, or with `holidays` for the book. Nothing is written. A row
+///   line that is invalid or names an era needs no memory. A book of more than 16777216 bytes is `TooLong`.
 pub fn run<S: Source, K: Sink>(
     alloc: Global,
     words: &[String],
@@ -118,8 +119,8 @@ pub fn run<S: Source, K: Sink>(
     ensures unread { (count : ℕ) → command_of (map string_bytes words.now) ≡ Some (Generate count)
         → source.new ≡ source.old }
 
-    // How the run of a command ended, and what it took and wrote. Over every input within the limit, with no fault and
-    // with memory, all of its text is written.
+    // How the run ended, and what it read and wrote. If the input is within the limit, no fault is counted and there
+    // is memory, the whole text is written.
     ensures ends { let old = outside (S.left source.old) (K.taken sink.old) (S.faults source.old) (K.faults sink.old) in
         let new = outside (S.left source.new) (K.taken sink.new) (S.faults source.new) (K.faults sink.new) in
         Ends (command_of (map string_bytes words.now)) result old new }
@@ -127,8 +128,8 @@ pub fn run<S: Source, K: Sink>(
     run_read(alloc, read_command(words), source, sink)
 }
 
-/// Does what [`run`] does for a command line in one text, with a single space between two words. Takes no memory for the
-/// words.
+/// Runs the command that a command line in one text names, with a single space between two words. It does what
+/// [`run`] does, without allocating memory for the words.
 pub fn run_text<S: Source, K: Sink>(
     alloc: Global,
     words: &str,

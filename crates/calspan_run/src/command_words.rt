@@ -12,18 +12,18 @@ use cal_kinds::AnyCalendarKind;
 use cal_types::Month;
 use word_values::{read_byte, read_int, read_month_code};
 
-/// A cursor over the words of the command line, which are a list or one text with single spaces between words.
+/// A cursor over the words of the command line: a list of words, or one text with a single space between two words.
 #[derive(Clone, Copy)]
 pub(crate) enum CommandWords<'a> {
     /// The words of a list.
     Listed(&'a [String]),
-    /// The words of a text; `None` behind the last one.
+    /// The words of a text; `None` after the last one.
     Spaced(Option<&'a str>),
 }
 
 ghost use Rattle.calspan_run.specs.CommandWordsLeft.{words_behind, words_left};
 
-/// The first word of a list, and the words behind it.
+/// Returns the first word of a list and the words after it. `None` exactly if the list is empty.
 fn first_listed<'a>(words: &'a [String]) -> Option<(&'a [u8], &'a [String])>
     ensures { MatchOption result (map string_bytes words.now ≡ [])
         (λ p. map string_bytes words.now ≡ p.0.now ∷ map string_bytes p.1.now) }
@@ -32,7 +32,7 @@ fn first_listed<'a>(words: &'a [String]) -> Option<(&'a [u8], &'a [String])>
     Some((word.as_bytes(), rest))
 }
 
-/// The first word of a text, and the text behind the space that ends it.
+/// Returns the first word of a text, and the text after the space that ends the word.
 fn first_spaced<'a>(text: &'a str) -> (&'a [u8], Option<&'a str>)
     ensures { words_in text.now ≡ result.0.now ∷ words_behind (option_map (λ rest. rest.now) result.1) }
 {
@@ -42,7 +42,7 @@ fn first_spaced<'a>(text: &'a str) -> (&'a [u8], Option<&'a str>)
     }
 }
 
-/// Whether no word is left of a text.
+/// Returns whether a text has no word left.
 fn is_behind(text: Option<&str>) -> bool
     ensures { IsTrue result ↔ (words_behind (option_map (λ rest. rest.now) text.entry) ≡ []) }
 {
@@ -104,7 +104,7 @@ pub(crate) fn next_kind(words: &mut CommandWords) -> Option<AnyCalendarKind>
     AnyCalendarKind::from_program_name(words.next()?)
 }
 
-/// Returns the month of the next word, a month code.
+/// Returns the month of the next word, which is a month code.
 pub(crate) fn next_month(words: &mut CommandWords) -> Option<Month>
     ensures { let reading = next_word month_read (words_left words.old) in
         IsReading reading (option_map month_parts result) (words_left words.new) }

@@ -1,4 +1,4 @@
-//! The lines of days: the date in one calendar and the date in a second one.
+//! Lines for days: the date in one calendar and the date in a second calendar.
 ghost use Rattle.std.specs.Prelude.{◌≡◌, ◌+◌, ◌≤◌, ◌++◌};
 ghost use Rattle.arrayvec.specs.ArrayVec.{array_vec_len};
 ghost use Rattle.cal_days.specs.Day.{IsValidDay};
@@ -26,7 +26,7 @@ pub(crate) struct DayForm<'t, C> {
     pub(crate) tables: Tables<'t>,
 }
 
-/// Appends the line of a day, which takes at most 186 bytes.
+/// Appends the line of a day, at most 186 bytes.
 pub(crate) fn push_day_line<C: Calendar>(text: &mut Pending, form: &DayForm<'_, C>, day: RataDie)
     requires room { array_vec_len text.old + 186 ≤ 8192 }
     requires valid { IsValidDay day }
@@ -47,7 +47,7 @@ ghost use Rattle.byte_io.specs.Faults.{HasCause};
 ghost use Rattle.calspan_run.specs.DayLines.{is_window, IsListText};
 ghost use Rattle.calspan_run.specs.Endings.{Listed};
 
-/// Returns the window from a first to a last day. `None` exactly if they aren't valid days in order.
+/// Returns the window from the day number `first` to `last`. `None` exactly if they aren't valid days in order.
 pub(crate) fn window_of(first: i32, last: i32) -> Option<Window>
     ensures none { MatchOption result (is_window first last ≡ false)
         (λ w. (is_window first last ≡ true) × (w.first ≡ first) × (w.last ≡ last)) }

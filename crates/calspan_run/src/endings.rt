@@ -10,7 +10,7 @@ use byte_io::Sink;
 use reply_texts::Pending;
 use table_rows::{RowFault, TableRefusal};
 
-/// Writes the last text of a run and returns its status, or `WriteFault` if that fails.
+/// Writes the last text of a run. Returns the status of the run, or `WriteFault` if the sink counted a fault.
 pub(crate) fn end_with<K: Sink>(text: &Pending, status: Status, sink: &mut K) -> Status
     ensures { EndsWith result status (K.taken sink.old) (K.taken sink.new) (K.faults sink.old) (K.faults sink.new)
         text.now.items }

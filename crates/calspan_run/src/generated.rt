@@ -1,4 +1,4 @@
-//! The command `gen`: the requests that a number asks for, and the line of their counts and sums.
+//! The command `gen`: generated requests, and the line of counts and sums over their answers.
 
 pub(crate) mod generating;
 pub(crate) mod generator;

@@ -1,31 +1,31 @@
-//! Laws of the texts of the commands. Each is the contract of a function that does nothing.
+//! Laws of the texts of the commands, each proved as the contract of a function that does nothing.
 ghost use Rattle.calspan_run.specs.Answers.{IsAnswers};
 ghost use Rattle.calspan_run.specs.Asked.{AnniversaryAsked, HolidaysAsked, RecurAsked};
 ghost use Rattle.calspan_run.specs.Laws.{AnniversariesAreMeant, HolidaysAreMeant, OccurrencesAreMeant, EveryInputHas, IsUnique, PrefixesHavePrefixes, EveryNumberHasOneLine, EndsAsHolidays, EndsAsList};
 ghost use Rattle.calspan_run.specs.ListTexts.{ListsAnniversaries, ListsOccurrences};
 ghost use Rattle.calspan_run.specs.Rules.{holiday_rules, list_rules};
 
-/// An input, and every part of one that has come, has a text and a status.
+/// Every input of `span`, and every part of an input that has come, has a text and a status.
 pub fn every_input_has_answers()
     ensures { EveryInputHas IsAnswers }
 {}
 
-/// No input has two texts or two statuses.
+/// No input of `span` has two texts or two statuses.
 pub fn answers_are_unique()
     ensures { IsUnique IsAnswers }
 {}
 
-/// The text for the part of an input that has come is a prefix of every later text.
+/// The text for the part of an input of `span` that has come is a prefix of every later text.
 pub fn answers_to_a_prefix_are_a_prefix()
     ensures { PrefixesHavePrefixes IsAnswers }
 {}
 
-/// Every number of requests has exactly one line.
+/// Every number of generated requests has exactly one line of `gen`.
 pub fn every_number_has_one_line()
     ensures { EveryNumberHasOneLine }
 {}
 
-/// All arguments of `anniversary` and every input have exactly one text and one status.
+/// Every input has exactly one text and one status with any arguments of `anniversary`.
 pub fn anniversaries_have_one_text()
     ensures exists { (asked : AnniversaryAsked) → EveryInputHas (list_rules (ListsAnniversaries asked)).Says }
     ensures unique { (asked : AnniversaryAsked) → IsUnique (list_rules (ListsAnniversaries asked)).Says }
@@ -37,7 +37,7 @@ pub fn anniversaries_are_meant()
     ensures { AnniversariesAreMeant }
 {}
 
-/// All arguments of `recur` and every input have exactly one text and one status.
+/// Every input has exactly one text and one status with any arguments of `recur`.
 pub fn recurrences_have_one_text()
     ensures exists { (asked : RecurAsked) → EveryInputHas (list_rules (ListsOccurrences asked)).Says }
     ensures unique { (asked : RecurAsked) → IsUnique (list_rules (ListsOccurrences asked)).Says }
@@ -49,7 +49,7 @@ pub fn occurrences_are_meant()
     ensures { OccurrencesAreMeant }
 {}
 
-/// All arguments of `holidays` and every input have exactly one text and one status.
+/// Every input has exactly one text and one status with any arguments of `holidays`.
 pub fn holidays_have_one_text()
     ensures exists { (asked : HolidaysAsked) → EveryInputHas (holiday_rules asked).Says }
     ensures unique { (asked : HolidaysAsked) → IsUnique (holiday_rules asked).Says }
@@ -61,7 +61,7 @@ pub fn holidays_are_meant()
     ensures { HolidaysAreMeant }
 {}
 
-/// The bytes that a run of `anniversary`, `recur` or `holidays` has read and written, for each status.
+/// Every run of `anniversary`, `recur` or `holidays` has read and written the bytes that its status describes.
 pub fn runs_of_lists_end()
     ensures anniversary { (asked : AnniversaryAsked) → EndsAsList (ListsAnniversaries asked) }
     ensures recur { (asked : RecurAsked) → EndsAsList (ListsOccurrences asked) }

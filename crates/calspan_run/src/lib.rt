@@ -1,10 +1,12 @@
 //! The program `calspan` over any source and sink.
 //!
-//! Start with [`run`], which has a table of the commands; [`run_program`] adds the words of the command line and the exit
-//! code. All commands share one contract for how a run ends: every input has exactly one text and one status ([`laws`]).
+//! Start with [`run`], which has a table of the commands. [`run_program`] adds the words of the command line and the
+//! exit code. All commands share one contract for how a run ends: every input has exactly one text and one status
+//! ([`laws`]).
 //!
-//! The reply to a request has the dates of its two bags of fields, the same days in the second calendar and the difference,
-//! or the first invalid field ([`reply`]). Each calendar of a request is made, and asked once, in its own type.
+//! The reply to a request has the dates of its two bags of fields, the same days in the second calendar, and the
+//! difference, or the first invalid field ([`reply`]). Each calendar of a request is used in its own type, and
+//! created once.
 #![tactic(auto)]
 
 mod anniversary;

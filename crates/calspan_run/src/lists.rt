@@ -1,4 +1,4 @@
-//! A run of a command that writes a list over tables.
+//! Running a command that writes a list over tables.
 ghost use Rattle.std.specs.Prelude.{◌+◌, ℕ, List, Bool, if◌then◌else◌, codes};
 ghost use Rattle.byte_io.specs.Faults.{HasCause};
 ghost use Rattle.cal_types.specs.CalendarSystem.{CalendarSystem};
@@ -24,10 +24,10 @@ use table_rows::{Gathered, TableRows, gather};
 
 /// A list over tables.
 pub trait TableList {
-    /// The text over some tables, and whether it is an `err` line in place of the list.
+    /// The text over some tables, and whether it is an `err` line instead of the list.
     ghost lists: { Self → TableContents → List ℕ → Bool → Type 0 };
 
-    /// Writes the list, or the `err` line in its place. Returns whether it is an `err` line.
+    /// Writes the list, or one `err` line instead. Returns whether the text is an `err` line.
     ///
     /// # Errors
     ///
@@ -40,10 +40,10 @@ pub trait TableList {
 
 /// A list in one calendar, shown in others over tables.
 pub trait CalendarListing {
-    /// The text in a calendar and over some tables, and whether it is an `err` line in place of the list.
+    /// The text in a calendar and over some tables, and whether it is an `err` line instead of the list.
     ghost lists_in: { Self → CalendarSystem → TableContents → List ℕ → Bool → Type 0 };
 
-    /// Writes the list in a calendar, or the `err` line in its place. Returns whether it is an `err` line.
+    /// Writes the list in a calendar, or one `err` line instead. Returns whether the text is an `err` line.
     ///
     /// # Errors
     ///
@@ -70,7 +70,7 @@ fn refuse_line<K: Sink>(number: u64, is_long: bool, sink: &mut K) -> Status
     end_with(&text, Status::Refused, sink)
 }
 
-/// Writes the list over the tables of these rows, or the line for an invalid table.
+/// Writes the list over the tables of the rows, or the line for an invalid table.
 fn list_over<L: TableList, K: Sink>(rows: &TableRows, list: &L, sink: &mut K) -> Status
     ensures { (text : List ℕ) × (status : Status)
         × OverTables (list_end (L.lists list.now)) (rows_said rows.now) text status
@@ -87,8 +87,8 @@ fn list_over<L: TableList, K: Sink>(rows: &TableRows, list: &L, sink: &mut K) ->
     }
 }
 
-/// Runs a command with a list: reads row lines to the end of the source, and writes the list over their tables. A line that
-/// isn't a row line ends the run with an `err` line.
+/// Runs a command with a list: reads row lines to the end of the source, and writes the list over their tables. A
+/// line that isn't a row line stops the run with an `err` line.
 pub fn serve_list<L: TableList, S: Source, K: Sink>(
     alloc: Global,
     list: &L,

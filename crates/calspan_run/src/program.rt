@@ -12,7 +12,7 @@ use std::alloc::Global;
 use std::io;
 use std::io::ErrorKind;
 
-/// Returns the status if the system couldn't hand out the words: one isn't UTF-8, or there is no memory for them.
+/// Returns the status if the system can't provide the words: one isn't UTF-8, or there is no memory for them.
 fn words_failed(error: &io::Error) -> Status
     ensures memory { error_kind error.now ≡ ErrorKind.OutOfMemory → result ≡ Status.NoMemory }
     ensures others { error_kind error.now ≢ ErrorKind.OutOfMemory → result ≡ Status.Words }
@@ -33,10 +33,11 @@ fn behind_name(words: &[String]) -> &[String]
     }
 }
 
-/// Runs the program and returns its exit code, the [`code`] of the run's status. `words` is the program's name and the words
-/// of its command line after it.
+/// Runs the program and returns its exit code, the [`code`] of the run's status. `words` is the program's name, then
+/// the words of its command line.
 ///
-/// If the words can't be had, nothing is read or written, and the code is 5 if there was no memory for them, otherwise 2.
+/// If the system can't provide the words, nothing is read or written. The code is 5 if there was no memory for them,
+/// otherwise 2.
 pub fn run_program<W: Iterator<Item = String> + Drop, S: Source, K: Sink>(
     alloc: Global,
     words: io::Result<W>,

@@ -1,4 +1,5 @@
-//! The command `recur`: a date with so many years, months, weeks or days added again and again.
+//! The command `recur`: the occurrences of a rule that adds a number of years, months, weeks or days to a date again
+//! and again.
 
 pub(crate) mod occurrences;
 pub(crate) mod words;

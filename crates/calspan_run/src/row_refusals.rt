@@ -19,7 +19,7 @@ fn row_fault_word(why: RowFault) -> &'static [u8]
     }
 }
 
-/// Returns the words before the number of a table's row.
+/// Returns the words before a row's number in the line for an invalid table.
 fn table_words(table: Table) -> &'static [u8]
     ensures words { result.now ≡ table_text table }
     ensures short { length result.now ≤ 20 }

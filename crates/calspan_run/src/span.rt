@@ -1,4 +1,4 @@
-//! The command `span`: requests, and the answers to lines.
+//! The command `span`: the answers to request lines.
 
 pub(crate) mod answers;
 pub(crate) mod replies;

@@ -7,7 +7,7 @@ use table_rows::Stop;
 pub enum Status {
     /// The input was read to its end, the whole text is written, and no line of it is `err`.
     Done,
-    /// The whole text is written, and one of its lines is `err`.
+    /// The whole text is written, and at least one of its lines is `err`.
     Refused,
     /// The words of the command line name no command.
     Words,
@@ -33,7 +33,7 @@ pub fn code(status: Status) -> u8
     status as u8
 }
 
-/// Returns the status if reading row lines stopped at no particular line.
+/// Returns the status for the reason why reading row lines stopped at no particular line.
 pub(crate) fn status_of_stop(stop: Stop) -> Status
     ensures { result ≡ stop_status stop }
 {

@@ -1,4 +1,4 @@
-//! Writing a text of any length in pieces, with about one write for each buffer.
+//! Writing a text of any length in pieces, with about one write for each full buffer.
 ghost use Rattle.std.specs.Prelude.{◌≡◌, ◌+◌, ◌≤◌, ◌++◌, [], ℕ, List, Option, Some, length, OnOk};
 ghost use Rattle.std.specs.Iterator.{AlwaysYields, IsFinite};
 ghost use Rattle.arrayvec.specs.ArrayVec.{array_vec_len};
@@ -9,7 +9,7 @@ ghost use Rattle.calspan_run.specs.Written.{Wrote};
 use byte_io::{Failed, Sink};
 use reply_texts::{Pending, push_all};
 
-/// A writer of items, a line each.
+/// Writes each item of a list as a line.
 pub trait ItemLines {
     /// An item of the list.
     type Item;
@@ -20,7 +20,7 @@ pub trait ItemLines {
     /// The line of an item.
     ghost line_of: { Self → Self.Item → List ℕ };
 
-    /// Appends the line of an item, which takes at most 512 bytes.
+    /// Appends the line of an item, at most 512 bytes.
     fn push_line(&self, text: &mut Pending, item: Self::Item)
         requires room { array_vec_len text.old + 512 ≤ 8192 }
         requires shown { is_shown self.now item }
@@ -78,7 +78,7 @@ pub fn make_room<K: Sink>(pending: &mut Pending, sink: &mut K) -> Result<(), Fai
     flush(pending, sink)
 }
 
-/// Writes the pending text, then pushes a piece that didn't fit after it.
+/// Writes the pending text, then appends a piece that didn't fit after it.
 fn push_past<K: Sink>(pending: &mut Pending, piece: &[u8], sink: &mut K) -> Result<(), Failed>
     ensures text { (before : Option (List ℕ)) (text : List ℕ)
         → TextSoFar before (K.taken sink.old) pending.old.items text
@@ -93,7 +93,7 @@ fn push_past<K: Sink>(pending: &mut Pending, piece: &[u8], sink: &mut K) -> Resu
     Ok(())
 }
 
-/// Pushes a piece of any length. The pending text is written first if the piece doesn't fit after it.
+/// Appends a piece of any length. Writes the pending text first if the piece doesn't fit after it.
 ///
 /// # Errors
 ///
@@ -111,7 +111,7 @@ pub fn push<K: Sink>(pending: &mut Pending, piece: &[u8], sink: &mut K) -> Resul
     Ok(())
 }
 
-/// Pushes a line for each item of a list.
+/// Appends a line for each item of a list.
 ///
 /// # Errors
 ///

@@ -7,7 +7,14 @@ ghost use Rattle.date_bytes.specs.HebrewBytes.{IsHebrewLength, class_of, hebrew_
 
 use crate::solar;
 
-/// Packs the length of a year, and a date of it. M05L 10 of 5787, a year of 385 days, gives `[5, 202, 54, 45, 0]`.
+/// Packs a date and the length of its year.
+///
+/// - `year`: -1040000 to 1040000.
+/// - `length`: 353, 354, 355, 383, 384 or 385 days.
+/// - `month`: the ordinal month, 1 to 13.
+/// - `day`: 1 to 31.
+///
+/// M05L 10 of 5787, a year of 385 days, is packed into `[5, 202, 54, 45, 0]`.
 pub fn pack(year: i32, length: u16, month: u8, day: u8) -> [u8; 5]
     requires year { IsFieldYear year }
     requires length { IsHebrewLength length }
@@ -23,7 +30,7 @@ pub fn pack(year: i32, length: u16, month: u8, day: u8) -> [u8; 5]
     [class_of_length(length), a, b, c, d]
 }
 
-/// Returns the place of a year's length among the six lengths of years, from 0.
+/// Returns the index of a year's length among the six possible lengths, from 0.
 fn class_of_length(length: u16) -> u8
     requires { IsHebrewLength length }
     ensures { result ≡ class_of length }
@@ -35,7 +42,7 @@ fn class_of_length(length: u16) -> u8
     }
 }
 
-/// Returns the length of the year of a packed date.
+/// Returns the length of a packed date's year: 353, 354, 355, 383, 384 or 385 days.
 pub fn unpack_length(packed: [u8; 5]) -> u16
     ensures value { result ≡ length_in packed }
     ensures known { IsHebrewLength result }
@@ -50,7 +57,7 @@ pub fn unpack_length(packed: [u8; 5]) -> u16
     }
 }
 
-/// Returns the bytes of a packed date behind those that are kept of its year.
+/// Returns the four bytes of the year, the ordinal month and the day.
 fn date_part(packed: [u8; 5]) -> [u8; 4]
     ensures { number_from 0 result ≡ number_from 1 packed }
 {
@@ -58,7 +65,7 @@ fn date_part(packed: [u8; 5]) -> [u8; 4]
     [a, b, c, d]
 }
 
-/// Returns the year of a packed date.
+/// Returns the year of a packed date, from -4194304 to 4194303.
 pub fn unpack_year(packed: [u8; 5]) -> i32
     ensures value { result ≡ year_from 1 packed }
     ensures range { IsBetween (neg_ℤ (pos 4194304)) (pos 4194303) result }
@@ -66,14 +73,14 @@ pub fn unpack_year(packed: [u8; 5]) -> i32
     solar::unpack_year(date_part(packed))
 }
 
-/// Returns the place of the month of a packed date.
+/// Returns the ordinal month of a packed date.
 pub fn unpack_month(packed: [u8; 5]) -> u8
     ensures { result ≡ month_from 1 packed }
 {
     solar::unpack_month(date_part(packed))
 }
 
-/// Returns the day of a packed date.
+/// Returns the day of the month of a packed date.
 pub fn unpack_day(packed: [u8; 5]) -> u8
     ensures { result ≡ day_from 1 packed }
 {

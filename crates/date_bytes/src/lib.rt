@@ -1,7 +1,9 @@
-//! Dates in a few bytes: a year, the place of a month and a day in four, behind what a calendar keeps of its year.
+//! Packs dates into four to seven bytes. The last four bytes store the year, the ordinal month and the day. The bytes
+//! before them store what a calendar keeps about its year.
 //!
-//! `pack` gives exactly the bytes of the definitions, and what is read of them is what was packed. Any bytes can be read: what no year has
-//! is read as something that a year may have.
+//! `pack` returns exactly the bytes of the definitions, and unpacking returns what was packed. Any bytes can be
+//! unpacked: month lengths, a leap month, a length or a start that no year has are read as values that a year may
+//! have.
 #![tactic(auto)]
 
 pub mod east_asian;

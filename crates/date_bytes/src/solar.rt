@@ -1,11 +1,11 @@
-//! A year, the place of a month in it, and a day of that month, in four bytes.
+//! A date in four bytes: a year, an ordinal month and a day of the month.
 
 ghost use Rattle.std.specs.Prelude.{◌≡◌, ◌≤◌, pos, neg_ℤ};
 ghost use Rattle.cal_days.specs.Day.{IsBetween, IsFieldYear};
 ghost use Rattle.date_bytes.specs.Bytes.{date_bytes, date_number, day_from, month_from, year_from};
 
-/// Packs a year from -1040000 to 1040000 with a month's place from 1 to 13 and a day from 1 to 31: the bytes of
-/// `512 * year + 32 * month + day`, the lowest first. 2024-03-01 gives `[97, 208, 15, 0]`.
+/// Packs a date into the little-endian bytes of `512 * year + 32 * month + day`. The year is from -1040000 to
+/// 1040000, the ordinal month from 1 to 13, and the day from 1 to 31. 2024-03-01 is packed into `[97, 208, 15, 0]`.
 pub fn pack(year: i32, month: u8, day: u8) -> [u8; 4]
     requires year { IsFieldYear year }
     requires month { (1 ≤ month) × (month ≤ 13) }
@@ -18,7 +18,7 @@ pub fn pack(year: i32, month: u8, day: u8) -> [u8; 4]
     date_number(year, month, day).to_le_bytes()
 }
 
-/// Returns the year, the place of the month and the day as one number.
+/// Returns the year, the ordinal month and the day as one number.
 fn date_number(year: i32, month: u8, day: u8) -> i32
     requires year { IsFieldYear year }
     requires month { month ≤ 13 }
@@ -28,7 +28,7 @@ fn date_number(year: i32, month: u8, day: u8) -> i32
     512 * year + 32 * i32::from(month) + i32::from(day)
 }
 
-/// Returns the year of a packed date: any that 23 bits hold.
+/// Returns the year of a packed date, from -4194304 to 4194303.
 pub fn unpack_year(packed: [u8; 4]) -> i32
     ensures value { result ≡ year_from 0 packed }
     ensures range { IsBetween (neg_ℤ (pos 4194304)) (pos 4194303) result }
@@ -36,14 +36,14 @@ pub fn unpack_year(packed: [u8; 4]) -> i32
     i32::from_le_bytes(packed) >> 9
 }
 
-/// Returns the place of the month of a packed date.
+/// Returns the ordinal month of a packed date.
 pub fn unpack_month(packed: [u8; 4]) -> u8
     ensures { result ≡ month_from 0 packed }
 {
     ((u32::from_le_bytes(packed) >> 5) & 15) as u8
 }
 
-/// Returns the day of a packed date.
+/// Returns the day of the month of a packed date.
 pub fn unpack_day(packed: [u8; 4]) -> u8
     ensures { result ≡ day_from 0 packed }
 {

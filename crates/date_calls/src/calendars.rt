@@ -1,4 +1,4 @@
-//! The calendar for two codes, and questions to it in its own type.
+//! The calendar for two codes, and questions to the calendar in its own type.
 
 ghost use Rattle.std.specs.Prelude.{◌≡◌, ⊤};
 ghost use Rattle.date_calls.specs.Calendars.{calendar_of, choice_system, chosen_system};
@@ -11,14 +11,14 @@ use cal_kinds::AnyCalendarKind;
 use cal_tables::Tables;
 use kind_calls::{CalendarTask, run_in_kind};
 
-/// A kind of calendar, and the tables that it is made with.
+/// A kind of calendar, and the tables that its calendar uses.
 #[derive(Clone, Copy)]
 pub(crate) struct Chosen {
     kind: AnyCalendarKind,
     tables: Tables<'static>,
 }
 
-/// The calendar for the codes of a kind and of a source of years, or the code of the error.
+/// Returns the calendar for the codes of a kind and of a source of years, or the code of the error.
 pub(crate) fn choose(calendar: u8, years: u8) -> Result<Chosen, u8>
     ensures { chosen_system result ≡ calendar_of calendar years }
 {

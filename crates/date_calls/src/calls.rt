@@ -22,7 +22,7 @@ use crate::outcomes::{
 use crate::rooms::put;
 use cal_types::{DateAddOptions, DateDifferenceOptions, DateFields, DateFromFieldsOptions};
 
-/// The date of a day number in a calendar.
+/// Converts a day number to a date of a calendar, in `date`.
 fn show_day(chosen: &Chosen, day: i64, date: &mut CalendarDate) -> u8
     ensures { ShowsDay (choice_system chosen.now) day result date.old date.new }
 {
@@ -56,7 +56,7 @@ pub fn date_of_day(calendar: u8, years: u8, day: i64, date: &mut CalendarDate) -
     }
 }
 
-/// Reports why there is no date.
+/// Returns the code of a fault, and stores its greatest valid number in `max`.
 fn refuse(fault: Fault, max: &mut u8) -> u8
     ensures code { result ≡ fault.code }
     ensures max { max.new ≡ fault.max }
@@ -65,7 +65,7 @@ fn refuse(fault: Fault, max: &mut u8) -> u8
     fault.code
 }
 
-/// The date of some fields in a calendar.
+/// Creates a date of a calendar from fields, in `date`.
 fn name_date(
     chosen: &Chosen,
     fields: DateFields<'_>,
@@ -85,7 +85,7 @@ fn name_date(
     }
 }
 
-/// Does what `name_date` does, from the codes of the options.
+/// Does the same as `name_date`, from the codes of the options.
 fn name_with(
     chosen: &Chosen,
     fields: DateFields<'_>,
@@ -149,7 +149,7 @@ pub fn date_of_fields(
     }
 }
 
-/// The date of a sum in a calendar.
+/// Computes the date of a sum in a calendar, in `date`.
 fn add_to(chosen: &Chosen, sum: &Sum, date: &mut CalendarDate, max: &mut u8) -> u8
     requires { max.old ≡ 0 }
     ensures { let overflow = add_overflow_of sum.now.options.overflow in
@@ -164,7 +164,7 @@ fn add_to(chosen: &Chosen, sum: &Sum, date: &mut CalendarDate, max: &mut u8) -> 
     }
 }
 
-/// Does what `add_to` does, from the code of the option and a day number.
+/// Does the same as `add_to`, from a day number and the code of the option.
 fn add_in(
     chosen: &Chosen,
     day: i64,
@@ -222,7 +222,7 @@ pub fn add(
     }
 }
 
-/// The difference of two day numbers in a calendar.
+/// Computes the difference of two day numbers in a calendar, in `duration`.
 fn differ_in(
     chosen: &Chosen,
     first: i64,
@@ -279,7 +279,7 @@ pub fn until(
     }
 }
 
-/// The code of the era of a day's year in a calendar.
+/// Writes the code of the era of a day's year in a calendar to the start of `room`.
 fn show_era(chosen: &Chosen, day: i64, room: &mut [u8], written: &mut usize) -> u8
     requires { written.old ≡ 0 }
     ensures { ShowsEra (choice_system chosen.now) day result room.old room.new written.new }

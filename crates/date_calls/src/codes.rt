@@ -1,4 +1,4 @@
-//! The codes that callers pass: calendars, where their years come from, and options.
+//! The codes that callers pass: calendars, sources of years, and options.
 
 ghost use Rattle.std.specs.Prelude.{◌≡◌};
 ghost use Rattle.std.specs.Option.{option_map};
@@ -9,7 +9,7 @@ use cal_kinds::AnyCalendarKind;
 use cal_tables::Tables;
 use cal_types::{DateDurationUnit, MissingFieldsStrategy, Overflow};
 
-/// The kind of calendar with a code.
+/// Returns the kind of calendar with a code, or `None` if no kind has the code.
 pub(crate) fn kind_of(code: u8) -> Option<AnyCalendarKind>
     ensures { result ≡ kind_of_code code }
 {
@@ -49,7 +49,7 @@ pub fn tables_of(code: u8) -> Option<Tables<'static>>
     }
 }
 
-/// The option `overflow` for a code. 0 leaves it unset.
+/// Returns the option `overflow` for a code, or `None` for an unknown code. 0 leaves the option unset.
 pub(crate) fn overflow_of(code: u8) -> Option<Option<Overflow>>
     ensures { result ≡ overflow_of_code code }
 {
@@ -61,7 +61,7 @@ pub(crate) fn overflow_of(code: u8) -> Option<Option<Overflow>>
     }
 }
 
-/// The option for missing fields for a code. 0 leaves it unset.
+/// Returns the option for missing fields for a code, or `None` for an unknown code. 0 leaves the option unset.
 pub(crate) fn strategy_of(code: u8) -> Option<Option<MissingFieldsStrategy>>
     ensures { result ≡ strategy_of_code code }
 {
@@ -73,7 +73,7 @@ pub(crate) fn strategy_of(code: u8) -> Option<Option<MissingFieldsStrategy>>
     }
 }
 
-/// The largest unit for a code. 0 leaves it unset.
+/// Returns the largest unit for a code, or `None` for an unknown code. 0 leaves the unit unset.
 pub(crate) fn unit_of(code: u8) -> Option<Option<DateDurationUnit>>
     ensures { result ≡ unit_of_code code }
 {

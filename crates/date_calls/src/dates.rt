@@ -31,7 +31,7 @@ pub struct CalendarDate {
     pub day: u8,
 }
 
-/// 1 if it holds, otherwise 0.
+/// Returns 1 for `true` and 0 for `false`.
 fn flag(holds: bool) -> u8
     ensures { result ≡ flag holds }
 {
@@ -46,7 +46,7 @@ struct YearNumbers {
     in_cycle: u8,
 }
 
-/// The numbers of a year.
+/// Returns the numbers of a year.
 fn numbers_of(year: YearInfo) -> YearNumbers
     ensures extended { result.extended ≡ extended_year_of year }
     ensures in_era { result.in_era ≡ era_year_or_related_iso_of year }
@@ -66,7 +66,7 @@ fn numbers_of(year: YearInfo) -> YearNumbers
     }
 }
 
-/// The parts of an inner date.
+/// Returns the parts of an inner date.
 pub(crate) fn parts_of<C: Calendar>(calendar: &C, date: &C::DateInner) -> CalendarDate
     requires { IsTrue (C.belongs calendar.now date.now) }
     ensures { AreParts (C.system calendar.now) (C.date_of calendar.now date.now) result }
@@ -86,7 +86,7 @@ pub(crate) fn parts_of<C: Calendar>(calendar: &C, date: &C::DateInner) -> Calend
     }
 }
 
-/// The task of showing a day number.
+/// The task of converting a day number to a date.
 #[derive(Clone, Copy)]
 pub(crate) struct OfDay {
     pub(crate) day: ValidDay,

@@ -16,7 +16,7 @@ pub(crate) struct ValidDay {
 }
 
 impl ValidDay {
-    /// The day number, if it's in the range.
+    /// Returns the day number if it is in the range, otherwise `None`.
     pub(crate) fn of(number: i64) -> Option<ValidDay>
         ensures some { is_some result ≡ day.is_valid_day number }
         ensures day { IfSome result (λ d. d.day ≡ number) }
@@ -28,7 +28,7 @@ impl ValidDay {
         }
     }
 
-    /// The day number as a rata die.
+    /// Returns the day number as a rata die.
     pub(crate) fn rata_die(self) -> RataDie
         ensures is { result ≡ self.day }
         ensures valid { IsValidDay result }

@@ -25,7 +25,7 @@ pub struct CalendarDuration {
     pub is_negative: u8,
 }
 
-/// The duration that a caller passes.
+/// Returns the duration that a caller passes.
 pub(crate) fn duration_of(given: &CalendarDuration) -> DateDuration
     ensures { result ≡ duration_given given.now }
 {
@@ -38,7 +38,7 @@ pub(crate) fn duration_of(given: &CalendarDuration) -> DateDuration
     }
 }
 
-/// The duration that a caller receives.
+/// Returns the duration in the form that a caller receives.
 pub(crate) fn told(duration: DateDuration) -> CalendarDuration
     ensures { result ≡ duration_told duration }
 {

@@ -8,7 +8,7 @@ use crate::questions::Question;
 use cal_base::Calendar;
 use cal_types::{IntoYearInfo, TinyAsciiStr, YearInfo};
 
-/// The code of a year's era; empty for a year of a cycle.
+/// Returns the code of a year's era, or an empty text for a year of a cycle.
 fn era_of(year: YearInfo) -> TinyAsciiStr<16>
     ensures { result ≡ era_text year }
 {
@@ -18,7 +18,7 @@ fn era_of(year: YearInfo) -> TinyAsciiStr<16>
     }
 }
 
-/// The task of naming the era of a day's year.
+/// The task of finding the era of a day's year.
 #[derive(Clone, Copy)]
 pub(crate) struct EraOf {
     pub(crate) day: ValidDay,

@@ -34,14 +34,14 @@ pub struct CalendarFields {
     pub day: u8,
 }
 
-/// The value, if `has` isn't 0.
+/// Returns the value if `has` isn't 0, otherwise `None`.
 fn given_if<T: Copy>(has: u8, value: T) -> Option<T>
     ensures { result ≡ given_if has value }
 {
     if has == 0 { None } else { Some(value) }
 }
 
-/// The month of a number; a leap month if `leap` isn't 0.
+/// Returns the month with a number: a leap month if `leap` isn't 0.
 fn month_of(number: u8, leap: u8) -> Month
     ensures { month_parts result ≡ month_of number leap }
 {
@@ -52,7 +52,7 @@ fn month_of(number: u8, leap: u8) -> Month
     }
 }
 
-/// The month, if `has` isn't 0.
+/// Returns the month if `has` isn't 0, otherwise `None`.
 fn month_if(has: u8, number: u8, leap: u8) -> Option<Month>
     ensures { option_map month_parts result ≡ given_if has (month_of number leap) }
 {
@@ -63,14 +63,14 @@ fn month_if(has: u8, number: u8, leap: u8) -> Option<Month>
     }
 }
 
-/// The text, if it isn't empty.
+/// Returns the text if it isn't empty, otherwise `None`.
 fn text_if(text: &[u8]) -> Option<&[u8]>
     ensures { option_map (λ bytes. bytes.now) result ≡ text_given text.now }
 {
     if text.is_empty() { None } else { Some(text) }
 }
 
-/// The fields that are given.
+/// Returns the fields that are given.
 pub(crate) fn fields_of<'a>(
     fields: &CalendarFields,
     era: &'a [u8],

@@ -23,7 +23,7 @@ pub(crate) const INVALID_DAY_NUMBER: u8 = 4;
 /// The room is too short for the text.
 pub const NO_ROOM: u8 = 8;
 
-/// Why there is no date: the code, and the greatest valid number if the code has one, otherwise 0.
+/// The code of an error, and its greatest valid number, which is 0 if the error has none.
 #[derive(Clone, Copy)]
 pub(crate) struct Fault {
     pub(crate) code: u8,
@@ -37,7 +37,7 @@ const fn why(code: u8, max: u8) -> Fault
     Fault { code, max }
 }
 
-/// The code of an error of fields.
+/// Returns the code of an error of fields.
 pub(crate) fn fault_of_fields(cause: DateFromFieldsError) -> Fault
     ensures { result ≡ fields_fault cause }
 {
@@ -56,7 +56,7 @@ pub(crate) fn fault_of_fields(cause: DateFromFieldsError) -> Fault
     }
 }
 
-/// The code of an error of adding. The codes are the same as for fields.
+/// Returns the code of an error of adding. The codes are the same as for fields.
 pub(crate) fn fault_of_sum(cause: DateAddError) -> Fault
     ensures { result ≡ sum_fault cause }
 {

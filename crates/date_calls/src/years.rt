@@ -34,7 +34,7 @@ pub fn easter(rule: u8, year: i32, day: &mut i64) -> u8
     UNKNOWN_OPTION
 }
 
-/// The week of a valid day number.
+/// Returns the week of a valid day number.
 fn week_of(day: ValidDay) -> IsoWeekOfYear
     ensures { IsInWeek day.day result.iso_year result.week_number }
 {

@@ -298,7 +298,8 @@ impl Date<Hebrew> {
     /// - [`LunisolarDateError::InvalidYear`] if the year isn't from -9999 to 9999.
     /// - [`LunisolarDateError::MonthNotInCalendar`] if the month is neither a plain month 1 to 12 nor leap month 5.
     /// - [`LunisolarDateError::MonthNotInYear`] if the leap month doesn't occur in the year.
-    /// - [`LunisolarDateError::InvalidDay`] if the day isn't from 1 to the month's length, which is `max`.
+    /// - [`LunisolarDateError::InvalidDay`] if the day isn't from 1 to the month's length; `max` is the month's
+    ///   length.
     ///
     /// # Examples
     ///
@@ -319,7 +320,7 @@ impl Date<Hebrew> {
     }
 }
 
-/// Creates a Chinese or Korean date. The constructors of both call it, so that each is a call over the rules.
+/// Creates a Chinese or Korean date. Both constructors call it, so that each is a single call over any rules.
 fn in_east_asian<R: EastAsianRules>(
     related_iso_year: i32,
     month: Month,
@@ -345,7 +346,8 @@ impl<'t> Date<ChineseTraditional<'t>> {
     /// - [`LunisolarDateError::InvalidYear`] if the year isn't from -9999 to 9999.
     /// - [`LunisolarDateError::MonthNotInCalendar`] if the month's number isn't from 1 to 12.
     /// - [`LunisolarDateError::MonthNotInYear`] if it's a leap month that doesn't occur in the year.
-    /// - [`LunisolarDateError::InvalidDay`] if the day isn't from 1 to the month's length, which is `max`.
+    /// - [`LunisolarDateError::InvalidDay`] if the day isn't from 1 to the month's length; `max` is the month's
+    ///   length.
     ///
     /// # Examples
     ///
@@ -381,7 +383,8 @@ impl<'t> Date<KoreanTraditional<'t>> {
     /// - [`LunisolarDateError::InvalidYear`] if the year isn't from -9999 to 9999.
     /// - [`LunisolarDateError::MonthNotInCalendar`] if the month's number isn't from 1 to 12.
     /// - [`LunisolarDateError::MonthNotInYear`] if it's a leap month that doesn't occur in the year.
-    /// - [`LunisolarDateError::InvalidDay`] if the day isn't from 1 to the month's length, which is `max`.
+    /// - [`LunisolarDateError::InvalidDay`] if the day isn't from 1 to the month's length; `max` is the month's
+    ///   length.
     ///
     /// # Examples
     ///

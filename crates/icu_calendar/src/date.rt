@@ -86,9 +86,9 @@ where
     ///
     /// - [`DateNewError::InvalidYear`] if the extended year or era year isn't from -9999 to 9999.
     /// - [`DateNewError::InvalidEra`] if the calendar doesn't have the era.
-    /// - [`DateNewError::MonthNotInCalendar`] if no year of the calendar has the month.
+    /// - [`DateNewError::MonthNotInCalendar`] if the month isn't one of the calendar's months.
     /// - [`DateNewError::MonthNotInYear`] if the month doesn't occur in this year.
-    /// - [`DateNewError::InvalidDay`] if the day isn't from 1 to the month's length, which is `max`.
+    /// - [`DateNewError::InvalidDay`] if the day isn't from 1 to the month's length; `max` is the month's length.
     ///
     /// # Examples
     ///
@@ -135,8 +135,9 @@ where
     ///   month's reference year if no ordinal month is set.
     /// - For the month: [`DateFromFieldsError::MonthCodeInvalidSyntax`], [`DateFromFieldsError::MonthNotInCalendar`],
     ///   [`DateFromFieldsError::MonthNotInYear`] and [`DateFromFieldsError::InconsistentMonth`]; for an ordinal month
-    ///   alone [`DateFromFieldsError::InvalidOrdinalMonth`].
-    /// - [`DateFromFieldsError::InvalidDay`] if the day isn't from 1 to the month's length, which is `max`.
+    ///   alone, under [`Overflow::Reject`], [`DateFromFieldsError::InvalidOrdinalMonth`].
+    /// - [`DateFromFieldsError::InvalidDay`], under [`Overflow::Reject`], if the day isn't from 1 to the month's length;
+    ///   `max` is the month's length.
     /// - [`DateFromFieldsError::Overflow`] if the day number isn't from -365242499 to 365242134.
     ///
     /// # Examples
@@ -260,7 +261,7 @@ where
         self.calendar.as_calendar().to_rata_die(&self.inner)
     }
 
-    /// Like `to_rata_die`, with the valid range as a clause for callers.
+    /// Returns the day number, as `to_rata_die` does. Its contract also has the valid range, for callers.
     fn valid_day(&self) -> RataDie
         ensures day { let c = A.cal_of self.now.calendar in
             result ≡ day_number (A.Calendar.system c).list (A.Calendar.date_of c self.now.inner) }
@@ -572,12 +573,13 @@ where
     }
 
     /// Returns the difference from this date to another date of the same calendar: the greatest duration that doesn't
-    /// lead past it. The default of the option `largest_unit` is days. Adding the difference back, with
+    /// lead past the other date. The default of the option `largest_unit` is days. Adding the difference back, with
     /// [`Overflow::Constrain`], returns the other date. (ECMAScript Temporal, `NonISODateUntil`)
     ///
-    /// Months are counted with the original day, and days from the day that the month has. From September 30 to October
-    /// 31 it is one month and one day (October 30 and a day). From October 31 back to September 30 it is one month and
-    /// no day. So the difference in the other direction may be more than a change of sign.
+    /// Months are counted with the original day, and days from the day that the month has. From September 30 to
+    /// October 31, the difference is one month and one day: October 30 and one more day. From October 31 back to
+    /// September 30, it is one month and no day. So the difference in the other direction may be more than a change
+    /// of sign.
     ///
     /// # Errors
     ///
@@ -621,8 +623,9 @@ where
         }
     }
 
-    /// Returns the difference of [`Date::try_until_with_options`], and counts the look-ups of years. It adds at most 8
-    /// ticks to the counter; if months are the largest unit, at most 8 and one more for each year between the dates.
+    /// Returns the difference as [`Date::try_until_with_options`] does, and counts the look-ups of years. It adds at
+    /// most 8 ticks to the counter; if months are the largest unit, at most 8 and one more for each year between the
+    /// dates.
     ///
     /// # Errors
     ///
@@ -664,7 +667,7 @@ where
         }
     }
 
-    /// Like `try_until_with_options`, for two dates that are known to have the same calendar.
+    /// Returns the difference to another date that is known to have the same calendar.
     pub(crate) fn until(&self, other: &Self, options: DateDifferenceOptions) -> DateDuration
         requires { self.now.calendar ≡ other.now.calendar }
         ensures { let c = A.cal_of self.now.calendar in
@@ -747,7 +750,7 @@ where
     }
 }
 
-/// The nearest day number in the valid range.
+/// Returns the nearest day number in the valid range.
 fn clamped(rd: RataDie) -> RataDie
     ensures value { result ≡ clamped_day rd }
     ensures valid { IsValidDay result }

@@ -15,7 +15,7 @@ use cal_days::RataDie;
 use cal_types::{CalendarAlgorithm, ParseError};
 use std::str::FromStr;
 
-/// The error for a name that isn't the expected one.
+/// Returns the error for a name that isn't the expected one.
 fn other_name(expected: CalendarAlgorithm, name: &[u8]) -> ParseError
     ensures { parse_fault result ≡ other_name expected (algorithm_named name.now) }
 {
@@ -25,7 +25,7 @@ fn other_name(expected: CalendarAlgorithm, name: &[u8]) -> ParseError
     }
 }
 
-/// The error for the name in a record, if a calendar with this algorithm doesn't accept it.
+/// Returns the error for the name in a record, if a calendar with this algorithm doesn't accept the name.
 fn name_fault(algorithm: Option<CalendarAlgorithm>, name: Option<&[u8]>) -> Option<ParseError>
     ensures { option_map parse_fault result ≡ calendar_fault algorithm (option_map (λ n. n.now) name.entry) }
 {
@@ -43,8 +43,8 @@ impl<A: AsCalendar> Date<A>
 where
     A::Calendar: Calendar,
 {
-    /// Creates a date of a calendar from an RFC 9557 text, which names an ISO date. [`Date::try_from_utf8`] has the
-    /// form.
+    /// Creates a date of a calendar from an RFC 9557 text, which names an ISO date. [`Date::try_from_utf8`] describes
+    /// the form of the text.
     ///
     /// # Errors
     ///

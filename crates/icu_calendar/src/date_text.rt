@@ -1,4 +1,5 @@
-//! Reading dates from text. Takes no memory, and looks at every byte once, except in a calendar's name.
+//! Reading dates from text. No memory is allocated, and every byte is looked at once, except in the name of a
+//! calendar.
 
 ghost use Rattle.std.specs.Prelude.{◌≡◌, ◌<◌, IfSome};
 ghost use Rattle.std.specs.Option.{option_map};
@@ -10,7 +11,7 @@ ghost use Rattle.icu_calendar.specs.DateTextReading.{before_bracket, behind_key,
 use crate::ixdtf_record::{DateRecord, IxdtfRecord};
 use crate::record_dates::is_date;
 
-/// Two digits at the front.
+/// Reads two digits at the start of a text. Returns their number and the rest, as the functions below do.
 #[inline(always)]
 #[tactic(auto, unfolding(crate::specs::DateTextReading::two_digits_read))]
 fn two_digits(text: &[u8]) -> Option<(u8, &[u8])>
@@ -25,7 +26,7 @@ fn two_digits(text: &[u8]) -> Option<(u8, &[u8])>
     }
 }
 
-/// Four digits at the front.
+/// Reads four digits at the start of a text.
 #[inline(always)]
 #[tactic(auto, unfolding(crate::specs::DateTextReading::four_digits_read))]
 fn four_digits(text: &[u8]) -> Option<(u16, &[u8])>
@@ -37,7 +38,7 @@ fn four_digits(text: &[u8]) -> Option<(u16, &[u8])>
     Some((100 * u16::from(high) + u16::from(low), rest))
 }
 
-/// Six digits at the front.
+/// Reads six digits at the start of a text.
 #[inline(always)]
 #[tactic(auto, unfolding(crate::specs::DateTextReading::six_digits_read))]
 fn six_digits(text: &[u8]) -> Option<(u32, &[u8])>
@@ -49,7 +50,7 @@ fn six_digits(text: &[u8]) -> Option<(u32, &[u8])>
     Some((10000 * u32::from(high) + u32::from(low), rest))
 }
 
-/// A year in four digits.
+/// Reads a year of four digits.
 #[inline(always)]
 fn plain_year(text: &[u8]) -> Option<(i32, &[u8])>
     ensures { read_view result ≡ option_map year_from (four_digits_read text.now) }
@@ -58,7 +59,7 @@ fn plain_year(text: &[u8]) -> Option<(i32, &[u8])>
     Some((i32::from(number), rest))
 }
 
-/// A year of four digits, or of a sign and six digits. `-000000` is no year.
+/// Reads a year of four digits, or of a sign and six digits. `-000000` isn't a year.
 #[inline(always)]
 #[tactic(auto, unfolding(crate::specs::DateTextReading::year_read))]
 fn year(text: &[u8]) -> Option<(i32, &[u8])>
@@ -81,7 +82,7 @@ fn year(text: &[u8]) -> Option<(i32, &[u8])>
     }
 }
 
-/// A minus and two digits.
+/// Reads a minus sign and two digits.
 #[inline(always)]
 #[tactic(auto, unfolding(crate::specs::DateTextReading::part_read))]
 fn part(text: &[u8]) -> Option<(u8, &[u8])>
@@ -93,7 +94,7 @@ fn part(text: &[u8]) -> Option<(u8, &[u8])>
     }
 }
 
-/// A date that exists.
+/// Reads a date that exists.
 #[inline(always)]
 #[tactic(auto, unfolding(crate::specs::DateTextReading::date_read))]
 fn date(text: &[u8]) -> Option<(DateRecord, &[u8])>
@@ -110,7 +111,7 @@ fn date(text: &[u8]) -> Option<(DateRecord, &[u8])>
     }
 }
 
-/// Whether each byte is a lower-case letter or a digit.
+/// Returns whether each byte is a lower-case letter or a digit.
 fn all_name_bytes(part: &[u8]) -> bool
     ensures { result ≡ list_all is_name_byte part.now }
 {
@@ -118,21 +119,22 @@ fn all_name_bytes(part: &[u8]) -> bool
         .all(|byte| byte.is_ascii_lowercase() || byte.is_ascii_digit())
 }
 
-/// Whether a part of a name is one to eight lower-case letters or digits.
+/// Returns whether a part of a name is one to eight lower-case letters or digits.
 fn is_name_part(part: &[u8]) -> bool
     ensures { result ≡ is_name_part part.now }
 {
     !part.is_empty() && part.len() <= 8 && all_name_bytes(part)
 }
 
-/// Whether a text is a calendar's name: such parts, joined by hyphens.
+/// Returns whether a text is a calendar's name: parts of one to eight lower-case letters or digits, joined by
+/// hyphens.
 fn is_calendar_name(name: &[u8]) -> bool
     ensures { result ≡ is_calendar_name name.now }
 {
     name.split(|byte| *byte == b'-').all(is_name_part)
 }
 
-/// The text behind the key of an annotation.
+/// Returns the text after the key of an annotation.
 fn behind_key(text: &[u8]) -> Option<&[u8]>
     ensures { option_map (λ rest. rest.now) result ≡ behind_key text.now }
 {
@@ -142,14 +144,14 @@ fn behind_key(text: &[u8]) -> Option<&[u8]>
     }
 }
 
-/// The text before a bracket at its end.
+/// Returns the text before its last byte, which has to be a closing bracket.
 fn before_bracket(text: &[u8]) -> Option<&[u8]>
     ensures { option_map (λ rest. rest.now) result ≡ before_bracket text.now }
 {
     text.strip_suffix(b"]")
 }
 
-/// The name in an annotation.
+/// Returns the name in an annotation.
 #[tactic(auto, unfolding(crate::specs::DateTextReading::name_read))]
 fn name(text: &[u8]) -> Option<&[u8]>
     ensures { option_map (λ name. name.now) result ≡ name_read text.now }

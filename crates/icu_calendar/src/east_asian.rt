@@ -1,4 +1,4 @@
-//! The types to write your own rules of a Chinese or Korean calendar with.
+//! The types for your own rules of a Chinese or Korean calendar.
 //! [`EastAsianTraditional`](crate::EastAsianTraditional) makes a calendar of them.
 //!
 //! [`China`](crate::China) and [`Korea`](crate::Korea) are [`TableRules`], each with its [`TableSide`]. A function over

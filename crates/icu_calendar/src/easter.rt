@@ -1,4 +1,4 @@
-//! The dates of Easter, by the Gregorian and by the Julian rule.
+//! The dates of Easter, by the Gregorian and the Julian rule.
 
 ghost use Rattle.cal_gregory.specs.GregorianSystem.{gregorian_system, gregorian_date};
 ghost use Rattle.cal_julian.specs.JulianSystem.{julian_system, julian_date};

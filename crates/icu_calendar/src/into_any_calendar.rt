@@ -63,24 +63,24 @@ pub trait IntoAnyCalendar<'t>: Calendar + AsCalendar<Calendar = Self> + Sized {
     /// The calendar leads to itself.
     ghost itself: { (c : Self) → Self.cal_of c ≡ c };
 
-    /// In its variant, the calendar has the same years and names.
+    /// The calendar in its variant has the same years and names.
     ghost same_system: { (c : Self) → any_system (in_any c) ≡ Self.system c };
 
-    /// In its variant, an inner date belongs to the calendar where it did, and stands for the same date.
+    /// In its variant, an inner date belongs to the calendar exactly if it does in its own type, and is the same date.
     ghost same_belonging: { (c : Self) (d : Self.DateInner) →
         any_belongs (in_any c) (date_in_any d) ≡ Self.belongs c d };
 
     ghost same_date: { (c : Self) (d : Self.DateInner) → any_date (in_any c) (date_in_any d) ≡ Self.date_of c d };
 }
 
-/// Copies a value, since `*` on it isn't covered in an impl that names its lifetime.
+/// Copies a value, because `*` on it isn't supported in an impl that names its lifetime.
 fn copy_of<T: Copy>(value: &T) -> T
     ensures { result ≡ value.now }
 {
     *value
 }
 
-/// The calendar in a variant, or the value itself if it has another variant.
+/// Returns the calendar in a variant, or the value itself if it has another variant.
 macro_rules! held {
     ($any:ident, $variant:ident) => {
         match $any {
@@ -90,7 +90,7 @@ macro_rules! held {
     };
 }
 
-/// The calendar in a variant, by reference.
+/// Returns the calendar in a variant, by reference.
 macro_rules! held_ref {
     ($any:ident, $variant:ident) => {
         match $any {

@@ -24,8 +24,8 @@ use cal_types::{
     MissingFieldsStrategy, Overflow,
 };
 
-/// Adds the difference between two dates to the first one, with [`Overflow::Constrain`]. The addition never fails, and
-/// returns the second date.
+/// Adding the difference between two dates to the first date, with [`Overflow::Constrain`], returns the second date.
+/// The addition never fails.
 ///
 /// # Errors
 ///
@@ -63,7 +63,7 @@ where
     }
 }
 
-/// Converts a date to its day number and back. The result is the same date.
+/// Converting a date to its day number and back returns the same date.
 ///
 /// # Examples
 ///
@@ -82,7 +82,7 @@ where
     Date::from_rata_die(date.to_rata_die(), Ref(date.calendar_wrapper()))
 }
 
-/// Converts a date to another calendar and back. No day is lost: the result is the same date.
+/// Converting a date to another calendar and back returns the same date.
 ///
 /// # Examples
 ///
@@ -106,7 +106,7 @@ where
     there.to_calendar(Ref(date.calendar_wrapper()))
 }
 
-/// Creates a date from another date's extended year, month and day, with [`Overflow::Reject`]. This never fails, and
+/// Creating a date from another date's extended year, month and day, with [`Overflow::Reject`], never fails and
 /// returns the same date.
 ///
 /// # Examples
@@ -133,7 +133,7 @@ where
     }
 }
 
-/// The extended year, month and day of a date as fields.
+/// Returns the extended year, month and day of a date as fields.
 fn fields_of<A: AsCalendar>(date: &Date<A>) -> DateFields<'static>
 where
     A::Calendar: Calendar,
@@ -145,8 +145,8 @@ where
     DateFields::from_year_month_day(year, date.month().to_input(), date.day_of_month().0)
 }
 
-/// Converts a date to another calendar. If its year has the same first day and the same months there, its fields don't
-/// change.
+/// Converting a date to another calendar doesn't change its fields if its year has the same first day and the same
+/// months there.
 ///
 /// # Examples
 ///
@@ -172,7 +172,7 @@ where
     date.rebase(calendar)
 }
 
-/// `rebased_in_a_shared_year` for two Hijri calendars over any rules.
+/// The law `rebased_in_a_shared_year` for two Hijri calendars over any rules.
 fn rebased_in_hijri<R: HijriRules, S: HijriRules>(
     date: &Date<Hijri<R>>,
     calendar: Hijri<S>,
@@ -187,7 +187,7 @@ fn rebased_in_hijri<R: HijriRules, S: HijriRules>(
     rebased_in_a_shared_year(date, calendar)
 }
 
-/// `rebased_in_a_shared_year` for two Chinese or Korean calendars over any rules.
+/// The law `rebased_in_a_shared_year` for two Chinese or Korean calendars over any rules.
 fn rebased_in_east_asian<R: EastAsianRules, S: EastAsianRules>(
     date: &Date<EastAsianTraditional<R>>,
     calendar: EastAsianTraditional<S>,
@@ -204,8 +204,8 @@ fn rebased_in_east_asian<R: EastAsianRules, S: EastAsianRules>(
     rebased_in_a_shared_year(date, calendar)
 }
 
-/// Converts a date of the Umm al-Qura calendar, or of its astronomical simulation, to the calendar of a lengthened
-/// table. Its fields don't change if its year isn't among the rows that were added.
+/// Converting a date of the Umm al-Qura calendar, or of its astronomical simulation, to the calendar of a lengthened
+/// table doesn't change its fields if its year isn't among the added rows.
 ///
 /// No table has a row of 1445 here, and one has the single row of 1446:
 ///
@@ -235,8 +235,8 @@ pub fn hijri_date_kept<'u, P: TablePurpose>(
     rebased_in_hijri(date, calendar)
 }
 
-/// Converts a date of the Chinese or Korean calendar to the calendar of a lengthened table. Its fields don't change if
-/// its year isn't among the rows that were added.
+/// Converting a date of the Chinese or Korean calendar to the calendar of a lengthened table doesn't change its
+/// fields if its year isn't among the added rows.
 ///
 /// # Examples
 ///

@@ -1,8 +1,9 @@
 //! Dates in twenty calendars: conversion, fields, sums, differences, lists of days, texts, weeks and Easter.
 //!
-//! A [`Date`] is a date together with its calendar: a calendar with a type of its own, as [`Iso`], or one that is chosen
-//! at run time, as [`AnyCalendar`]. Start with a constructor such as [`Date::try_new_iso`], or with [`Date::try_new`].
-//! Every type, error and option that `Date` needs is passed on from here; `docs/GUIDE.md` has a chapter for each task.
+//! A [`Date`] is a date together with its calendar. The calendar has a type of its own, such as [`Iso`], or is chosen
+//! at run time, as [`AnyCalendar`]. Start with a constructor such as [`Date::try_new_iso`], or with
+//! [`Date::try_new`]. Every type, error and option that `Date` needs is exported from here. `docs/GUIDE.md` has a
+//! chapter for each task.
 #![tactic(auto)]
 
 pub mod anniversary;

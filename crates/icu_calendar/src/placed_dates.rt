@@ -1,4 +1,4 @@
-//! What the constructors share: a date of any calendar from a year, a month and a day, or the first invalid field.
+//! The code that the constructors share. It creates a date of any calendar from a year, a month and a day.
 
 ghost use Rattle.std.specs.Prelude.{◌≡◌, ℤ, pos, Some, IsSome, IfOk};
 ghost use Rattle.cal_days.specs.Day.{IsConstructorYear, IsCoveredYear, is_constructor_year};
@@ -20,20 +20,20 @@ use cal_types::{
     LunisolarDateError, MissingFieldsStrategy, Month, Overflow, RangeError, YearInput,
 };
 
-/// The options that reject what doesn't exist and what is missing.
+/// The options that reject a month or day that doesn't exist, and a missing field.
 const REJECT: DateFromFieldsOptions = DateFromFieldsOptions {
     overflow: Some(Overflow::Reject),
     missing_fields_strategy: Some(MissingFieldsStrategy::Reject),
 };
 
-/// Whether a year is from -9999 to 9999.
+/// Returns whether a year is from -9999 to 9999.
 fn is_small_year(year: i32) -> bool
     ensures { result ≡ is_constructor_year year }
 {
     -MAX_CONSTRUCTOR_YEAR <= year && year <= MAX_CONSTRUCTOR_YEAR
 }
 
-/// The error for a year that isn't from -9999 to 9999.
+/// Returns the error for a year that isn't from -9999 to 9999.
 fn year_error(year: i32) -> RangeError
     ensures { range_parts result ≡ year_out_of_range year }
 {
@@ -45,7 +45,7 @@ fn year_error(year: i32) -> RangeError
     }
 }
 
-/// The error for a number that isn't from 1 to the last one.
+/// Returns the error for a number that isn't from 1 to `last`.
 fn past_the_last(field: &'static str, value: u8, last: u8) -> RangeError
     ensures { range_parts result ≡ out_of_range field.now (pos value) (pos 1) (pos last) }
 {
@@ -57,7 +57,7 @@ fn past_the_last(field: &'static str, value: u8, last: u8) -> RangeError
     }
 }
 
-/// The error of a constructor for an invalid ordinal month or day.
+/// Returns the error of a constructor for an invalid ordinal month or day.
 fn number_error(e: DateFromFieldsError, month: u8, day: u8) -> RangeError
     requires { IsSome (number_fault month day e) }
     ensures { number_fault month day e ≡ Some (range_parts result) }
@@ -69,7 +69,7 @@ fn number_error(e: DateFromFieldsError, month: u8, day: u8) -> RangeError
     }
 }
 
-/// The error of a constructor for an invalid era, ordinal month or day.
+/// Returns the error of a constructor for an invalid era, ordinal month or day.
 fn number_or_era_error(e: DateFromFieldsError, month: u8, day: u8) -> DateError
     requires { IsSome (number_or_era_fault month day e) }
     ensures { number_or_era_fault month day e ≡ Some (date_fault result) }
@@ -84,7 +84,7 @@ fn number_or_era_error(e: DateFromFieldsError, month: u8, day: u8) -> DateError
     }
 }
 
-/// The fields of an extended year, an ordinal month and a day.
+/// Returns the fields of an extended year, an ordinal month and a day.
 fn in_extended_year(year: i32, month: u8, day: u8) -> DateFields<'static>
     ensures { bag_of result ≡ year_place_day year month day }
 {
@@ -96,7 +96,7 @@ fn in_extended_year(year: i32, month: u8, day: u8) -> DateFields<'static>
     }
 }
 
-/// The fields of an era, an era year, an ordinal month and a day.
+/// Returns the fields of an era, an era year, an ordinal month and a day.
 fn in_era(era: &str, year: i32, month: u8, day: u8) -> DateFields<'_>
     ensures { bag_of result ≡ era_place_day era.now year month day }
 {
@@ -109,7 +109,8 @@ fn in_era(era: &str, year: i32, month: u8, day: u8) -> DateFields<'_>
     }
 }
 
-/// Creates a date from an extended year, an ordinal month and a day, or fails with the first one out of range.
+/// Creates a date from an extended year, an ordinal month and a day. Fails with the first of them that is out of
+/// range.
 pub(crate) fn placed<A: AsCalendar>(
     year: i32,
     month: u8,
@@ -132,7 +133,7 @@ where
     }
 }
 
-/// Creates a date from an era, an era year, an ordinal month and a day, or fails with the first invalid one. The
+/// Creates a date from an era, an era year, an ordinal month and a day. Fails with the first invalid one. The
 /// calendar has to read era years from -9999 to 9999 as extended years from -980000 to 980000.
 pub(crate) fn placed_in_era<A: AsCalendar>(
     era: &str,
@@ -160,7 +161,7 @@ where
     }
 }
 
-/// Creates a date from an extended year, a month and a day, or fails with the first invalid field.
+/// Creates a date from an extended year, a month and a day. Fails with the first invalid one.
 pub(crate) fn lunisolar<A: AsCalendar>(
     year: i32,
     month: Month,
@@ -181,7 +182,7 @@ where
     }
 }
 
-/// The error of a constructor that takes no era.
+/// Returns the error of a constructor that takes no era.
 fn lunisolar_error(e: DateNewError) -> LunisolarDateError
     ensures { result ≡ lunisolar_fault e }
 {

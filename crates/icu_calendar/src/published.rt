@@ -1,7 +1,7 @@
 //! Calendars with published years, as constant data.
 //!
-//! [`chinese`] has the years 1912 to 2099, [`korean`] 1912 to 2097, [`umm_al_qura`] 1300 to 1600, and [`persian`] 78
-//! corrections of the rule of 33 years from 1502 to 2987. All other years are computed.
+//! [`chinese`] has the years 1912 to 2099, [`korean`] 1912 to 2097, and [`umm_al_qura`] 1300 to 1600. [`persian`] has
+//! 78 corrections of the rule of 33 years, from 1502 to 2987. All other years are computed.
 //!
 //! # Examples
 //!

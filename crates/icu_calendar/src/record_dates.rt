@@ -21,7 +21,7 @@ const MAX_YEAR: i32 = 999999;
 /// The greatest month of a record.
 const MAX_MONTH: u8 = 12;
 
-/// The error for a number that isn't from `min` to `max`.
+/// Returns the error for a number that isn't from `min` to `max`.
 fn out_of_range(field: &'static str, value: i32, min: i32, max: i32) -> RangeError
     ensures { range_parts result ≡ out_of_range field.now value min max }
 {
@@ -33,7 +33,7 @@ fn out_of_range(field: &'static str, value: i32, min: i32, max: i32) -> RangeErr
     }
 }
 
-/// The error for a number that isn't from 1 to `max`.
+/// Returns the error for a number that isn't from 1 to `max`.
 fn not_up_to(field: &'static str, value: u8, max: u8) -> RangeError
     ensures { range_parts result ≡ out_of_range field.now (pos value) (pos 1) (pos max) }
 {
@@ -89,7 +89,7 @@ pub fn is_date(date: DateRecord) -> bool
     test(date).is_ok()
 }
 
-/// The day number of a date that exists.
+/// Returns the day number of a date that exists.
 fn day(date: DateRecord) -> RataDie
     requires { numbered_date (date_numbers date) ≡ Ok (date_numbers date) }
     ensures value { result ≡ day_number iso_list (date_numbers date) }

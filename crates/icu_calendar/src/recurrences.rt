@@ -12,16 +12,17 @@ impl<A: AsCalendar> Date<A>
 where
     A::Calendar: Calendar + Copy,
 {
-    /// Returns the occurrences of a rule in a window, in order: this date with 0, 1, 2, .. times the rule's units added.
+    /// Returns the occurrences of a rule in a window, in order: this date with 0, 1, 2, .. times the rule's units
+    /// added.
     ///
-    /// Each occurrence counts from this date, and none is before it. Occurrences that the rule skips, or whose sum is out
-    /// of range, are left out. Later occurrences keep their indices.
+    /// Each occurrence counts from this date, and none is before it. Occurrences that the rule skips, or whose sum is
+    /// out of range, are left out. Later occurrences keep their indices.
     ///
     /// Yearly from February 29, 2012 to February 29, 2020, the indices are 0, 4 and 8 under
-    /// [`Missing::Skip`](cal_recur::Missing::Skip). Under [`Missing::Constrain`](cal_recur::Missing::Constrain) they are
-    /// 0 to 8, with February 28 in common years.
+    /// [`Missing::Skip`](cal_recur::Missing::Skip). Under [`Missing::Constrain`](cal_recur::Missing::Constrain) they
+    /// are 0 to 8, with February 28 in common years.
     ///
-    /// No memory is taken. See [`recur`] for the cost of an item.
+    /// Takes no memory. See [`recur`] for the cost of an item.
     ///
     /// # Examples
     ///

@@ -17,11 +17,11 @@ pub struct Span<'t> {
     pub to: Date<AnyCalendar<'t>>,
     /// The same day in the second calendar.
     pub to_shown: Date<AnyCalendar<'t>>,
-    /// The greatest duration, in the requested units, that leads from the first date and not past the second.
+    /// The greatest duration in the requested units from the first date that doesn't lead past the second date.
     pub duration: DateDuration,
 }
 
-/// The fields of a [`Span`], as a derived `Debug` prints them.
+/// Writes the fields of a [`Span`], as a derived `Debug` prints them.
 fn fmt_fields<D: fmt::Debug, W: fmt::Write>(
     from: (&D, &D),
     to: (&D, &D),
@@ -37,7 +37,7 @@ fn fmt_fields<D: fmt::Debug, W: fmt::Write>(
         .finish()
 }
 
-/// Does what `fmt_fields` does, for dates of any calendar, so that the calendar is a parameter once.
+/// Does the same as `fmt_fields`, for dates of any calendar, so that the calendar is a parameter only once.
 fn fmt_dates<A: AsCalendar, W: fmt::Write>(
     from: (&Date<A>, &Date<A>),
     to: (&Date<A>, &Date<A>),

@@ -66,8 +66,8 @@ where
         &self.to
     }
 
-    /// Returns the difference from the first date to the second, as [`Date::try_until_with_options`]. Adding it back,
-    /// with [`Overflow::Constrain`], returns the second date.
+    /// Returns the difference from the first date to the second, as [`Date::try_until_with_options`] does. Adding it
+    /// back, with [`Overflow::Constrain`], returns the second date.
     ///
     /// # Examples
     ///
@@ -141,7 +141,7 @@ where
     }
 }
 
-/// The two dates in another calendar.
+/// Converts the two dates to another calendar.
 fn shown_days<A: AsCalendar + Copy>(
     first: &Date<A>,
     second: &Date<A>,
@@ -162,7 +162,7 @@ where
     (first.to_calendar(shown), second.to_calendar(shown))
 }
 
-/// What `span_in` returns: a [`Span`] in calendars of any one type.
+/// The result of `span_in`: a [`Span`] in calendars of any one type.
 #[derive(Drop)]
 struct SpanIn<A: AsCalendar>
 where
@@ -175,7 +175,7 @@ where
     duration: DateDuration,
 }
 
-/// Does what [`span`] does, in calendars of any one type.
+/// Does the same as [`span`], in calendars of any one type.
 fn span_in<A: AsCalendar + Copy>(
     from: DateFields<'_>,
     to: DateFields<'_>,
@@ -213,9 +213,9 @@ where
     }
 }
 
-/// Creates the dates of two bags of fields in a calendar, shows both in a second calendar, and returns them with the
-/// difference from the first to the second. Adding the difference to the first date, with [`Overflow::Constrain`],
-/// returns the second.
+/// Creates the dates of two bags of fields in a calendar, and converts both to a second calendar. Returns all four
+/// dates and the difference from the first to the second. Adding the difference to the first date, with
+/// [`Overflow::Constrain`], returns the second date.
 ///
 /// # Errors
 ///

@@ -10,8 +10,8 @@ use cal_base::Iso;
 use cal_days::{RataDie, gregorian};
 use cal_types::IsoWeekOfYear;
 
-/// The Thursday in the week of a valid day. It's valid too, since the first valid day is a Monday and the last a
-/// Friday.
+/// Returns the Thursday in the week of a valid day. It is valid too, because the first valid day is a Monday and the
+/// last is a Friday.
 fn thursday_of(rd: RataDie) -> RataDie
     requires { IsValidDay rd }
     ensures of { IsThursdayOf rd result }
@@ -21,7 +21,7 @@ fn thursday_of(rd: RataDie) -> RataDie
     RataDie::new(day + 3 - (day - 1).rem_euclid(7))
 }
 
-/// The week of a valid day number.
+/// Returns the week of a valid day number.
 fn week_of(rd: RataDie) -> IsoWeekOfYear
     requires { IsValidDay rd }
     ensures { IsInWeek rd result.iso_year result.week_number }

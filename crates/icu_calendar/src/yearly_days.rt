@@ -17,7 +17,7 @@ pub type Anniversaries<'t> = cal_anniversary::Anniversaries<AnyCalendar<'t>>;
 
 /// Returns the days of a window on which a month and a day of a calendar fall: birthdays, memorial days, yearly feasts.
 ///
-/// Each such day is listed once, in order. `leaping` says how to handle a year that lacks the month or the day:
+/// Each day is listed once, in order. `leaping` says how to handle a year that lacks the month or the day:
 ///
 /// - [`Leaping::Exact`] skips the year. It lists the days whose date has the month and the day.
 /// - [`Leaping::Constrain`] lists one day in each year (ECMAScript Temporal's overflow `constrain`). If the month
@@ -43,7 +43,7 @@ pub type Anniversaries<'t> = cal_anniversary::Anniversaries<AnyCalendar<'t>>;
 ///
 /// The first that applies:
 ///
-/// - [`AnniversaryError::MonthNotInCalendar`] if the month occurs in no year of the calendar.
+/// - [`AnniversaryError::MonthNotInCalendar`] if the month isn't one of the calendar's months.
 /// - [`AnniversaryError::InvalidDay`] if the day isn't from 1 to 31.
 pub fn anniversaries<'t>(
     calendar: AnyCalendar<'t>,

@@ -13,7 +13,7 @@ use date_calls::{NO_ROOM, put};
 use std::alloc::Global;
 use std::str;
 
-/// Writes the answers where the caller wants them.
+/// Copies the output of a run to the start of `output`, and returns the code.
 fn hand_over(status: Status, answers: &[u8], output: &mut [u8], written: &mut usize) -> u8
     ensures { IsHandedOver status answers.now output.old output.new result written.new }
 {
@@ -24,7 +24,7 @@ fn hand_over(status: Status, answers: &[u8], output: &mut [u8], written: &mut us
     }
 }
 
-/// Runs the command of a text over an input in memory.
+/// Runs the command that the words of a text name, over an input in memory.
 fn answer(alloc: Global, words: &str, input: &[u8], output: &mut [u8], written: &mut usize) -> u8
     requires { written.old ≡ 0 }
     ensures { IsAnswered (command_of (words_in words.now)) input.now result output.old output.new written.new }
@@ -38,22 +38,23 @@ fn answer(alloc: Global, words: &str, input: &[u8], output: &mut [u8], written: 
     hand_over(status, kept.bytes(), output, written)
 }
 
-/// Runs the program: `words` is its command line as one text in UTF-8, with a single space between two words, and `input`
-/// is its standard input. The output is written to the start of `output`, and the number of its bytes to `written`.
+/// Runs the program. `words` is its command line as one text in UTF-8, with a single space between two words, and
+/// `input` is its standard input. The output is written to the start of `output`, and its number of bytes to
+/// `written`.
 ///
 /// # Errors
 ///
 /// The code is the exit status of the program, or 8:
 ///
-/// - 0 if all is written, and no answer is an error.
-/// - 1 if all is written, and an answer is an error, or the arguments of a list are invalid.
+/// - 0 if the whole output is written, and no line of it is `err`.
+/// - 1 if the whole output is written, and at least one of its lines is `err`.
 /// - 2 if the words name no command. Nothing is written.
 /// - 4 if there is no memory for the output. Nothing is written.
-/// - 5 if there is no memory for a row of a year or for a book. Nothing is written. `gen`, and `span` without rows, never
-///   return it.
-/// - 6 if a row line or a table is invalid. What comes before it is written, and the line that names it.
-/// - 7 if the input is longer than 16777216 bytes. With `span`, the answers to all lines whose LF is within them are
-///   written; otherwise nothing.
+/// - 5 if there is no memory for a row of a year or for a book. Nothing is written. `gen`, and `span` without rows,
+///   never return it.
+/// - 6 if a row line or a table is invalid. The answers before it and the line about it are written.
+/// - 7 if the input is longer than 16777216 bytes. With `span`, the answers to all lines whose LF is among the first
+///   16777216 bytes are written; otherwise nothing.
 /// - 8 if `output` is too short. It is unchanged, and `written` is the number of bytes needed.
 #[unsafe(no_mangle)]
 pub extern "C" fn calspan(

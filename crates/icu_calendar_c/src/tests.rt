@@ -11,7 +11,7 @@ const HEBREW: u8 = 7;
 
 const ISO: u8 = 13;
 
-/// What stands in a date before a call.
+/// Returns a date as it is before a call.
 fn blank() -> CalendarDate {
     CalendarDate {
         day_number: 0,
@@ -25,7 +25,7 @@ fn blank() -> CalendarDate {
     }
 }
 
-/// The fields of a leap month Adar I.
+/// Returns the fields of a date in the leap month Adar I.
 fn adar_i(year: i32, day: u8) -> CalendarFields {
     CalendarFields {
         era_year: 0,

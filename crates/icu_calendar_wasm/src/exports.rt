@@ -1,4 +1,4 @@
-//! The calls on dates, exported. Each one has the contract of the call of `date_calls` that it wraps.
+//! The calls on dates, exported. Each function has the same contract as the function of `date_calls` that it wraps.
 
 ghost use Rattle.std.specs.Prelude.{◌≡◌, MatchResult, ◌≢◌, MatchBool};
 ghost use Rattle.date_calls.specs.Calendars.{calendar_of};

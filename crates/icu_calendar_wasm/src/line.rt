@@ -11,7 +11,7 @@ use calspan_run::{Progress, answer, code};
 use date_calls::{NO_ROOM, UNKNOWN_YEARS, put, tables_of};
 use reply_texts::Pending;
 
-/// The answer to a line over tables.
+/// Writes the answer to a line over tables to the start of `output`.
 fn answer_over(
     tables: &Tables<'_>,
     line: &[u8],
@@ -34,18 +34,19 @@ fn answer_over(
 
 /// Writes the answer to a request line to the start of `output`, and its number of bytes to `written`.
 ///
-/// The answer is what `calspan span` writes for the line behind other requests, if the line has this number, from 1.
-/// The line has no LF. No answer is longer than 512 bytes. `years` is 0 for computed and 1 for published years.
+/// The answer is what `calspan span` writes for the line after other request lines, if it is line `number` of the
+/// input, counted from 1. The line has no LF. No answer is longer than 512 bytes. `years` is 0 for computed and 1 for
+/// published years.
 ///
 /// # Errors
 ///
-/// The code is
+/// The code is:
 ///
 /// - 0 if the answer is written. An ignored line has an empty answer.
 /// - 1 if the answer is written and begins with `err`.
-/// - 2 if `years` is neither 0 nor 1; `output` is unchanged.
-/// - 6 if the line is a row of a table; the line that rejects it is written.
-/// - 8 if the answer is longer than `output`, which is unchanged.
+/// - 2 if `years` is neither 0 nor 1. `output` is unchanged, and `written` is 0.
+/// - 6 if the line is a row line. The line that rejects it is written.
+/// - 8 if `output` is too short. It is unchanged, and `written` is the number of bytes needed.
 #[unsafe(no_mangle)]
 pub extern "C" fn calspan_answer(
     years: u8,

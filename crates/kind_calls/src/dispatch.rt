@@ -88,7 +88,8 @@ fn run_in_japanese<P, T: CalendarTask<P>>(task: &T, parts: &mut P, tables: &Tabl
 /// `Chinese` uses the rows of China, `Dangi` those of Korea, and only `HijriUmmAlQura` those of Umm al-Qura. `Persian`
 /// uses the corrected years, and `Japanese` and `JapaneseExtended` use the eras.
 ///
-/// The call takes no memory. It has the only match over all kinds, since each such match is costly to prove.
+/// The call takes no memory. Callers use it in place of a match of their own, since each match over all kinds is costly
+/// to prove.
 ///
 /// ```text
 /// let mut parts = DateParts::default();

@@ -10,7 +10,7 @@ use crate::persian_years::persian_corrections;
 use cal_gregory::JapaneseEras;
 use cal_tables::Tables;
 
-/// Returns the published tables, with the eras of Japan up to Reiwa, to create a calendar of any kind.
+/// Returns all published tables, with the eras of Japan up to Reiwa. A calendar of any kind can be created over them.
 ///
 /// ```
 /// let calendar = AnyCalendar::new(AnyCalendarKind::Chinese, published_years::tables());

@@ -1,4 +1,4 @@
-//! The published years of China and of Korea.
+//! The published Chinese and Korean years.
 
 ghost use Rattle.std.specs.Prelude.{◌≡◌, map};
 ghost use Rattle.cal_east_asian.specs.laws.ComputedLaws.{computed_year};
@@ -14,12 +14,13 @@ use crate::east_asian_data::{
 };
 use cal_east_asian::{ChineseTraditional, EastAsianTable, KoreanTraditional, Side};
 
-/// Returns the table of the Chinese years from [`FIRST_CHINESE_YEAR`] to [`LAST_CHINESE_YEAR`], 1912 to 2099 (the rule of
-/// GB/T 33661-2017 at 8 hours from Greenwich throughout).
+/// Returns the table of the Chinese years from [`FIRST_CHINESE_YEAR`] to [`LAST_CHINESE_YEAR`], 1912 to 2099 (the
+/// rule of GB/T 33661-2017 at 8 hours from Greenwich throughout).
 ///
-/// They were computed with GNU Emacs 28.2; PyMeeus 0.5.11 has the same years. Almanacs before 1929 used the local time of
-/// Beijing, so that a few of their months begin on other days. For example, the new year of 1916 was kept on 1916-02-03,
-/// and is 1916-02-04 here. The table ends with 2099, because the computed year 2101 doesn't join the real year 2100.
+/// They were computed with GNU Emacs 28.2; PyMeeus 0.5.11 has the same years. Almanacs before 1929 used the local
+/// time of Beijing, so that a few of their months begin on other days. For example, the new year of 1916 was kept on
+/// 1916-02-03, and is 1916-02-04 here. The table ends with 2099, because the computed year 2101 doesn't join the real
+/// year 2100.
 ///
 /// ```
 /// assert!(rt; published::china_table().rows().len() == 188); // 1912 to 2099
@@ -33,8 +34,8 @@ pub fn china_table() -> EastAsianTable<'static>
     EastAsianTable::with_leap_rows(Side::China, &CHINA, CHINESE_LEAP_YEARS)
 }
 
-/// Returns the table of the Korean years from [`FIRST_KOREAN_YEAR`] to [`LAST_KOREAN_YEAR`], 1912 to 2097 (the same rule as
-/// for China, at 9 hours from Greenwich).
+/// Returns the table of the Korean years from [`FIRST_KOREAN_YEAR`] to [`LAST_KOREAN_YEAR`], 1912 to 2097 (the same
+/// rule as for China, at 9 hours from Greenwich).
 ///
 /// They were computed with GNU Emacs 28.2; PyMeeus 0.5.11 has the same years.
 ///
@@ -70,9 +71,9 @@ pub fn chinese() -> ChineseTraditional<'static>
 
 /// Returns the Korean calendar with the years of [`korea_table`].
 ///
-/// A year from 1900 to 1911 is the year of the Qing calendar. Any other year, before 1900 or after [`LAST_KOREAN_YEAR`],
-/// is computed from mean new moons and mean solar terms: its new year may be a day or a month before or after the real
-/// one.
+/// A year from 1900 to 1911 is the year of the Qing calendar. Any other year, before 1900 or after
+/// [`LAST_KOREAN_YEAR`], is computed from mean new moons and mean solar terms: its new year may be a day or a month
+/// before or after the real one.
 ///
 /// ```
 /// let korean = published_years::korean();

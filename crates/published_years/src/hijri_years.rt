@@ -10,8 +10,8 @@ ghost use Rattle.published_years.specs.Published.{numbers_through};
 use crate::hijri_data::{FIRST_UMM_AL_QURA_YEAR, LAST_UMM_AL_QURA_YEAR, UMM_AL_QURA};
 use cal_hijri::{Hijri, HijriTable, UmmAlQura};
 
-/// Returns the table of the Umm al-Qura years from [`FIRST_UMM_AL_QURA_YEAR`] to [`LAST_UMM_AL_QURA_YEAR`], 1300 to 1600
-/// (Java 17, `HijrahDate`; ICU 72 and 78 have the same years).
+/// Returns the table of the Umm al-Qura years from [`FIRST_UMM_AL_QURA_YEAR`] to [`LAST_UMM_AL_QURA_YEAR`], 1300 to
+/// 1600 (Java 17, `HijrahDate`; ICU 72 and 78 have the same years).
 ///
 /// ```
 /// let rows = published::umm_al_qura_table().rows();

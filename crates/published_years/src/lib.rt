@@ -1,5 +1,5 @@
-//! The published years of the calendars with tables, as constant data: their tables and calendars, which take no memory
-//! and read no file.
+//! The published years as constant data: tables of them, and calendars over these tables. They allocate no memory and
+//! read no file.
 //!
 //! | Calendar | Table | Published years | Where they come from |
 //! |---|---|---|---|
@@ -8,8 +8,8 @@
 //! | [`umm_al_qura`] | [`umm_al_qura_table`] | 1300 to 1600 | the years of Java 17 and ICU 78 |
 //! | [`persian`] | [`persian_corrections`] | 78 corrections from 1502 to 2987 | the corrections of ICU 78 |
 //!
-//! Any other year is computed, as its calendar describes. [`tables`] returns all of the tables, for a calendar that is
-//! chosen at run time.
+//! Any other year is computed, as its calendar describes. [`tables`] returns all of the tables, for a calendar that
+//! is chosen at run time.
 #![tactic(auto)]
 
 mod all_tables;

@@ -8,8 +8,8 @@ use crate::persian_data::{
 };
 use cal_julian::{Persian, PersianCorrections};
 
-/// Returns the corrections of the Persian calendar: 78 years that are leap years by the rule of 33 years, but not in the
-/// astronomical calendar. The year after each of them is the leap year.
+/// Returns the corrections of the Persian calendar: 78 years that are leap years by the rule of 33 years, but not in
+/// the astronomical calendar. The year after each of them is the leap year.
 ///
 /// The first is [`FIRST_CORRECTED_PERSIAN_YEAR`](crate::FIRST_CORRECTED_PERSIAN_YEAR), 1502, and the last
 /// [`LAST_CORRECTED_PERSIAN_YEAR`](crate::LAST_CORRECTED_PERSIAN_YEAR), 2987. ICU 78 has the same years.

@@ -73,7 +73,7 @@ fn push_sign(text: &mut Pending, is_negative: bool)
     }
 }
 
-/// Appends a duration, which takes at most 90 bytes.
+/// Appends a duration, at most 90 bytes.
 pub fn push_duration(text: &mut Pending, duration: &DateDuration)
     requires { array_vec_len text.old + 90 ≤ 8192 }
     ensures items { text.new.items ≡ text.old.items ++ duration_text duration.now }
@@ -88,7 +88,7 @@ pub fn push_duration(text: &mut Pending, duration: &DateDuration)
     push_parts(text, duration);
 }
 
-/// Appends the error of a bag of fields, which takes at most 50 bytes.
+/// Appends the error of a bag of fields, at most 50 bytes.
 pub fn push_cause(text: &mut Pending, cause: DateFromFieldsError)
     requires { array_vec_len text.old + 50 ≤ 8192 }
     ensures items { text.new.items ≡ text.old.items ++ cause_text cause }
@@ -152,8 +152,8 @@ fn push_month(text: &mut Pending, month: Month)
     }
 }
 
-/// Appends a date, which takes at most 92 bytes: its extended year, its year of an era or cycle, its month code, its day of
-/// the month and its day number (rata die).
+/// Appends a date, at most 92 bytes: its extended year, its year of an era or cycle, its month code, its day of the
+/// month and its day number (rata die).
 pub fn push_date(text: &mut Pending, parts: &DayParts)
     requires room { array_vec_len text.old + 92 ≤ 8192 }
     requires day { parts.now.day < 100 }
@@ -172,7 +172,7 @@ pub fn push_date(text: &mut Pending, parts: &DayParts)
     push_signed(text, parts.rata_die.to_i64_date());
 }
 
-/// Appends a date and the same day in a second calendar, which take at most 185 bytes.
+/// Appends a date and the same day in a second calendar, at most 185 bytes.
 pub fn push_day(text: &mut Pending, parts: &DayParts, shown: &DayParts)
     requires room { array_vec_len text.old + 185 ≤ 8192 }
     requires day { parts.now.day < 100 }

@@ -1,4 +1,4 @@
-//! The parts of a date that are printed.
+//! The parts of a date that its text shows.
 
 ghost use Rattle.std.specs.Prelude.{◌≡◌, IsTrue};
 ghost use Rattle.cal_types.specs.CalendarList.{day_number};
@@ -22,8 +22,8 @@ pub struct DayParts {
 }
 
 impl DayParts {
-    /// Creates the parts of a day before a calendar fills them in: the first day of the first month of the first year of a
-    /// cycle.
+    /// Creates the parts of a day before a calendar fills them in: the first day of the first month of the first year
+    /// of a cycle.
     pub fn unnamed(rata_die: RataDie) -> DayParts
         ensures { result.rata_die ≡ rata_die }
     {

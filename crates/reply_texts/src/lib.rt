@@ -1,6 +1,7 @@
-//! Questions to a calendar of any type, and the texts of the answers.
+//! Dates in a calendar of any type, and their texts.
 //!
-//! Start with [`name_in`] and [`show_in`], which fill in the parts of dates, and [`push_date`], which appends their text.
+//! Start with [`name_in`] and [`show_in`], which fill in the parts of dates, and [`push_date`], which appends their
+//! text.
 #![tactic(auto)]
 
 mod date_texts;

@@ -1,4 +1,4 @@
-//! The dates of two bags of fields, and the dates of days, in one calendar.
+//! The dates of two bags of fields, and the dates of days, in a calendar of any type.
 
 ghost use Rattle.std.specs.Prelude.{IfOk, IfErr};
 ghost use Rattle.cal_days.specs.Day.{IsValidDay};
@@ -35,12 +35,13 @@ impl SpanParts {
     }
 }
 
-/// Fills in the dates of two bags of fields in a calendar, and the difference from the first date to the second. Adding the
-/// difference to the first date, with [`Overflow::Constrain`](cal_types::Overflow::Constrain), returns the second.
+/// Fills in the dates of two bags of fields in a calendar, and the difference from the first date to the second.
+/// Adding the difference to the first date, with [`Overflow::Constrain`](cal_types::Overflow::Constrain), returns the
+/// second date.
 ///
 /// # Errors
 ///
-/// - [`SpanError`] with the side and the first invalid field of the first bag that names no date.
+/// - [`SpanError`] for the first invalid bag, with its side and its first invalid field.
 // Kept out of line so that a branch over calendars stays small.
 #[inline(never)]
 pub fn name_in<C: Calendar>(
@@ -75,7 +76,7 @@ pub fn name_in<C: Calendar>(
     Ok(())
 }
 
-/// Fills in the date of a day in a calendar. The day number is in the valid range, -365242499 to 365242134.
+/// Fills in the date of a day in a calendar. The day number has to be in the valid range, -365242499 to 365242134.
 pub fn show_in<C: Calendar>(parts: &mut DayParts, calendar: &C)
     requires { IsValidDay parts.old.rata_die }
     ensures { IsShown (C.system calendar.now) parts.old.rata_die parts.new }
@@ -84,7 +85,8 @@ pub fn show_in<C: Calendar>(parts: &mut DayParts, calendar: &C)
     *parts = parts_of(calendar, &date, parts.rata_die);
 }
 
-/// Fills in the dates of two days in a calendar. The day numbers are in the valid range, -365242499 to 365242134.
+/// Fills in the dates of two days in a calendar. The day numbers have to be in the valid range, -365242499 to
+/// 365242134.
 // Kept out of line, as `name_in` is.
 #[inline(never)]
 pub fn show_both_in<C: Calendar>(from: &mut DayParts, to: &mut DayParts, calendar: &C)

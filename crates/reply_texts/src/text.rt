@@ -51,7 +51,7 @@ fn push_below_10000(text: &mut Pending, number: u64)
     }
 }
 
-/// Appends a number in decimal, which takes at most 20 bytes.
+/// Appends a number in decimal, at most 20 bytes.
 pub fn push_number(text: &mut Pending, number: u64)
     requires { array_vec_len text.old + 20 ≤ 8192 }
     ensures items { text.new.items ≡ text.old.items ++ decimal number }
@@ -67,7 +67,7 @@ pub fn push_number(text: &mut Pending, number: u64)
     }
 }
 
-/// Appends a signed number in decimal, which takes at most 21 bytes.
+/// Appends a signed number in decimal, at most 21 bytes.
 pub fn push_signed(text: &mut Pending, number: i64)
     requires { array_vec_len text.old + 21 ≤ 8192 }
     ensures items { text.new.items ≡ text.old.items ++ signed_decimal number }

@@ -28,7 +28,7 @@ enum Field<'a> {
 
 ghost use Rattle.request_lines.specs.FieldSaid.{field_said};
 
-/// Sets a field. `None` if it is set already, since a key stands at most once in a bag.
+/// Sets a field. `None` exactly if it is already set, because a key may occur only once in a bag.
 fn set_field<'a>(fields: &mut DateFields<'a>, field: Field<'a>) -> Option<()>
     ensures { let with = with_field (bag_of fields.old) (field_said field.entry) in
         MatchOption result (with ≡ None) (λ _. with ≡ Some (bag_of fields.new)) }
@@ -58,8 +58,8 @@ fn next_month(words: &mut Words) -> Option<Month>
     read_month_code(words.next()?)
 }
 
-/// Sets the field of the next word, `KEY=VALUE` with one of the rarer keys. Kept out of line so that `year`, `month` and
-/// `day` don't pay for its stack frame.
+/// Sets the field of the next word, `KEY=VALUE` with one of the rarer keys. Kept out of line so that `year`, `month`
+/// and `day` don't pay for its stack frame.
 #[inline(never)]
 fn set_next_rarer_field<'a>(fields: &mut DateFields<'a>, words: &mut Words<'a>) -> Option<()>
     ensures { let reading = next_word (with_rarer_word (bag_of fields.old)) (words_left words.old) in
@@ -80,8 +80,8 @@ fn set_next_rarer_field<'a>(fields: &mut DateFields<'a>, words: &mut Words<'a>) 
     None
 }
 
-/// Sets the field of the next word, `KEY=VALUE`. `None` if the key is unknown, its value is invalid, or the field is set
-/// already.
+/// Sets the field of the next word, `KEY=VALUE`. `None` if the key is unknown, its value is invalid, or the field is
+/// already set.
 #[inline(always)]
 fn set_next_field<'a>(fields: &mut DateFields<'a>, words: &mut Words<'a>) -> Option<()>
     ensures { let reading = next_word (with_word (bag_of fields.old)) (words_left words.old) in
@@ -99,8 +99,8 @@ fn set_next_field<'a>(fields: &mut DateFields<'a>, words: &mut Words<'a>) -> Opt
     set_next_rarer_field(fields, words)
 }
 
-/// Sets the fields of the words before `to`, and takes the word `to`. `None` if there is no word `to`, or a word before it
-/// isn't `KEY=VALUE` with a known key and a valid value, or a key comes twice.
+/// Sets the fields of the words before `to`, and takes the word `to`. `None` if no word is `to`, or a word before it
+/// isn't `KEY=VALUE` with a known key and a valid value, or a key occurs twice.
 pub fn read_bag_to<'a>(fields: &mut DateFields<'a>, words: &mut Words<'a>) -> Option<()>
     ensures { let reading = bag_before_to (Some (bag_of fields.old)) (words_left words.old) in
         IsReading reading (option_map (λ _. bag_of fields.new) result) (words_left words.new) }
@@ -111,8 +111,8 @@ pub fn read_bag_to<'a>(fields: &mut DateFields<'a>, words: &mut Words<'a>) -> Op
     Some(())
 }
 
-/// Sets the fields of all remaining words. `None` if one of them isn't `KEY=VALUE` with a known key and a valid value, or a
-/// key comes twice.
+/// Sets the fields of all remaining words. `None` if one of them isn't `KEY=VALUE` with a known key and a valid
+/// value, or a key occurs twice.
 pub fn read_bag<'a>(fields: &mut DateFields<'a>, words: &mut Words<'a>) -> Option<()>
     ensures { let read = bag_of_all (Some (bag_of fields.old)) (words_left words.old) in
         option_map (λ _. bag_of fields.new) result ≡ read }
@@ -130,8 +130,8 @@ fn is_whole_word(word: &[u8]) -> bool
     word.iter().all(|b| *b != b' ' && *b != b'\n')
 }
 
-/// Sets the field of a single word, such as a word of a command line. `None` if the word isn't `KEY=VALUE` with a known key
-/// and a valid value, as in a request line, or the field is set already.
+/// Sets the field of a single word, such as a word of a command line. `None` if the word isn't `KEY=VALUE` with a
+/// known key and a valid value, as in a request line, or the field is already set.
 pub fn read_field<'a>(fields: &mut DateFields<'a>, word: &'a [u8]) -> Option<()>
     ensures { option_map (λ _. bag_of fields.new) result ≡ with_whole_word (bag_of fields.old) word.now }
 {

@@ -1,7 +1,8 @@
 //! The lines of the input of `calspan`: comments and empty lines, requests, and rows of tables.
 //!
-//! Start with [`read_line`]. A request line has two dates by their fields, two calendars and a unit; a row line has a year
-//! of a table. Each is read word after word, and [`laws`] has the proof that its form is the only one.
+//! Start with [`read_line`]. A request line has two dates by their fields, two calendars and a unit. A row line has a
+//! year of a table or an era. Each line is read word after word, and [`laws`] has the proof that its form is the only
+//! one.
 #![tactic(auto)]
 
 mod bag;

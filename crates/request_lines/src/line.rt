@@ -66,17 +66,18 @@ fn gives_nothing(line: &[u8]) -> bool
     without_return(line).is_empty() || line[0] == b'#'
 }
 
-/// Returns whether a line is ignored: it begins with `#`, or is empty without the carriage return at its end.
+/// Returns whether a line is ignored: it begins with `#`, or is empty but for a carriage return at its end.
 pub fn is_silent(line: &LineBuffer) -> bool
     ensures { (whole : List ℕ) → Holds line.now whole → result ≡ line_is_silent whole }
 {
     gives_nothing(&line.prefix)
 }
 
-/// Reads a line that isn't ignored. The two bags of a request are read into `from` and `to`, which have no fields before.
+/// Reads a line that isn't ignored. Reads the two bags of a request into `from` and `to`, which must have no fields
+/// before.
 ///
-/// A line of more than 512 bytes, a carriage return at its end included, is too long. Of the others, a line that is `row` or
-/// begins with `row ` is a row line, and any other line is a request or malformed.
+/// A line of more than 512 bytes is too long; a carriage return at its end counts. Any other line is a row line if it
+/// is `row` or begins with `row `. The rest are requests or malformed.
 pub fn read_line<'a>(
     line: &'a LineBuffer,
     from: &mut DateFields<'a>,
@@ -100,8 +101,8 @@ pub fn read_line<'a>(
     }
 }
 
-/// Returns whether a line that isn't ignored is a row line or a request line, by the rules of [`read_line`]. A row line is
-/// read. A request line isn't, since the rows before it must be tested first.
+/// Returns whether a line that isn't ignored is a row line or a request line, by the rules of [`read_line`]. Reads a
+/// row line, but not a request line, because the rows before it must be tested first.
 pub fn line_kind(line: &LineBuffer) -> LineKind<'_>
     ensures { (whole : List ℕ) → Holds line.now whole → line_is_silent whole ≡ false
         → IsKind result (line_of whole) }

@@ -9,7 +9,7 @@ ghost use Rattle.request_lines.specs.Requests.{fixed_word};
 
 use crate::words::Words;
 
-/// Takes a fixed word, such as `from`, which has no space. `None` if the next word is another one.
+/// Takes the next word if it is `name`, which must not contain a space. `None` if it is another word.
 pub fn next_is(words: &mut Words, name: &[u8]) -> Option<()>
     requires { list_all is_no_space name.now ≡ true }
     ensures { IsReading (next_word (fixed_word name.now) (words_left words.old)) result (words_left words.new) }

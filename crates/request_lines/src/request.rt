@@ -126,8 +126,8 @@ fn read_header(words: &mut Words) -> Option<Header>
     })
 }
 
-/// Reads a request from a line's words into two bags that have no fields, and returns its header. `None` exactly if the
-/// words are no request, as in [`read_request`].
+/// Reads a request from the words of a line into two bags, which must have no fields before, and returns its header.
+/// `None` exactly if the words don't have the form in [`read_request`].
 #[tactic(auto, unfolding(crate::specs::Requests::request_read))]
 pub fn read_into<'a>(
     from: &mut DateFields<'a>,

@@ -34,8 +34,8 @@ fn first_bytes(text: &[u8], most: usize) -> &[u8]
     }
 }
 
-/// A cursor over the words of a line. One space separates two words, so there is an empty word between two spaces and after
-/// a space at the line's end. An empty line is one empty word.
+/// A cursor over the words of a line. One space separates two words, so there is an empty word between two spaces and
+/// after a space at the line's end. An empty line is one empty word.
 #[derive(Drop)]
 pub struct Words<'a> {
     rest: Option<&'a [u8]>,
@@ -99,7 +99,8 @@ impl<'a> Words<'a> {
         self.rest.is_none()
     }
 
-    /// Takes a key, which has no space, off the start of the next word. Returns whether the word begins with it.
+    /// Takes `key`, which must not contain a space, off the start of the next word. Returns whether the word begins
+    /// with it.
     pub fn take_key(&mut self, key: &[u8]) -> bool
         requires { list_all is_no_space key.now ≡ true }
         ensures { let old = words_left self.old in
@@ -117,7 +118,7 @@ impl<'a> Words<'a> {
         }
     }
 
-    /// Takes the next word if it is this one, which has no space. Returns whether it is.
+    /// Takes the next word if it is `word`, which must not contain a space. Returns whether it was taken.
     pub fn take(&mut self, word: &[u8]) -> bool
         requires { list_all is_no_space word.now ≡ true }
         ensures { let old = words_left self.old in

@@ -31,7 +31,7 @@ fn fault_text(why: RowFault) -> &'static str
     }
 }
 
-/// Writes what the program writes for the line, without its number.
+/// Writes the program's text for the line, without the line's number.
 impl fmt::Display for RowError {
     ghost use Rattle.std.specs.Prelude.{Some};
     ghost use Rattle.table_rows.specs.TableWords.{row_error_text};
@@ -74,7 +74,7 @@ pub enum RowsError {
     /// A row has a year, and there is no memory for it.
     #[error("no memory for rows")]
     NoMemory,
-    /// The text has more than 16777216 bytes, and all lines that end within them are taken.
+    /// The text has more than 16777216 bytes, and all lines that end within the first 16777216 bytes are taken.
     #[error("text too long")]
     TooLong,
 }

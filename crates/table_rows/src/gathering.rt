@@ -14,7 +14,7 @@ use crate::table::RowFault;
 use byte_io::{Filled, LineBuffer, Next, Reader, Source};
 use request_lines::{LineKind, is_silent, line_kind};
 
-/// Why reading row lines stopped at no particular line.
+/// The reason why reading row lines stopped at no particular line.
 #[derive(Clone, Copy, Debug, PartialEq, Eq)]
 pub enum Stop {
     /// The source counted a fault.
@@ -25,12 +25,12 @@ pub enum Stop {
     NoMemory,
 }
 
-/// The end of the row lines at the head of an input.
+/// How the row lines at the head of an input ended.
 #[derive(Clone, Copy, Debug, PartialEq, Eq)]
 pub enum Gathered {
-    /// A line came that isn't a row line. The buffer holds it.
+    /// A line isn't a row line. The line buffer holds it.
     Request,
-    /// The last line of the input, which has no LF, isn't a row line. The buffer holds it.
+    /// The last line of the input, which has no LF, isn't a row line. The line buffer holds it.
     LastRequest,
     /// The input ended.
     End,
@@ -83,7 +83,7 @@ fn gather_line(rows: &mut TableRows, line: &LineBuffer) -> LineGathered
     }
 }
 
-/// Takes what follows the last LF, after this many lines, at the end of the source.
+/// Takes the bytes after the last LF, at the end of the source. `lines` lines come before them.
 fn gather_last(rows: &mut TableRows, lines: u64, line: &LineBuffer) -> Gathered
     requires { lines ≤ 16777216 }
     ensures { (left l l2 : Option (List ℕ)) (faults more : ℕ) (reader mid q : Reader) (before : LineBuffer)
@@ -99,7 +99,8 @@ fn gather_last(rows: &mut TableRows, lines: u64, line: &LineBuffer) -> Gathered
     }
 }
 
-/// Reads lines and keeps their rows, until a line isn't a row line, a row is invalid, or the source ends or fails.
+/// Reads row lines and keeps their rows, until a line isn't a row line, a row is invalid, or the source ends or
+/// fails.
 pub fn gather<S: Source>(
     rows: &mut TableRows,
     reader: &mut Reader,

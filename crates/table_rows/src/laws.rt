@@ -1,17 +1,18 @@
-//! Laws of row lines. Each is the contract of a function that does nothing.
+//! Laws of row lines, each proved as the contract of a function that does nothing.
 ghost use Rattle.table_rows.specs.Laws.{EveryTextEnds, EndsAreUnique, TablesAreDecided};
 
-/// Every text has an end of its row lines, and rows up to there.
+/// The row lines of every text have an end, and there are rows up to it.
 pub fn every_text_ends()
     ensures { EveryTextEnds }
 {}
 
-/// The end of the row lines and the rows are unique.
+/// No text has two ends of its row lines, or two sets of rows up to the end.
 pub fn ends_are_unique()
     ensures { EndsAreUnique }
 {}
 
-/// The tables of any rows are all accepted, or there is exactly one first invalid table with one first fault, never both.
+/// Either all tables of some rows are accepted, or exactly one of them is the first invalid table, with exactly one
+/// first fault.
 pub fn tables_are_decided()
     ensures { TablesAreDecided }
 {}

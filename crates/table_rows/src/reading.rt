@@ -34,8 +34,8 @@ fn other_line_of(line: u64, long: bool) -> RowsError
 }
 
 impl TableRows {
-    /// Takes one line, the bytes before its LF. Returns true if its row was added to its table, and false if the line is
-    /// ignored: it begins with `#`, or is empty but for a carriage return at its end.
+    /// Takes one line, the bytes before its LF. Returns true if its row was added to its table, and false if the line
+    /// is ignored: it begins with `#`, or is empty but for a carriage return at its end.
     ///
     /// ```
     /// let mut rows = TableRows::new(alloc);
@@ -67,8 +67,8 @@ impl TableRows {
         }
     }
 
-    /// Reads the rows of a text. Each line is taken as by [`TableRows::take_line`]. Lines end with LFs, and the bytes after
-    /// the last LF are a line too.
+    /// Reads the rows of a text. Takes each line as [`TableRows::take_line`] does. Lines end with LFs, and the bytes
+    /// after the last LF are a line too.
     ///
     /// ```
     /// let rows = TableRows::try_read(alloc, b"# corrected\nrow persian 1502\nrow persian 1601\n")?;
@@ -76,8 +76,8 @@ impl TableRows {
     ///
     /// # Errors
     ///
-    /// The first line that can't be taken is named by its number, counted from 1. Only lines within the first 16777216
-    /// bytes are read.
+    /// The error has the number of the first line that can't be taken, counted from 1. Only lines within the first
+    /// 16777216 bytes are read.
     ///
     /// - [`RowsError::Row`] if a row line is invalid, with its fault.
     /// - [`RowsError::LongLine`] if a line has more than 512 bytes.

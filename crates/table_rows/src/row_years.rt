@@ -14,7 +14,7 @@ use cal_east_asian::{EastAsianRow, EastAsianTraditionalYear};
 use cal_hijri::{HijriRow, HijriYear};
 use request_lines::YearRow;
 
-/// Returns the days of a month from its letter.
+/// Returns the number of days of a month from its letter.
 fn letter_len(letter: u8) -> i64
     ensures value { result ≡ pos (letter_days letter) }
     ensures most { letter_days letter ≤ 30 }
@@ -22,7 +22,7 @@ fn letter_len(letter: u8) -> i64
     if letter == b'l' { 30 } else { 29 }
 }
 
-/// Returns the days of the month at an index: 30 or 29 from its letter, and 0 after the last letter.
+/// Returns the number of days of the month at an index: 30 or 29 from its letter, and 0 after the last letter.
 fn month_days(letters: &[u8], index: usize) -> i64
     ensures value { result ≡ pos (days_at letters.now index) }
     ensures most { days_at letters.now index ≤ 30 }
@@ -33,7 +33,8 @@ fn month_days(letters: &[u8], index: usize) -> i64
     }
 }
 
-/// Returns the first days of months with these lengths, from a first day on.
+/// Returns the first day of each month. The first month begins on `start`, and `letters` has the lengths of the
+/// months.
 fn month_starts<const N: usize>(start: i32, letters: &[u8]) -> [RataDie; N]
     requires { N ≤ 14 }
     ensures { result ≡ starts_of N start letters.now }
@@ -57,8 +58,8 @@ fn hijri_year(row: &YearRow<'_>) -> Option<HijriYear>
     HijriYear::try_new(row.year, month_starts(row.start, row.lengths))
 }
 
-/// Returns the Hijri year of a row. `None` exactly if the number of the year isn't from -8000000 to 8000000, its first day is
-/// more than 5 days from the start of the mean year, or there aren't letters for all twelve months.
+/// Returns the Hijri year of a row. `None` exactly if the number of the year isn't from -8000000 to 8000000, its
+/// first day is more than 5 days from the start of the mean year, or there aren't letters for all twelve months.
 pub fn hijri_row(row: &YearRow<'_>) -> Option<HijriRow>
     ensures year { MatchOption result ((y : HijriYear) → IsHijriYear (year_row_said row.now) y → ⊥)
         (λ kept. IsHijriYear (year_row_said row.now) (hijri.row_year kept)) }
@@ -86,9 +87,9 @@ fn east_asian_year(row: &YearRow<'_>) -> Option<EastAsianTraditionalYear>
     EastAsianTraditionalYear::try_new(row.year, starts, leap_place(row.leap))
 }
 
-/// Returns the Chinese or Korean year of a row. `None` exactly if the number of the year isn't from -8000000 to 8000000, its
-/// first day isn't 0 to 34 days after January 19 of the number, the ordinal of its leap month isn't 0 or from 2 to 13, or
-/// there aren't letters for all of its months.
+/// Returns the Chinese or Korean year of a row. `None` exactly if the number of the year isn't from -8000000 to
+/// 8000000, its first day isn't 0 to 34 days after January 19 of the number, the ordinal of its leap month isn't 0 or
+/// from 2 to 13, or there aren't letters for all of its months.
 pub fn east_asian_row(row: &YearRow<'_>) -> Option<EastAsianRow>
     ensures year { MatchOption result ((y : EastAsianTraditionalYear) → IsEastAsianYear (year_row_said row.now) y → ⊥)
         (λ kept. IsEastAsianYear (year_row_said row.now) (lunisolar.row_year kept)) }

@@ -79,8 +79,8 @@ impl TableRows {
         }
     }
 
-    /// Takes the row of a row line, which is `None` if the line is malformed. A row line is invalid if it is malformed, its
-    /// year or era doesn't exist, or it is a second era. Memory is needed only for a row of a year.
+    /// Takes the row of a row line, which is `None` if the line is malformed. A row line is invalid if it is
+    /// malformed, its year or era doesn't exist, or it is a second era. Memory is needed only for a row of a year.
     pub fn take(&mut self, row: Option<Row<'_>>) -> Taken
         ensures { IsTaken result (rows_said self.old) (option_map row_said row.entry) (rows_said self.new) }
     {
@@ -117,8 +117,8 @@ impl TableRows {
         &self.korea
     }
 
-    /// Returns the years of Umm al-Qura, in the order of their lines. They aren't tested, so that they can lengthen a table
-    /// ([`HijriTable::lengthened`]).
+    /// Returns the years of Umm al-Qura, in the order of their lines. They aren't tested, so that they can lengthen a
+    /// table ([`HijriTable::lengthened`]).
     ///
     /// ```
     /// let rows = TableRows::try_read(alloc, b"row hijri 1445 738720 sllslslslsll\n")?;
@@ -131,7 +131,7 @@ impl TableRows {
         &self.hijri
     }
 
-    /// Returns the tables of these rows. The tables of China, Korea, the Hijri calendar and the corrected Persian years are
+    /// Returns the tables of these rows. The tables of China, Korea, Umm al-Qura and the corrected Persian years are
     /// tested in this order.
     ///
     /// ```
@@ -141,7 +141,7 @@ impl TableRows {
     ///
     /// # Errors
     ///
-    /// - [`TableRefusal`] with the first table that isn't accepted, and its first invalid row and part.
+    /// - [`TableRefusal`] for the first table that isn't accepted, with its first invalid row and part.
     pub fn tables(&self) -> Result<Tables<'_>, TableRefusal>
         ensures { MatchResult result
             (λ t. AreAccepted (rows_said self.now) × (table_contents t ≡ contents_of (rows_said self.now)))
@@ -178,7 +178,7 @@ fn refusal(table: Table, fault: TableFault) -> TableRefusal
     TableRefusal { table, fault }
 }
 
-/// Returns the listed eras: those of a row, or otherwise those up to Reiwa.
+/// Returns the eras that a row named, or the eras up to Reiwa if no row named one.
 fn listed(eras: Option<JapaneseEras>) -> JapaneseEras
     ensures { listed_eras result ≡ unwrap_or (option_map listed_eras eras) (eras_up_to_reiwa []) }
 {

@@ -6,8 +6,8 @@ ghost use Rattle.cal_types.specs.MonthParts.{month_parts};
 
 use cal_types::Month;
 
-/// Returns the month of a month code: `M`, two digits, and `L` for a leap month. `None` exactly if the word isn't of that
-/// form.
+/// Returns the month of a month code: `M`, two digits, and `L` for a leap month. `None` exactly if the word doesn't
+/// have this form.
 pub fn read_month_code(word: &[u8]) -> Option<Month>
     ensures { option_map month_parts result ≡ month_read word.now }
 {

@@ -2,7 +2,7 @@
 ghost use Rattle.std.specs.Prelude.{◌≡◌, ◌≤◌, ◌<◌, IfSome, length};
 ghost use Rattle.word_values.specs.Numbers.{number_of, int_of, byte_of, AreLeadingDigits};
 
-/// Returns how many digits a text of at most nine bytes begins with, and their number.
+/// Returns how many digits a text of at most nine bytes begins with, and the number that they spell.
 pub fn leading_digits(text: &[u8]) -> (usize, u32)
     requires { length text.now ≤ 9 }
     ensures digits { AreLeadingDigits text.now result.0 result.1 }
@@ -20,8 +20,8 @@ pub fn leading_digits(text: &[u8]) -> (usize, u32)
     (count, value)
 }
 
-/// Returns the number of a word of one to `most` decimal digits. Leading zeros are allowed. `None` exactly if the word isn't
-/// of that form.
+/// Returns the number of a word of one to `most` decimal digits. Leading zeros are allowed. `None` exactly if the
+/// word doesn't have this form.
 pub fn read_number(word: &[u8], most: usize) -> Option<u32>
     requires { most ≤ 9 }
     ensures value { result ≡ number_of most word.now }
@@ -38,8 +38,8 @@ pub fn read_number(word: &[u8], most: usize) -> Option<u32>
     }
 }
 
-/// Returns the number of a word: an optional `-` and one to nine decimal digits. `None` exactly if the word isn't of that
-/// form.
+/// Returns the number of a word: an optional `-` and one to nine decimal digits. `None` exactly if the word doesn't
+/// have this form.
 pub fn read_int(word: &[u8]) -> Option<i32>
     ensures { result ≡ int_of word.now }
 {
@@ -51,8 +51,8 @@ pub fn read_int(word: &[u8]) -> Option<i32>
     Some(size as i32)
 }
 
-/// Returns the number of a word of one to three decimal digits, up to 255. `None` exactly if the word isn't of that form or
-/// the number is greater.
+/// Returns the number of a word of one to three decimal digits, at most 255. `None` exactly if the word doesn't have
+/// this form or the number is greater.
 pub fn read_byte(word: &[u8]) -> Option<u8>
     ensures { result ≡ byte_of word.now }
 {

@@ -13,8 +13,9 @@ use cal_base::Calendar;
 use cal_days::RataDie;
 use cal_types::{Overflow, Window};
 
-/// Returns the first occurrence in a window whose index is at least `from`. The search ends at the first occurrence under
-/// [`Overflow::Constrain`] that is past the window or out of range, even if the rule skips all before it.
+/// Returns the first occurrence in a window whose index is at least `from`. The search ends at the first occurrence
+/// under [`Overflow::Constrain`] that is past the window or out of range, even if the rule skips all occurrences
+/// before it.
 pub(crate) fn first_within<C: Calendar>(
     calendar: &C,
     start: &C::DateInner,

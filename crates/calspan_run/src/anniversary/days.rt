@@ -20,7 +20,7 @@ use cal_tables::Tables;
 use cal_types::Window;
 use reply_texts::Pending;
 
-/// Writes a day as a line.
+/// Writes each day as a line.
 #[derive(Clone, Copy)]
 struct DayLines<'t, C> {
     form: DayForm<'t, C>,

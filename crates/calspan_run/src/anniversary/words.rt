@@ -29,7 +29,7 @@ pub struct AnniversaryWords {
 
 ghost use Rattle.calspan_run.specs.CommandSaid.{anniversary_said};
 
-/// Reads how to handle a year in which the month or the day doesn't exist.
+/// Reads the next word, `exact` or `constrain`. `None` if it is neither.
 fn next_leaping(words: &mut CommandWords) -> Option<Leaping>
     ensures { IsReading (next_word leaping_named (words_left words.old)) result (words_left words.new) }
 {
@@ -44,7 +44,7 @@ fn next_leaping(words: &mut CommandWords) -> Option<Leaping>
     }
 }
 
-/// Reads the arguments of `anniversary`. `None` if the next words aren't of their form.
+/// Reads the arguments of `anniversary`. `None` exactly if the next words don't have their form.
 #[tactic(auto, unfolding(crate::specs::Asked::anniversary_read))]
 pub(crate) fn read_anniversary(words: &mut CommandWords) -> Option<AnniversaryWords>
     ensures { let reading = anniversary_read (words_left words.old) in

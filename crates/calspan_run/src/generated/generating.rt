@@ -1,4 +1,4 @@
-//! A run of `gen`, which reads nothing.
+//! Running `gen`, which reads nothing.
 ghost use Rattle.std.specs.Prelude.{◌≤◌, ℕ, List, Option};
 ghost use Rattle.calspan_run.specs.Rules.{generator_rules};
 ghost use Rattle.calspan_run.specs.Run.{outside};
@@ -10,7 +10,7 @@ use crate::status::Status;
 use byte_io::Sink;
 use reply_texts::Pending;
 
-/// Writes the line of counts and sums over so many requests.
+/// Writes the line of counts and sums over the first `count` generated requests.
 pub(crate) fn serve_totals<K: Sink>(count: u32, sink: &mut K) -> Status
     requires { count ≤ 100000 }
     ensures { (left : Option (List ℕ)) (reads : ℕ) → Serves (generator_rules count) result

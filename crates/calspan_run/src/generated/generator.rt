@@ -11,7 +11,7 @@ use cal_types::{
 };
 use request_lines::{Header, Request};
 
-/// Returns the calendar of a number, in a fixed order.
+/// Returns the calendar with a number, in a fixed order.
 fn calendar_of(number: u32) -> AnyCalendarKind
     requires { number < 18 }
     ensures { result ≡ calendar_of number }
@@ -38,7 +38,7 @@ fn calendar_of(number: u32) -> AnyCalendarKind
     }
 }
 
-/// Returns the largest unit of a number, in a fixed order; the last is none.
+/// Returns the largest unit with a number, in a fixed order. The last number has no unit.
 fn unit_of(number: u32) -> Option<DateDurationUnit>
     requires { number < 5 }
     ensures { result ≡ unit_of number }
@@ -59,7 +59,7 @@ fn near_year(number: u64) -> i32
     (number % 4001) as i32 - 2000
 }
 
-/// Creates a bag of an extended year, an ordinal month and a day.
+/// Creates a bag from an extended year, an ordinal month and a day.
 fn bag(extended_year: i32, ordinal_month: u8, day: u8) -> DateFields<'static>
     ensures { bag_of result ≡ generated_bag extended_year ordinal_month day }
 {
@@ -112,8 +112,9 @@ fn second_bag(index: u32) -> DateFields<'static>
     )
 }
 
-/// Returns the generated request with an index, 0 to 100000. The calendars, the unit and the overflow option follow fixed
-/// orders. The two dates have extended years from -2000 to 2000, ordinal months from 0 to 13 and days from 0 to 31.
+/// Returns the generated request with an index, 0 to 100000. Its calendars, largest unit and overflow option follow
+/// fixed orders. Its two dates have extended years from -2000 to 2000, ordinal months from 0 to 13 and days from 0 to
+/// 31.
 pub fn generated_request(index: u32) -> Request<'static>
     requires { index ≤ 100000 }
     ensures { request_said result ≡ generated_request index }

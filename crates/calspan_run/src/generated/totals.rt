@@ -67,7 +67,7 @@ fn added(sum: u64, part: u32) -> u64
     sum + u64::from(part)
 }
 
-/// Adds an answer to the totals.
+/// Adds an `ok` answer to the totals.
 fn with_span(totals: Totals, parts: &SpanParts) -> Totals
     requires few { counted totals < 100000 }
     requires bounded { AreBounded totals }
@@ -89,7 +89,7 @@ fn with_span(totals: Totals, parts: &SpanParts) -> Totals
     }
 }
 
-/// Adds a refused request to the totals.
+/// Adds an `err` answer to the totals.
 fn with_refusal(totals: Totals) -> Totals
     requires few { counted totals < 100000 }
     requires bounded { AreBounded totals }
@@ -103,7 +103,7 @@ fn with_refusal(totals: Totals) -> Totals
     }
 }
 
-/// Adds the answer to a request to the totals. Its calendars have no rows of tables.
+/// Adds the answer to a request, over tables without rows, to the totals.
 fn with_request(totals: Totals, request: &Request) -> Totals
     requires few { counted totals < 100000 }
     requires bounded { AreBounded totals }

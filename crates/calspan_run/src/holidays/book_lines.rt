@@ -1,4 +1,4 @@
-//! The lines of holidays.
+//! Lines for holidays.
 ghost use Rattle.std.specs.Prelude.{◌≡◌, ◌+◌, ◌≤◌, ◌++◌};
 ghost use Rattle.arrayvec.specs.ArrayVec.{array_vec_len};
 ghost use Rattle.cal_days.specs.Day.{IsValidDay};
@@ -11,8 +11,8 @@ use cal_base::Iso;
 use cal_holidays::{Book, Holiday};
 use reply_texts::{DayParts, Pending, push_all, push_date, show_in};
 
-/// Appends the name of a rule by its number in a book, which takes at most 64 bytes. Nothing is appended if the book has no
-/// rule of that number.
+/// Appends the name of the rule with a number, at most 64 bytes. Nothing is appended if the book has no rule with
+/// this number.
 fn push_name(text: &mut Pending, book: &Book, rule: usize)
     requires room { array_vec_len text.old + 64 ≤ 8192 }
     ensures items { text.new.items ≡ text.old.items ++ name_of (named_rules book.now) rule }
@@ -24,7 +24,7 @@ fn push_name(text: &mut Pending, book: &Book, rule: usize)
     push_all(text, book.name(rule));
 }
 
-/// Writes a holiday as a line: the date in the ISO calendar, and the holiday's name.
+/// Writes each holiday as a line: the date in the ISO calendar, and the holiday's name.
 #[derive(Clone, Copy)]
 pub(crate) struct BookLines<'b> {
     /// The book.

@@ -1,4 +1,4 @@
-//! A run of `holidays`.
+//! Running `holidays`.
 ghost use Rattle.std.specs.Prelude.{◌≡◌, ◌<◌, codes, length, true, Err};
 ghost use Rattle.calspan_run.specs.CommandSaid.{holidays_said};
 ghost use Rattle.calspan_run.specs.DayLines.{is_window, list_text};
@@ -23,7 +23,7 @@ use cal_types::Window;
 use reply_texts::{Pending, push_all, push_number};
 use std::alloc::Global;
 
-/// Writes the line for an invalid window.
+/// Writes the `err` line for an invalid window.
 fn refuse_window<K: Sink>(sink: &mut K) -> Status
     ensures { EndsWith result Status.Refused (K.taken sink.old) (K.taken sink.new) (K.faults sink.old)
         (K.faults sink.new) (list_text (Err (codes "InvalidWindow"))) }
@@ -33,7 +33,7 @@ fn refuse_window<K: Sink>(sink: &mut K) -> Status
     end_with(&text, Status::Refused, sink)
 }
 
-/// Writes the line for an invalid record and its field.
+/// Writes the `err` line for an invalid record and its first invalid field.
 fn refuse_record<K: Sink>(number: usize, field: u8, sink: &mut K) -> Status
     ensures { EndsWith result Status.Refused (K.taken sink.old) (K.taken sink.new) (K.faults sink.old)
         (K.faults sink.new) (list_text (Err (record_fault number field))) }
@@ -47,7 +47,7 @@ fn refuse_record<K: Sink>(number: usize, field: u8, sink: &mut K) -> Status
     end_with(&text, Status::Refused, sink)
 }
 
-/// Writes the holidays of a window from the book of a text, or the line for the first invalid record.
+/// Reads a book and writes its holidays in a window, or the `err` line for the first invalid record.
 fn list_window<K: Sink>(alloc: Global, window: Window, bytes: &[u8], sink: &mut K) -> Status
     requires window { is_window window.first window.last ≡ true }
     requires some { 0 < length bytes.now }
@@ -66,7 +66,7 @@ fn list_window<K: Sink>(alloc: Global, window: Window, bytes: &[u8], sink: &mut 
     }
 }
 
-/// Writes the holidays from the book of a text, or the line for an invalid window or record.
+/// Reads a book and writes its holidays, or the `err` line for an invalid window or record.
 fn list_book<K: Sink>(alloc: Global, words: HolidayWords, bytes: &[u8], sink: &mut K) -> Status
     ensures { EndsHolidays (holidays_said words) result bytes.now
         (K.taken sink.old) (K.taken sink.new) (K.faults sink.old) (K.faults sink.new) }
@@ -80,8 +80,8 @@ fn list_book<K: Sink>(alloc: Global, words: HolidayWords, bytes: &[u8], sink: &m
     list_window(alloc, window, bytes, sink)
 }
 
-/// Runs `holidays`: reads a book to the end of the source, and writes a line for each of its holidays in the window, or the
-/// line for an invalid window or record.
+/// Runs `holidays`. Reads a book to the end of the source, and writes a line for each of its holidays in the window.
+/// Writes one `err` line instead if the window or a record is invalid.
 pub(crate) fn serve_holidays<S: Source, K: Sink>(
     alloc: Global,
     words: HolidayWords,

@@ -17,7 +17,7 @@ pub struct HolidayWords {
 
 ghost use Rattle.calspan_run.specs.CommandSaid.{holidays_said};
 
-/// Reads the arguments of `holidays`. `None` if the next words aren't of their form.
+/// Reads the arguments of `holidays`. `None` exactly if the next words don't have their form.
 #[tactic(auto, unfolding(crate::specs::Asked::holidays_read))]
 pub(crate) fn read_holidays(words: &mut CommandWords) -> Option<HolidayWords>
     ensures { let reading = holidays_read (words_left words.old) in

@@ -20,7 +20,7 @@ use cal_tables::Tables;
 use cal_types::{DateFromFieldsOptions, Window};
 use reply_texts::{Pending, push_cause, push_number};
 
-/// Writes an occurrence as a line.
+/// Writes each occurrence as a line.
 #[derive(Clone, Copy)]
 struct OccurrenceLines<'t, C> {
     form: DayForm<'t, C>,

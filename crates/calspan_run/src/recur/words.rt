@@ -16,7 +16,7 @@ use word_values::read_number;
 /// The arguments of `recur` before the fields of its start: `CAL SHOWN UNIT EVERY skip|constrain FIRST LAST`.
 #[derive(Clone, Copy, Debug)]
 pub struct RecurHeader {
-    /// The calendar of the start, in which units are counted.
+    /// The calendar of the start, in which the units are counted.
     pub calendar: AnyCalendarKind,
     /// The second calendar, in which each day is shown too.
     pub shown: AnyCalendarKind,
@@ -64,14 +64,14 @@ fn next_unit(words: &mut CommandWords) -> Option<DateDurationUnit>
     }
 }
 
-/// Returns the number of the next word, one to nine digits.
+/// Returns the number of the next word: one to nine digits.
 fn next_every(words: &mut CommandWords) -> Option<u32>
     ensures { IsReading (next_word every_of (words_left words.old)) result (words_left words.new) }
 {
     read_number(words.next()?, 9)
 }
 
-/// Reads how to handle an occurrence that doesn't exist.
+/// Reads the next word, `skip` or `constrain`. `None` if it is neither.
 fn next_missing(words: &mut CommandWords) -> Option<Missing>
     ensures { IsReading (next_word missing_named (words_left words.old)) result (words_left words.new) }
 {
@@ -86,7 +86,7 @@ fn next_missing(words: &mut CommandWords) -> Option<Missing>
     }
 }
 
-/// Reads the arguments before the fields. `None` if the next words aren't of their form.
+/// Reads the arguments before the fields. `None` exactly if the next words don't have their form.
 #[tactic(auto, unfolding(crate::specs::Asked::recur_header_read))]
 fn read_header(words: &mut CommandWords) -> Option<RecurHeader>
     ensures { let reading = recur_header_read (words_left words.old) in
@@ -110,8 +110,8 @@ fn read_header(words: &mut CommandWords) -> Option<RecurHeader>
     })
 }
 
-/// Sets the fields of all remaining words. `None` if one of them isn't `KEY=VALUE` with a known key and a valid value, or a
-/// key comes twice.
+/// Sets the fields of all remaining words. `None` if one of them isn't `KEY=VALUE` with a known key and a valid
+/// value, or a key occurs twice.
 fn read_fields<'a>(fields: &mut DateFields<'a>, mut words: CommandWords<'a>) -> Option<()>
     ensures { option_map (λ _. bag_of fields.new) result
         ≡ fields_of (Some (bag_of fields.old)) (words_left words.entry) }
@@ -125,7 +125,7 @@ fn read_fields<'a>(fields: &mut DateFields<'a>, mut words: CommandWords<'a>) -> 
 ghost use Rattle.calspan_run.specs.CommandSaid.{recur_said};
 ghost use Rattle.calspan_run.specs.Asked.{recur_of};
 
-/// Reads the arguments of `recur`, which are all remaining words. `None` if they aren't of their form.
+/// Reads the arguments of `recur`, which are all remaining words. `None` exactly if they don't have this form.
 #[tactic(auto, unfolding(crate::specs::Asked::recur_of))]
 pub(crate) fn read_recur<'a>(mut words: CommandWords<'a>) -> Option<RecurWords<'a>>
     ensures { option_map recur_said result ≡ recur_of (words_left words.entry) }

@@ -1,4 +1,4 @@
-//! The answer to a line after the rows of tables.
+//! The answer to a line after the row lines.
 ghost use Rattle.std.specs.Prelude.{◌≡◌, ◌+◌, ◌≤◌, ◌++◌, ℕ, List, false, length};
 ghost use Rattle.arrayvec.specs.ArrayVec.{array_vec_len};
 ghost use Rattle.byte_io.specs.Buffer.{Holds};
@@ -26,7 +26,7 @@ pub struct Progress {
     pub refused: bool,
 }
 
-/// The effect of a line on a run.
+/// How a run continues after a line.
 #[derive(Clone, Copy, Debug, PartialEq, Eq)]
 pub enum Answered {
     /// The run goes on.
@@ -57,7 +57,7 @@ impl Progress {
         }
     }
 
-    /// Returns the state after one more request, answered `err` or not.
+    /// Returns the state after one more request. `refused` says whether its answer is `err`.
     fn replied(self, refused: bool) -> Progress
         ensures { result ≡ replied self refused }
     {
@@ -85,7 +85,7 @@ fn refuse(pending: &mut Pending, number: u64, why: &[u8])
     push_about(pending, b"err line ", number, why);
 }
 
-/// Answers a request line whose bags were read. Returns whether the answer is `err`.
+/// Appends the answer to a request line whose bags were read. Returns whether the answer is `err`.
 fn answer_request(
     pending: &mut Pending,
     number: u64,
@@ -112,7 +112,8 @@ fn answer_request(
     }
 }
 
-/// Answers a line that isn't ignored. Kept out of line so that ignored lines don't pay for its stack frame.
+/// Appends the answer to a line that isn't ignored. Kept out of line so that ignored lines don't pay for its stack
+/// frame.
 #[inline(never)]
 fn answer_line(
     pending: &mut Pending,
@@ -141,8 +142,8 @@ fn answer_line(
     }
 }
 
-/// Appends the answer to a line to the pending text. `number` is the number of the line, counted from 1. A row line ends the
-/// run, since rows come before the first request line.
+/// Appends the answer to a line to the pending text. `number` is the number of the line, counted from 1. A row line
+/// stops the run, because row lines have to come before the first request line.
 pub fn answer(
     pending: &mut Pending,
     progress: Progress,

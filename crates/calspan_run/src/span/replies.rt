@@ -42,7 +42,8 @@ fn push_span(text: &mut Pending, parts: &SpanParts, shown: AnyCalendarKind, tabl
     text.push(b'\n');
 }
 
-/// Appends the reply to a request for two bags of fields, over the tables of the input. Returns whether it is `err`.
+/// Appends the reply to a request for two bags of fields, over the tables of the input. Returns whether the reply is
+/// `err`.
 pub fn reply(
     text: &mut Pending,
     header: &Header,

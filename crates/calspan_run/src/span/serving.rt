@@ -1,4 +1,4 @@
-//! A run of `span`.
+//! Running `span`.
 ghost use Rattle.std.specs.Prelude.{◌≡◌, ◌+◌, ◌≤◌, ℕ, List, Option, length};
 ghost use Rattle.byte_io.specs.Faults.{HasCause};
 ghost use Rattle.cal_tables.specs.Kinds.{table_contents};
@@ -27,7 +27,8 @@ use reply_texts::Pending;
 use std::alloc::Global;
 use table_rows::{Gathered, TableRows, gather};
 
-/// Appends the answer to a line to the pending text, which is written first if there might be no room for the answer.
+/// Appends the answer to a line to the pending text. Writes the pending text first if it might have no room for the
+/// answer.
 ///
 /// # Errors
 ///
@@ -50,7 +51,8 @@ pub fn respond<K: Sink>(
     Ok(answer(pending, progress, number, line, tables))
 }
 
-/// Writes the pending text after the last line.
+/// Writes the pending text after the last line. Returns the status of the run, or `WriteFault` if the sink counted a
+/// fault.
 fn conclude<K: Sink>(answered: Answered, pending: &mut Pending, sink: &mut K) -> Status
     ensures { (before : Option (List ℕ)) (text : List ℕ) → TextSoFar before (K.taken sink.old) pending.old.items text
         → EndsWith result (answered_status answered) before (K.taken sink.new) (K.faults sink.old) (K.faults sink.new)
@@ -62,7 +64,7 @@ fn conclude<K: Sink>(answered: Answered, pending: &mut Pending, sink: &mut K) ->
     }
 }
 
-/// Answers the remaining lines. The pending text is written before each read.
+/// Writes the answers to the remaining lines. Writes the pending text before each read.
 fn serve_from<S: Source, K: Sink>(
     start: Progress,
     tables: &Tables<'_>,
@@ -109,7 +111,7 @@ fn serve_from<S: Source, K: Sink>(
     }
 }
 
-/// Ends the run after this many lines. A last line without an LF is answered too.
+/// Ends the run after `lines` lines. A last line without an LF is answered too.
 fn finish<K: Sink>(
     progress: Progress,
     tables: &Tables<'_>,
@@ -135,7 +137,8 @@ fn finish<K: Sink>(
     }
 }
 
-/// Tests the tables, then answers the first request line, which the buffer holds, and the lines after it.
+/// Tests the tables, then writes the answers to the first request line, which `line` holds, and to the lines after
+/// it.
 fn serve_requests<S: Source, K: Sink>(
     rows: &TableRows,
     reader: &mut Reader,
@@ -164,7 +167,8 @@ fn serve_requests<S: Source, K: Sink>(
     }
 }
 
-/// Tests the tables, then answers the only request line, which the buffer holds, after this many lines.
+/// Tests the tables, then writes the answer to the only request line, which `line` holds. `lines` lines come before
+/// it.
 fn serve_last<K: Sink>(rows: &TableRows, lines: u64, line: &LineBuffer, sink: &mut K) -> Status
     requires { lines ≤ 16777216 }
     ensures { (before left : Option (List ℕ)) (faults reads : ℕ) (reader : Reader) → lines ≡ lines_given reader
@@ -202,7 +206,7 @@ fn serve_none<K: Sink>(rows: &TableRows, sink: &mut K) -> Status
     }
 }
 
-/// Runs `span`: reads row lines, then request lines, and writes a line for each.
+/// Runs `span`: reads row lines, then request lines, and writes an answer for each request line.
 pub fn serve_span<S: Source, K: Sink>(alloc: Global, source: &mut S, sink: &mut K) -> Status
     ensures { Serves span_rules result
         (outside (S.left source.old) (K.taken sink.old) (S.faults source.old) (K.faults sink.old))

@@ -1,4 +1,4 @@
-//! Dates of a single calendar as dates of [`AnyCalendar`], and conversion between calendars chosen at run time.
+//! Conversion of dates to [`AnyCalendar`], and between calendars chosen at run time.
 
 ghost use Rattle.std.specs.Prelude.{◌≡◌, IsTrue};
 ghost use Rattle.cal_types.specs.CalendarList.{IsOn, day_number};
@@ -33,7 +33,7 @@ impl<'t, C: IntoAnyCalendar<'t>> Date<C> {
     }
 }
 
-/// The conversion of `convert_any` for any type of calendar.
+/// Converts a date as `convert_any` does, for any type of calendar.
 fn converted<'a, A: AsCalendar<Calendar = K>, K: Calendar + AsCalendar<Calendar = K>>(
     date: &Date<A>,
     calendar: &'a K,

@@ -16,7 +16,7 @@ where
     A::Calendar: Calendar,
 {
     /// Returns `true` if the two calendars are compatible and year, month and day are the same. The dates may hold
-    /// their calendars differently, one borrowed and one counted, say.
+    /// their calendars differently, for example one borrowed and one counted.
     ///
     /// # Examples
     ///
@@ -64,7 +64,7 @@ where
     }
 }
 
-/// Whether dates of the two calendars can be compared.
+/// Returns whether dates of the two calendars can be compared.
 fn is_compatible<A: AsCalendar, B: AsCalendar<Calendar = A::Calendar>>(
     first: &A,
     second: &B,

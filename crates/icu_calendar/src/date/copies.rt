@@ -13,8 +13,8 @@ where
 {
     /// Returns a copy of the date, with a clone of its calendar.
     ///
-    /// The clone has to lead to the same calendar, and must not fail. Both hold for every calendar of this library and
-    /// for pointers to one. Use [`Date::try_clone`] for a type of your own whose clone may run out of memory.
+    /// The clone has to lead to the same calendar, and must not fail. This holds for every calendar of this library
+    /// and for pointers to one. Use [`Date::try_clone`] for a type of your own whose clone may run out of memory.
     ///
     /// # Examples
     ///

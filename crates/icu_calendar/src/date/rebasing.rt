@@ -23,9 +23,9 @@ impl<A: AsCalendar> Date<A>
 where
     A::Calendar: Calendar,
 {
-    /// Converts the date to another calendar by its day number, and says whether its extended year, ordinal month or
-    /// day of the month changed. Use it to update stored dates after a table of years was lengthened: dates whose year
-    /// isn't among the added rows don't change.
+    /// Converts the date to another calendar by its day number, and returns whether its extended year, ordinal month
+    /// or day of the month changed. Use it to update stored dates after a table of years was lengthened: dates whose
+    /// year isn't among the added rows don't change.
     ///
     /// The old date stays as it is. Dates under the two tables aren't compatible.
     ///
@@ -52,21 +52,21 @@ where
         Rebased { date, moved }
     }
 
-    /// The extended year, for `reads_as`.
+    /// Returns the extended year, for `reads_as`.
     fn extended_year(&self) -> i32
         ensures { result ≡ (A.Calendar.date_of (A.cal_of self.now.calendar) self.now.inner).year }
     {
         self.calendar.as_calendar().extended_year(&self.inner)
     }
 
-    /// The ordinal month, for `reads_as`.
+    /// Returns the ordinal month, for `reads_as`.
     fn ordinal_month(&self) -> u8
         ensures { result ≡ (A.Calendar.date_of (A.cal_of self.now.calendar) self.now.inner).month }
     {
         self.month().ordinal
     }
 
-    /// Whether the two dates have the same extended year, ordinal month and day of the month.
+    /// Returns whether the two dates have the same extended year, ordinal month and day of the month.
     fn reads_as<B: AsCalendar>(&self, other: &Date<B>) -> bool
     where
         B::Calendar: Calendar,

@@ -171,7 +171,14 @@ fn hash_of<T: Hash>(value: &T) -> u64 {
 #[test]
 fn kinds_are_hashed_apart(rt: HostRuntime) {
     use AnyCalendarKind as Kind;
-    let kinds = [Kind::Buddhist, Kind::Chinese, Kind::Dangi, Kind::Hebrew, Kind::Iso, Kind::Roc];
+    let kinds = [
+        Kind::Buddhist,
+        Kind::Chinese,
+        Kind::Dangi,
+        Kind::Hebrew,
+        Kind::Iso,
+        Kind::Roc,
+    ];
     for (i, a) in kinds.iter().enumerate() {
         for (j, b) in kinds.iter().enumerate() {
             assert_at(&rt, (i, j), hash_of(a) == hash_of(b), i == j);

@@ -20,3 +20,9 @@ returns-in-Ok-clause-stays c same free =
     let made = ap (λ (table : HijriTable). table.rows.now) c.new_umm_al_qura.ensures ∙ (c.in-Ok.ensures.first ∙ c.umm_al_qura.ensures.rows) in
     kept c.args.stored.now.calendar.0.table.rows.now old _ longer (kept_date c.args.stored.now.inner.0.parts).year c.hijri_date_kept.result.moved
     same made lengthens free c.hijri_date_kept.ensures.stays
+
+-- the date has the calendar of the longer table
+pub returns-in-Ok-clause-longer : goal.returns-in-Ok-clause-longer
+returns-in-Ok-clause-longer c =
+    ap (λ calendar. calendar.0.table.rows.now) c.hijri_date_kept.ensures.calendar
+    ∙ (ap (λ (table : HijriTable). table.rows.now) c.new_umm_al_qura.ensures ∙ (c.in-Ok.ensures.first ∙ c.umm_al_qura.ensures.rows))
