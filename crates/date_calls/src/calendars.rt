@@ -53,10 +53,5 @@ impl<'q, Q: Question> CalendarTask<()> for Asking<'q, Q> {
 pub(crate) fn ask<Q: Question>(question: &Q, chosen: &Chosen) -> Q::Answer
     ensures { Q.answers question.now (choice_system chosen.now) result }
 {
-    run_in_kind(
-        &Asking { question },
-        &mut (),
-        chosen.kind,
-        &chosen.tables,
-    )
+    run_in_kind(&Asking { question }, &mut (), chosen.kind, &chosen.tables)
 }

@@ -1,5 +1,4 @@
-use Rattle.std.proofs.Common.{rules, ◌≡◌, ◌∙◌, sym, ap, arith, FitsSigned, w32, to_z, of_z, Some, None}
-use Rattle.std.specs.Prelude.{option_map}
+use Rattle.std.proofs.Common.{rules, ◌≡◌, arith, FitsSigned, w32, to_z, of_z, Some, None}
 use Rattle.cal_days.proofs.Signed.{signed}
 use Rattle.cal_types.specs.MonthParts.{month_parts}
 use Rattle.cal_anniversary.proofs.ListingLemmas.{found-first}
