@@ -15,7 +15,7 @@
 //!
 //!     ghost asks = { λ t _ _. IsValidDay t.day };
 //!
-//!     ghost done = { λ t s _ _ length. (date : Date) → IsOn s.list t.day date → length ≡ days_in_year s.list date.year };
+//!     ghost done = { λ t s _ _ length. (date : Date) → IsOn s.list t.day date → length ≡ year_length s.list date.year };
 //!
 //!     fn run<C: Calendar + Copy>(&self, _nothing: &mut (), calendar: C) -> u16 {
 //!         calendar.days_in_year(&calendar.from_rata_die(self.day))

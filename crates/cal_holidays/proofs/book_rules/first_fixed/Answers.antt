@@ -1,4 +1,4 @@
-use Rattle.std.proofs.Common.{◌≡◌, ◌∙◌, true}
+use Rattle.std.proofs.Common.{◌∙◌}
 use Rattle.cal_tables.specs.Kinds.{table_contents}
 use Rattle.cal_types.specs.MonthParts.{month_parts}
 use Rattle.cal_holidays.proofs.KindMonthLemmas.{knows_month-listed}

@@ -1,7 +1,7 @@
 use Rattle.cal_types.specs.Anniversary.{is_anniversary}
 use Rattle.cal_types.specs.MonthParts.{month_parts}
 use Rattle.cal_holidays.proofs.WindowLemmas.{first-of_list}
-use Rattle.cal_holidays.proofs.book_rules.FirstFixedCalendarTask.run.Goals as goal
+use Rattle.cal_holidays.proofs.book_rules.FirstFixedCalendarTaskUnit.run.Goals as goal
 
 pub returns : goal.returns
 returns g c =
