@@ -1,11 +1,11 @@
-//! Work in the calendar of a kind, in the calendar's own type.
+//! Tasks in the calendar of a kind, in the calendar's own type.
 //!
-//! A [`CalendarTask`] is what to do in a calendar of any type. [`run_in_kind`] runs a task in the calendar of a kind that
-//! is chosen at run time. It branches over the kinds once: all calls of a task are calls of one calendar's own type, which
-//! the compiler knows.
+//! A [`CalendarTask`] is something to do in a calendar of any type. [`run_in_kind`] runs a task in the calendar of a kind
+//! that is chosen at run time. It branches over the kinds once, and the task is compiled for each calendar's own type.
 //!
 //! ```text
-//! /// The length of the year that contains a day.
+//! /// The task of counting the days of the year that contains a day.
+//! #[derive(Clone, Copy)]
 //! struct YearLength {
 //!     day: RataDie,
 //! }
@@ -15,7 +15,8 @@
 //!
 //!     ghost asks = { λ t _ _. IsValidDay t.day };
 //!
-//!     ghost done = { λ t s _ _ length. (date : Date) → IsOn s.list t.day date → length ≡ year_length s.list date.year };
+//!     ghost done = { λ t s _ _ length.
+//!         (date : Date) × (IsOn s.list t.day date) × (length ≡ year_length s.list date.year) };
 //!
 //!     fn run<C: Calendar + Copy>(&self, _nothing: &mut (), calendar: C) -> u16 {
 //!         calendar.days_in_year(&calendar.from_rata_die(self.day))

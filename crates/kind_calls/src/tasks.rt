@@ -7,9 +7,11 @@ use cal_base::Calendar;
 /// A task in a calendar of any type. It fills in parts, returns an answer, or does both.
 ///
 /// The parts stay where the caller keeps them, so large ones aren't copied. A task without parts is a `CalendarTask<()>`.
+/// An impl in short, without its ghosts:
 ///
 /// ```text
-/// /// The date of a day, in parts that the caller keeps.
+/// /// The task of showing a day in parts that the caller keeps.
+/// #[derive(Clone, Copy)]
 /// struct ShowDay {
 ///     day: RataDie,
 /// }
