@@ -15,7 +15,6 @@ use std::test::Fail;
 enum Example {
     Chinese,
     Korean,
-    Computed,
     Row,
 }
 
@@ -68,15 +67,6 @@ where
     Ok(())
 }
 
-/// The examples of computed years.
-fn show_computed<A: AsCalendar>(rt: &impl Abort, computed: A)
-where
-    A::Calendar: Calendar<Year = CyclicYear>,
-{
-    let date = Date::from_rata_die(RataDie::new(738946), computed);
-    assert!(rt; date.year().extended_year() == 2024);
-}
-
 /// The examples of a calendar.
 fn show<A: AsCalendar + Copy>(
     rt: &impl Abort,
@@ -90,10 +80,6 @@ where
         Example::Chinese => show_chinese(rt, calendar),
         Example::Korean => show_korean(rt, calendar),
         Example::Row => show_row(rt, calendar),
-        Example::Computed => {
-            show_computed(rt, calendar);
-            Ok(())
-        }
     }
 }
 
@@ -104,6 +90,12 @@ fn show_in<R: Rules + Copy>(
     example: Example,
 ) -> Result<(), DateNewError> {
     show(rt, calendar, example)
+}
+
+/// The examples of computed years, over any rules.
+fn show_computed<R: Rules>(rt: &impl Abort, computed: EastAsianTraditional<R>) {
+    let date = Date::from_rata_die(RataDie::new(738946), computed);
+    assert!(rt; date.year().extended_year() == 2024);
 }
 
 #[test]
@@ -118,7 +110,7 @@ fn chinese_years(rt: HostRuntime) -> Result<(), Fail> {
     let computed = ChineseTraditional::new(EastAsianTable::none(Side::China));
     let published = ChineseTraditional::new(published::china_table());
     let computed = EastAsianTraditional(China::new(EastAsianTable::none(Side::China)));
-    show_in(&rt, computed, Example::Computed)?;
+    show_computed(&rt, computed);
     assert!(rt; published::china_table().rows().len() == 188); // 1912 to 2099
     Ok(())
 }
@@ -133,7 +125,7 @@ fn korean_years(rt: HostRuntime) -> Result<(), Fail> {
     show_in(&rt, korean, Example::Korean)?;
 
     let computed = EastAsianTraditional(Korea::new(EastAsianTable::none(Side::Korea)));
-    show_in(&rt, computed, Example::Computed)?;
+    show_computed(&rt, computed);
     assert!(rt; published::korea_table().side() == Side::Korea);
     Ok(())
 }

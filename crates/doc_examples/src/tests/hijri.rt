@@ -101,57 +101,37 @@ where
     Ok(())
 }
 
-/// The examples of computed years.
-fn show_computed<A: AsCalendar>(rt: &impl Abort, computed: A)
-where
-    A::Calendar: Calendar,
-{
+/// The examples of published years, over any rules.
+fn show_umm_al_qura_in<R: Rules + Copy>(
+    rt: &impl Abort,
+    umm_al_qura: Hijri<R>,
+) -> Result<(), DateNewError> {
+    show_umm_al_qura(rt, umm_al_qura)
+}
+
+/// The examples of computed years, over any rules.
+fn show_computed<R: Rules>(rt: &impl Abort, computed: Hijri<R>) {
     let date = Date::from_rata_die(RataDie::new(738946), computed);
     assert!(rt; date.year().extended_year() == 1445);
-}
-
-/// The examples of a calendar's years, published or computed.
-fn show_years<A: AsCalendar + Copy>(
-    rt: &impl Abort,
-    calendar: A,
-    are_published: bool,
-) -> Result<(), DateNewError>
-where
-    A::Calendar: Calendar,
-{
-    if are_published {
-        return show_umm_al_qura(rt, calendar);
-    }
-    show_computed(rt, calendar);
-    Ok(())
-}
-
-/// The same over any rules.
-fn show_years_in<R: Rules + Copy>(
-    rt: &impl Abort,
-    calendar: Hijri<R>,
-    are_published: bool,
-) -> Result<(), DateNewError> {
-    show_years(rt, calendar, are_published)
 }
 
 #[test]
 fn published_and_computed_years(rt: HostRuntime) -> Result<(), Fail> {
     let umm_al_qura = published_years::umm_al_qura();
-    show_years_in(&rt, umm_al_qura, true)?;
+    show_umm_al_qura_in(&rt, umm_al_qura)?;
     let umm_al_qura = published::tables().umm_al_qura();
     let published = Hijri::new_umm_al_qura(published::umm_al_qura_table());
-    show_years_in(&rt, published, true)?;
+    show_umm_al_qura_in(&rt, published)?;
     assert!(rt; published::umm_al_qura_table().rows().len() == 301);
 
     let computed = Hijri(UmmAlQura::new(HijriTable::none()));
-    show_years_in(&rt, computed, false)?;
+    show_computed(&rt, computed);
 
     let computed = Hijri(AstronomicalSimulation::new(HijriTable::none()));
-    show_years_in(&rt, computed, false)?;
+    show_computed(&rt, computed);
 
     let computed = Tables::none().simulated_mecca();
-    show_years_in(&rt, computed, false)?;
+    show_computed(&rt, computed);
     Ok(())
 }
 
