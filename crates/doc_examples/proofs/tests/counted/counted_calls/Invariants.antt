@@ -1,4 +1,4 @@
-use Rattle.doc_examples.proofs.tests.inner.counted_calls.Given as goal
+use Rattle.doc_examples.proofs.tests.counted.counted_calls.Given as goal
 
 -- the counter's own name and share
 abbrev pub ghosts-show_counted_calls : goal.ghosts-show_counted_calls
