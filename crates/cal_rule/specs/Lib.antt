@@ -1,0 +1,4 @@
+pub mod Faults
+pub mod RuleNames
+pub mod Sets
+pub mod Words

@@ -1,0 +1,21 @@
+//! Recurrence rules of iCalendar (RFC 5545, RRULE; RFC 7529, RSCALE and SKIP) as values.
+#![tactic(auto)]
+
+mod frequency;
+mod month_set;
+mod place_set;
+mod rule_error;
+mod rule_part;
+mod skip;
+mod value_fault;
+mod weekday_places;
+mod weekdays;
+mod words;
+
+pub use frequency::Frequency;
+pub use month_set::MonthSet;
+pub use place_set::{Place, PlaceSet};
+pub use rule_error::RuleError;
+pub use rule_part::RulePart;
+pub use skip::Skip;
+pub use weekday_places::{WeekdayPlace, WeekdayPlaces};
