@@ -1,1 +1,5 @@
 mod BitLemmas
+mod ListLemmas
+mod NumberLemmas
+mod SplitLemmas
+mod UntilLemmas

@@ -1,4 +1,13 @@
 pub mod Faults
+pub mod KindRanges
+pub mod Lists
+pub mod Months
+pub mod Numbers
+pub mod Pieces
+pub mod Places
 pub mod RuleNames
 pub mod Sets
+pub mod Steps
+pub mod Until
+pub mod WeekdayItems
 pub mod Words

@@ -2,12 +2,20 @@
 #![tactic(auto)]
 
 mod frequency;
+mod kind_ranges;
+mod lists;
 mod month_set;
+mod months;
+mod numbers;
+mod pieces;
 mod place_set;
+mod places;
 mod rule_error;
 mod rule_part;
 mod skip;
+mod until;
 mod value_fault;
+mod weekday_items;
 mod weekday_places;
 mod weekdays;
 mod words;
