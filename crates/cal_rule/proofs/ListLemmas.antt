@@ -1,7 +1,10 @@
 -- A list is read value by value into a set.
-use Rattle.std.proofs.Common.{◌≡◌, ◌∙◌, ℕ, Bool, true, false, ◌||◌, List, [], ◌∷◌, ◌++◌, Result, Ok, Err, refl, sym, ap, subst, append_assoc}
+use Rattle.std.proofs.Common.{◌≡◌, ◌∙◌, ℕ, Bool, true, false, ◌||◌, List, [], ◌∷◌, ◌++◌, Result, Ok, Err, Some, refl, sym, ap, subst, append_assoc}
 use Rattle.std.specs.List.{list_any}
+use Rattle.std.specs.Result.{result_unwrap_or}
 use Rattle.cal_rule.specs.Lists.{HasValues, IsSetRead, all_read, first_and, in_front}
+use Rattle.cal_rule.specs.Faults.{error_in, error_of}
+use Rattle.cal_rule.specs.declared.rule_part.RulePart.{RulePart}
 use Rattle.cal_rule.specs.declared.value_fault.ValueFault.{ValueFault}
 
 -- some values before those that are read
@@ -74,3 +77,20 @@ reading-ends has same read set all left end r =
     let values : all_read read all ≡ Ok r.earlier =
         r.values ∙ ap (λ items. behind r.earlier (all_read read items)) end ∙ ap Ok (append_none r.earlier) in
     subst (λ values. IsSetRead has same (Ok set) values) (sym values) r.holds
+
+-- a set's fault is that of its list
+pub fault-of_set : {S V : Type 0} (has : S → V → Bool) (same : V → V → Bool) (part : RulePart) (r : Result S ValueFault)
+    (values : Result (List V) ValueFault) → IsSetRead has same r values → error_in part r ≡ error_in part values
+fault-of_set has same part (Ok set) (Ok values) h = refl
+fault-of_set has same part (Err e) (Err f) h = ap (λ fault. Some (error_of part fault)) h
+fault-of_set has same part (Ok set) (Err f) h = absurd h
+fault-of_set has same part (Err e) (Ok values) h = absurd h
+
+-- a set that was read, or an empty one, has the values of the list, or none
+pub values-of_set : {S V : Type 0} (has : S → V → Bool) (same : V → V → Bool) (none : S) (r : Result S ValueFault)
+    (values : Result (List V) ValueFault) → ((v : V) → has none v ≡ false) → IsSetRead has same r values →
+    HasValues has same (result_unwrap_or r none) (result_unwrap_or values [])
+values-of_set has same none (Ok set) (Ok values) empty h = h
+values-of_set has same none (Err e) (Err f) empty h = empty
+values-of_set has same none (Ok set) (Err f) empty h = absurd h
+values-of_set has same none (Err e) (Ok values) empty h = absurd h

@@ -1,3 +1,4 @@
+pub mod CalendarNames
 pub mod Faults
 pub mod KindRanges
 pub mod Lists
@@ -6,8 +7,11 @@ pub mod Numbers
 pub mod Pieces
 pub mod Places
 pub mod RuleNames
+pub mod RuleText
 pub mod Sets
 pub mod Steps
+pub mod TextTable
 pub mod Until
+pub mod Values
 pub mod WeekdayItems
 pub mod Words
