@@ -61,8 +61,8 @@ pub reading-fails : {S V : Type 0} (has : S → V → Bool) (same : V → V → 
     IsReadingList has same read set all left → Err e ≡ read item → IsSetRead has same (Err e) (all_read read all)
 reading-fails has same read set all left others item e cut r fault =
     let values : all_read read all ≡ Err e =
-        r.values ∙ ap (λ items. behind r.earlier (all_read read items)) cut
-        ∙ ap (λ v. behind r.earlier (first_and v (all_read read others))) (sym fault) in
+    r.values ∙ ap (λ items. behind r.earlier (all_read read items)) cut
+    ∙ ap (λ v. behind r.earlier (first_and v (all_read read others))) (sym fault) in
     subst (λ values. IsSetRead has same (Err e) values) (sym values) refl
 
 append_none : {V : Type 0} (xs : List V) → xs ++ [] ≡ xs
@@ -75,7 +75,7 @@ pub reading-ends : {S V : Type 0} (has : S → V → Bool) (same : V → V → B
     IsReadingList has same read set all left → IsSetRead has same (Ok set) (all_read read all)
 reading-ends has same read set all left end r =
     let values : all_read read all ≡ Ok r.earlier =
-        r.values ∙ ap (λ items. behind r.earlier (all_read read items)) end ∙ ap Ok (append_none r.earlier) in
+    r.values ∙ ap (λ items. behind r.earlier (all_read read items)) end ∙ ap Ok (append_none r.earlier) in
     subst (λ values. IsSetRead has same (Ok set) values) (sym values) r.holds
 
 -- a set's fault is that of its list

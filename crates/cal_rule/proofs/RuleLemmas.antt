@@ -44,7 +44,7 @@ pub parts-go_on : (kind : AnyCalendarKind) (table next : RuleTexts) (all left ot
     IsReadingParts kind next all others
 parts-go_on kind table next all left others text first r added =
     let good : part_fault kind (value_of r.earlier) text ≡ None =
-        subst (λ values. part_fault kind values text ≡ None) r.values added.0 in
+    subst (λ values. part_fault kind values text ≡ None) r.values added.0 in
     record {
       earlier = r.earlier ++ text ∷ [];
       values = fun_ext (λ p. added.1 p ∙ ap (λ values. option_or (values p) (said_by text p)) r.values
@@ -61,7 +61,7 @@ pub parts-fail : (kind : AnyCalendarKind) (table next : RuleTexts) (all left oth
     IsSplit kind all (Err e)
 parts-fail kind table next all left others text e first r added =
     let bad : part_fault kind (value_of r.earlier) text ≡ Some e =
-        subst (λ values. part_fault kind values text ≡ Some e) r.values added in
+    subst (λ values. part_fault kind values text ≡ Some e) r.values added in
     r.faults ∙ ap (first_fault kind r.earlier) first
     ∙ ap (λ fault. option_or fault (first_fault kind (r.earlier ++ text ∷ []) others)) bad
 

@@ -18,7 +18,8 @@ is_name_byte b = is_ascii_alphanumeric b || b == 45
 
 -- CLDR's names that aren't program names
 abbrev pub cldr_names : List (List ℕ × AnyCalendarKind)
-cldr_names = (codes "gregory", Gregorian) ∷ (codes "iso8601", Iso) ∷ (codes "ethiopic-amete-alem", EthiopianAmeteAlem) ∷ []
+cldr_names =
+    (codes "gregory", Gregorian) ∷ (codes "iso8601", Iso) ∷ (codes "ethiopic-amete-alem", EthiopianAmeteAlem) ∷ []
 
 -- the kind of the calendar with a name, in letters of either case
 abbrev pub calendar_named : List ℕ → Option AnyCalendarKind

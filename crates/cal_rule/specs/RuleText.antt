@@ -151,7 +151,8 @@ rule_fault kind text =
     option_or (first_fault kind [] (parts_of text)) (whole_fault (value_of (parts_of text)))
 
 -- a rule is what the values of the parts say; a list that is missing is an empty set
-pub record SaysRule (kind : AnyCalendarKind) (values : RulePart → Option (List ℕ)) (rule : RecurrenceRule) : Type 0 where
+pub record SaysRule (kind : AnyCalendarKind) (values : RulePart → Option (List ℕ))
+    (rule : RecurrenceRule) : Type 0 where
   pub frequency : said_with frequency_read (values part.Freq) ≡ Some rule.frequency
   pub interval : rule.interval ≡ unwrap_or (said_with count_read (values part.Interval)) 1
   pub count : rule.count ≡ said_with count_read (values part.Count)

@@ -19,7 +19,8 @@ before_letters item = (take (length item - 2) item, drop (length item - 2) item)
 -- an ordinal of one or two digits with an optional sign, if there is one
 abbrev pub ordinal_read : ℕ → List ℕ → Result (Option Place) ValueFault
 ordinal_read most [] = Ok None
-ordinal_read most (b ∷ text) = result_map_both Some (λ fault. fault) (place_read (record { digits = 2; most = most }) (b ∷ text))
+ordinal_read most (b ∷ text) =
+    result_map_both Some (λ fault. fault) (place_read (record { digits = 2; most = most }) (b ∷ text))
 
 -- the ordinal before a weekday
 abbrev pub with_ordinal : ℕ → List ℕ → Weekday → Result WeekdayPlace ValueFault

@@ -148,7 +148,9 @@ impl<'t> RuleTexts<'t> {
         ensures { result ≡ fault_beside frequency (text_of self.now) }
     {
         let ordinal = self.ordinal_fault(frequency);
-        let behind = self.frequency_fault(frequency).or(ordinal.or(self.position_fault()));
+        let behind = self
+            .frequency_fault(frequency)
+            .or(ordinal.or(self.position_fault()));
         self.end_fault().or(behind)
     }
 
@@ -223,10 +225,7 @@ impl RecurrenceRule {
     /// let rule = RecurrenceRule::try_from_utf8(b"FREQ=MONTHLY;BYDAY=-1FR", AnyCalendarKind::Iso)?;
     /// assert!(rt; rule.frequency() == Frequency::Monthly);
     /// ```
-    pub fn try_from_utf8(
-        bytes: &[u8],
-        kind: AnyCalendarKind,
-    ) -> Result<RecurrenceRule, RuleError>
+    pub fn try_from_utf8(bytes: &[u8], kind: AnyCalendarKind) -> Result<RecurrenceRule, RuleError>
         ensures read { IfOk result (λ rule. IsRuleText kind bytes.now rule) }
         ensures refused { IfErr result (λ error. rule_fault kind bytes.now ≡ Some error) }
     {

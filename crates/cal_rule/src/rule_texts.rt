@@ -67,10 +67,7 @@ impl<'t> RuleTexts<'t> {
     }
 
     /// Splits a rule into its parts. The error is that of the first invalid part.
-    pub(crate) fn read(
-        kind: AnyCalendarKind,
-        text: &'t [u8],
-    ) -> Result<RuleTexts<'t>, RuleError>
+    pub(crate) fn read(kind: AnyCalendarKind, text: &'t [u8]) -> Result<RuleTexts<'t>, RuleError>
         ensures { IsSplit kind (parts_of text.now) result }
     {
         let mut texts = RuleTexts { texts: [None; 16] };

@@ -23,10 +23,7 @@ use crate::weekdays::read_weekday;
 use cal_kinds::AnyCalendarKind;
 
 /// Reads the value of BYMONTHDAY.
-pub(crate) fn read_month_days(
-    text: &[u8],
-    kind: AnyCalendarKind,
-) -> Result<PlaceSet<1>, ValueFault>
+pub(crate) fn read_month_days(text: &[u8], kind: AnyCalendarKind) -> Result<PlaceSet<1>, ValueFault>
     ensures { IsSetRead has_place is_place result (list_read (month_day_read kind) text.now) }
 {
     let most = ranges_of(kind).month_day;
@@ -34,10 +31,7 @@ pub(crate) fn read_month_days(
 }
 
 /// Reads the value of BYYEARDAY or BYSETPOS.
-pub(crate) fn read_year_days(
-    text: &[u8],
-    kind: AnyCalendarKind,
-) -> Result<PlaceSet<7>, ValueFault>
+pub(crate) fn read_year_days(text: &[u8], kind: AnyCalendarKind) -> Result<PlaceSet<7>, ValueFault>
     ensures { IsSetRead has_place is_place result (list_read (year_day_read kind) text.now) }
 {
     let most = ranges_of(kind).year_day;
@@ -70,11 +64,7 @@ fn error_in<T: Drop>(part: RulePart, read: Result<T, ValueFault>) -> Option<Rule
 }
 
 /// Returns what is wrong with the value of a part of a rule for a kind of calendar.
-pub(crate) fn value_fault(
-    kind: AnyCalendarKind,
-    part: RulePart,
-    value: &[u8],
-) -> Option<RuleError>
+pub(crate) fn value_fault(kind: AnyCalendarKind, part: RulePart, value: &[u8]) -> Option<RuleError>
     ensures { result ≡ value_fault kind part value.now }
 {
     match part {

@@ -6,6 +6,7 @@ mod lists;
 mod lunar;
 mod published;
 mod rows;
+mod rules;
 mod solar;
 mod spans;
 mod units;

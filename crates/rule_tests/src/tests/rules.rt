@@ -9,14 +9,46 @@ use cal_types::{Month, Weekday};
 #[test]
 fn the_same_rule(rt: HostRuntime) {
     for &(kind, text, other) in &[
-        (Kind::Iso, "FREQ=DAILY", "wkst=mo;skip=omit;interval=0001;freq=daily"),
-        (Kind::Iso, "FREQ=YEARLY;BYMONTH=2,1,2", "BYMONTH=01,02;FREQ=YEARLY"),
-        (Kind::Iso, "FREQ=MONTHLY;BYDAY=+1MO,1mo,MO", "FREQ=MONTHLY;BYDAY=MO,01MO"),
-        (Kind::Iso, "FREQ=DAILY;RSCALE=ISO8601", "FREQ=DAILY;RSCALE=iso"),
-        (Kind::Gregorian, "FREQ=DAILY;RSCALE=GREGORIAN", "FREQ=DAILY;RSCALE=gregory"),
-        (Kind::EthiopianAmeteAlem, "FREQ=DAILY;RSCALE=Ethiopic-Amete-Alem", "FREQ=DAILY;RSCALE=ETHIOAA"),
-        (Kind::Hebrew, "FREQ=YEARLY;BYMONTH=5L;BYYEARDAY=385", "FREQ=YEARLY;BYMONTH=05l;BYYEARDAY=+385"),
-        (Kind::Coptic, "FREQ=YEARLY;BYMONTH=13;BYMONTHDAY=6", "FREQ=YEARLY;BYMONTH=13;BYMONTHDAY=+06"),
+        (
+            Kind::Iso,
+            "FREQ=DAILY",
+            "wkst=mo;skip=omit;interval=0001;freq=daily",
+        ),
+        (
+            Kind::Iso,
+            "FREQ=YEARLY;BYMONTH=2,1,2",
+            "BYMONTH=01,02;FREQ=YEARLY",
+        ),
+        (
+            Kind::Iso,
+            "FREQ=MONTHLY;BYDAY=+1MO,1mo,MO",
+            "FREQ=MONTHLY;BYDAY=MO,01MO",
+        ),
+        (
+            Kind::Iso,
+            "FREQ=DAILY;RSCALE=ISO8601",
+            "FREQ=DAILY;RSCALE=iso",
+        ),
+        (
+            Kind::Gregorian,
+            "FREQ=DAILY;RSCALE=GREGORIAN",
+            "FREQ=DAILY;RSCALE=gregory",
+        ),
+        (
+            Kind::EthiopianAmeteAlem,
+            "FREQ=DAILY;RSCALE=Ethiopic-Amete-Alem",
+            "FREQ=DAILY;RSCALE=ETHIOAA",
+        ),
+        (
+            Kind::Hebrew,
+            "FREQ=YEARLY;BYMONTH=5L;BYYEARDAY=385",
+            "FREQ=YEARLY;BYMONTH=05l;BYYEARDAY=+385",
+        ),
+        (
+            Kind::Coptic,
+            "FREQ=YEARLY;BYMONTH=13;BYMONTHDAY=6",
+            "FREQ=YEARLY;BYMONTH=13;BYMONTHDAY=+06",
+        ),
     ] {
         assert_same_rule(&rt, kind, text, other);
     }
@@ -24,7 +56,8 @@ fn the_same_rule(rt: HostRuntime) {
 
 #[test]
 fn what_a_rule_holds(rt: HostRuntime) {
-    let text = "FREQ=YEARLY;INTERVAL=2;UNTIL=00010101;BYMONTH=3L;BYMONTHDAY=-30;BYYEARDAY=385;BYSETPOS=-1;BYDAY=-55SU,MO;WKST=SU;SKIP=FORWARD";
+    let text =
+        "FREQ=YEARLY;INTERVAL=2;UNTIL=00010101;BYMONTH=3L;BYMONTHDAY=-30;BYYEARDAY=385;BYSETPOS=-1;BYDAY=-55SU,MO;WKST=SU;SKIP=FORWARD";
     let found = RecurrenceRule::try_from_str(text, Kind::Chinese);
     assert_at(&rt, text, found.is_ok(), true);
     if let Ok(rule) = found {
@@ -42,11 +75,36 @@ fn what_a_rule_holds(rt: HostRuntime) {
         assert_at(&rt, "UNTIL", rule.until(), Some(RataDie::new(1)));
         assert_at(&rt, "BYMONTH", rule.months().contains(Month::leap(3)), true);
         assert_at(&rt, "BYMONTH", rule.months().contains(Month::new(3)), false);
-        assert_at(&rt, "BYMONTHDAY", rule.month_days().contains(Place::FromBack(30)), true);
-        assert_at(&rt, "BYMONTHDAY", rule.month_days().contains(Place::FromFront(30)), false);
-        assert_at(&rt, "BYYEARDAY", rule.year_days().contains(Place::FromFront(385)), true);
-        assert_at(&rt, "BYWEEKNO", rule.weeks().contains(Place::FromFront(1)), false);
-        assert_at(&rt, "BYSETPOS", rule.positions().contains(Place::FromBack(1)), true);
+        assert_at(
+            &rt,
+            "BYMONTHDAY",
+            rule.month_days().contains(Place::FromBack(30)),
+            true,
+        );
+        assert_at(
+            &rt,
+            "BYMONTHDAY",
+            rule.month_days().contains(Place::FromFront(30)),
+            false,
+        );
+        assert_at(
+            &rt,
+            "BYYEARDAY",
+            rule.year_days().contains(Place::FromFront(385)),
+            true,
+        );
+        assert_at(
+            &rt,
+            "BYWEEKNO",
+            rule.weeks().contains(Place::FromFront(1)),
+            false,
+        );
+        assert_at(
+            &rt,
+            "BYSETPOS",
+            rule.positions().contains(Place::FromBack(1)),
+            true,
+        );
         assert_at(&rt, "BYDAY", rule.weekdays().contains(last_sunday), true);
         assert_at(&rt, "BYDAY", rule.weekdays().contains(mondays), true);
         assert_at(&rt, "WKST", rule.week_start(), Weekday::Sunday);
