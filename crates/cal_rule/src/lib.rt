@@ -26,6 +26,7 @@ mod weekday_items;
 mod weekday_places;
 mod weekdays;
 mod words;
+mod writing;
 
 pub use frequency::Frequency;
 pub use month_set::MonthSet;

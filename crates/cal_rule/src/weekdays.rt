@@ -10,7 +10,7 @@ use crate::words::is_word;
 use cal_types::Weekday;
 
 /// All weekdays.
-const WEEKDAYS: [Weekday; 7] = [
+pub(crate) const WEEKDAYS: [Weekday; 7] = [
     Weekday::Sunday,
     Weekday::Monday,
     Weekday::Tuesday,

@@ -2,6 +2,7 @@
 
 use cal_kinds::AnyCalendarKind;
 use cal_rule::{RecurrenceRule, RuleError};
+use std::alloc::{AllocError, Global};
 use std::fmt::Debug;
 use std::process::Abort;
 
@@ -32,4 +33,23 @@ pub(super) fn assert_error(
 ) {
     let found = RecurrenceRule::try_from_str(text, kind).err();
     assert_at(rt, text, found, Some(expected));
+}
+
+/// That a rule writes a text, which is read as the same rule.
+pub(super) fn assert_writes(
+    rt: &impl Abort,
+    alloc: Global,
+    kind: AnyCalendarKind,
+    text: &str,
+    expected: &str,
+) -> Result<(), AllocError> {
+    let found = RecurrenceRule::try_from_str(text, kind);
+    assert_at(rt, text, found.is_ok(), true);
+    if let Ok(rule) = found {
+        let written = format!(in alloc; "{rule}")?;
+        assert_at(rt, text, written.as_str(), expected);
+        let again = RecurrenceRule::try_from_str(written.as_str(), kind);
+        assert_at(rt, text, again == Ok(rule), true);
+    }
+    Ok(())
 }

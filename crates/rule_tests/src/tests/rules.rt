@@ -1,10 +1,11 @@
 //! Texts that are the same rule, and what rules hold.
 
-use crate::tests::expected::{assert_at, assert_same_rule};
+use crate::tests::expected::{assert_at, assert_same_rule, assert_writes};
 use cal_days::RataDie;
 use cal_kinds::AnyCalendarKind as Kind;
 use cal_rule::{Frequency, Place, RecurrenceRule, Skip, WeekdayPlace};
 use cal_types::{Month, Weekday};
+use std::alloc::AllocError;
 
 #[test]
 fn the_same_rule(rt: HostRuntime) {
@@ -110,4 +111,43 @@ fn what_a_rule_holds(rt: HostRuntime) {
         assert_at(&rt, "WKST", rule.week_start(), Weekday::Sunday);
         assert_at(&rt, "SKIP", rule.skip(), Skip::Forward);
     }
+}
+
+#[test]
+fn rules_are_written(rt: HostRuntime) -> Result<(), AllocError> {
+    for &(kind, text, written) in &[
+        (
+            Kind::Iso,
+            "wkst=mo;skip=omit;interval=0001;freq=daily",
+            "FREQ=DAILY",
+        ),
+        (
+            Kind::Iso,
+            "COUNT=10;INTERVAL=2;FREQ=WEEKLY;BYDAY=SA,SU;WKST=SU",
+            "FREQ=WEEKLY;INTERVAL=2;COUNT=10;BYDAY=SU,SA;WKST=SU",
+        ),
+        (
+            Kind::Iso,
+            "FREQ=YEARLY;UNTIL=00000229",
+            "FREQ=YEARLY;UNTIL=00000229",
+        ),
+        (
+            Kind::Iso,
+            "FREQ=MONTHLY;UNTIL=99991231;BYDAY=+1MO,-1FR,TU;BYSETPOS=-1,1",
+            "FREQ=MONTHLY;UNTIL=99991231;BYDAY=1MO,TU,-1FR;BYSETPOS=1,-1",
+        ),
+        (
+            Kind::Iso,
+            "FREQ=YEARLY;BYWEEKNO=53,-53,1;BYMONTHDAY=31,-31",
+            "FREQ=YEARLY;BYWEEKNO=1,53,-53;BYMONTHDAY=31,-31",
+        ),
+        (
+            Kind::Chinese,
+            "RSCALE=CHINESE;FREQ=YEARLY;BYMONTH=12L,1,1L;BYYEARDAY=385,-385,64;SKIP=FORWARD",
+            "FREQ=YEARLY;BYMONTH=1,1L,12L;BYYEARDAY=64,385,-385;SKIP=FORWARD",
+        ),
+    ] {
+        assert_writes(&rt, rt.alloc(), kind, text, written)?;
+    }
+    Ok(())
 }

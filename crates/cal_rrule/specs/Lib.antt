@@ -1,0 +1,4 @@
+pub mod Occurrences
+pub mod Periods
+pub mod Stretches
+pub mod Weeks
