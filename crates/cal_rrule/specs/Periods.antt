@@ -42,10 +42,11 @@ NoWeekdays rule = IsMissing has_weekday rule.weekdays
 abbrev pub NoDays : RecurrenceRule → Type 0
 NoDays rule = NoWeeks rule × NoYearDays rule × NoMonthDays rule × NoWeekdays rule
 
--- in which stretch weekdays are counted: in the month under MONTHLY or beside BYMONTH, and otherwise in the year
+-- the stretch in which weekdays are counted: the month under MONTHLY or beside BYMONTH, and otherwise the year
 abbrev pub CountsIn : CalendarList → RecurrenceRule → Date → Stretch → Type 0
 CountsIn c rule t s =
-    Given ((rule.frequency ≡ Yearly) × NoMonths rule) (s ≡ month_stretch c (t.year, t.month)) (s ≡ year_stretch c t.year)
+    Given ((rule.frequency ≡ Yearly) × NoMonths rule) (s ≡ month_stretch c (t.year, t.month))
+    (s ≡ year_stretch c t.year)
 
 -- BYDAY holds of a day
 abbrev pub IsOfWeekdays : CalendarList → RecurrenceRule → ℤ → Type 0
@@ -78,7 +79,7 @@ IsYearMonth c rule t y found =
     ((m : MonthParts) × SaysMonth c rule t m × NamesMonth rule.skip c y m found)
     ((found.0 ≡ y) × HasPlace c y found.1)
 
--- a day is in a month of a year that a rule names, and it is a day of the month that the rule names, where it names any;
+-- a day is in a month of a year that a rule names, and is a day of the month that the rule names, where it names any;
 -- beside BYYEARDAY alone nothing is asked, so that SKIP may lead out of the year
 abbrev pub IsYearMonthDay : CalendarList → RecurrenceRule → Date → ℤ → ℤ → Type 0
 IsYearMonthDay c rule t y n =

@@ -1,7 +1,7 @@
-mod BitLemmas
-mod ListLemmas
-mod NameLemmas
-mod NumberLemmas
-mod RuleLemmas
-mod SplitLemmas
-mod UntilLemmas
+pub mod BitLemmas
+pub mod ListLemmas
+pub mod NameLemmas
+pub mod NumberLemmas
+pub mod RuleLemmas
+pub mod SplitLemmas
+pub mod UntilLemmas

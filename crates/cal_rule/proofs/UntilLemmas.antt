@@ -1,5 +1,5 @@
 -- Dates of the Gregorian calendar.
-use Rattle.std.proofs.Common.{◌≡◌, ℕ, Bool, false, ◌&&◌, nat_le, Option, Some, None, if◌then◌else◌, ℤ, pos, refl}
+use Rattle.std.proofs.Common.{◌≡◌, ℕ, false, ◌&&◌, nat_le, Option, Some, None, if◌then◌else◌, ℤ, pos, refl}
 use Rattle.cal_types.specs.CalendarList.{date, day_number, is_date, month_count}
 use Rattle.cal_base.specs.IsoSystem.{iso_list}
 use Rattle.cal_base.specs.laws.OffsetListLaws.{offset_list-plain}

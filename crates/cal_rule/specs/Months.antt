@@ -1,6 +1,6 @@
 -- Months as texts: one or two digits, and an `L` for a leap month.
 -- Source: RFC 7529, 4.2.
-use Rattle.std.specs.Prelude.{ℕ, ◌-◌, ◌==◌, Bool, true, false, if◌then◌else◌, List, length, take, get_or, Result, Ok, Err}
+use Rattle.std.specs.Prelude.{ℕ, ◌-◌, Bool, true, false, if◌then◌else◌, List, length, take, get_or, Result, Ok, Err}
 use Rattle.std.specs.Char.{eq_ignore_ascii_case}
 use Rattle.std.specs.Option.{ok_or, option_map}
 use Rattle.cal_rule.specs.Steps.{read_then}

@@ -1,6 +1,6 @@
 -- Weekdays as texts: an optional ordinal, and two letters.
 -- Source: RFC 5545, 3.3.10.
-use Rattle.std.specs.Prelude.{ℕ, ◌-◌, List, [], ◌∷◌, length, take, drop, Option, Some, None, Result, Ok, Err}
+use Rattle.std.specs.Prelude.{ℕ, ◌-◌, List, [], ◌∷◌, length, take, drop, Option, Some, None, Result, Ok}
 use Rattle.std.specs.Option.{ok_or}
 use Rattle.std.specs.Result.{result_map_both}
 use Rattle.cal_types.specs.declared.weekday.Weekday.{Weekday}

@@ -1,6 +1,7 @@
 //! Recurrence rules of iCalendar (RFC 5545, RRULE; RFC 7529, RSCALE and SKIP) as values.
 #![tactic(auto)]
 
+pub mod bits;
 mod calendar_name;
 mod frequency;
 mod kind_ranges;

@@ -5,7 +5,7 @@ ghost use Rattle.cal_types.specs.Month.{MonthParts};
 ghost use Rattle.cal_types.specs.MonthParts.{month_parts};
 ghost use Rattle.cal_rule.specs.Sets.{has_month, is_month};
 
-use crate::place_set::{bit_of, with_bit};
+use crate::bits::{bit_of, with_bit};
 use cal_types::Month;
 
 /// A set of months with numbers below 64, regular ones and leap months.

@@ -1,7 +1,9 @@
 //! Sets of places that are counted from either end.
 
-ghost use Rattle.std.specs.Prelude.{◌≡◌, ◌<◌, ◌*◌, ◌||◌, ◌==◌, ℕ, false, length};
-ghost use Rattle.cal_rule.specs.Sets.{has_bit, has_number, has_place, is_place, number_of};
+ghost use Rattle.std.specs.Prelude.{◌≡◌, ◌<◌, ◌*◌, ◌||◌, false};
+ghost use Rattle.cal_rule.specs.Sets.{has_place, is_place, number_of};
+
+use crate::bits::{add_number, number_in};
 
 /// A place in a row, counted from 1.
 #[derive(Clone, Copy, Debug, PartialEq, Eq)]
@@ -19,39 +21,6 @@ pub struct PlaceSet<const WORDS: usize> {
     front: [u64; WORDS],
     /// A bit for each number that is counted from the back.
     back: [u64; WORDS],
-}
-
-/// Returns a word with a bit set.
-pub(crate) const fn with_bit(word: u64, bit: u16) -> u64
-    requires { bit < 64 }
-    ensures { (i : ℕ) → has_bit result i ≡ (i == bit || has_bit word i) }
-{
-    word | (1 << bit)
-}
-
-/// Returns whether a bit of a word is set.
-pub(crate) const fn bit_of(word: u64, bit: u16) -> bool
-    ensures { result ≡ has_bit word bit }
-{
-    bit < 64 && (word >> bit) & 1 == 1
-}
-
-/// Returns whether a number is in the words of a set.
-const fn number_in(words: &[u64], number: u16) -> bool
-    ensures { result ≡ has_number words.now number }
-{
-    let place = (number / 64) as usize;
-    place < words.len() && bit_of(words[place], number % 64)
-}
-
-/// Adds a number to the words of a set.
-const fn add_number(words: &mut [u64], number: u16)
-    requires { number < 64 * length words.old }
-    ensures numbers { (i : ℕ) → has_number words.new i ≡ (i == number || has_number words.old i) }
-    ensures same_length { length words.new ≡ length words.old }
-{
-    let place = (number / 64) as usize;
-    words[place] = with_bit(words[place], number % 64);
 }
 
 impl<const WORDS: usize> PlaceSet<WORDS> {

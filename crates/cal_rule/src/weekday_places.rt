@@ -4,7 +4,8 @@ ghost use Rattle.std.specs.Prelude.{◌≡◌, ◌<◌, ◌||◌, false, Some};
 ghost use Rattle.std.specs.Option.{ForSome};
 ghost use Rattle.cal_rule.specs.Sets.{has_weekday, is_weekday_place, number_of};
 
-use crate::place_set::{Place, bit_of, with_bit};
+use crate::bits::{bit_of, with_bit};
+use crate::place_set::Place;
 use crate::weekdays::days_since_sunday;
 use cal_types::Weekday;
 

@@ -1,7 +1,7 @@
 use Rattle.std.proofs.Common.{◌≡◌, ◌≤◌, ◌∙◌, false, nat_lt, sym, arith}
 use Rattle.std.proofs.lemmas.Bool.Decides.{nat_tests}
 use Rattle.cal_rule.proofs.BitLemmas.{no-bit}
-use Rattle.cal_rule.proofs.place_set.bit_of.Goals as goal
+use Rattle.cal_rule.proofs.bits.bit_of.Goals as goal
 
 pub returns-else-bit-lt64 : goal.returns-else-bit-lt64
 returns-else-bit-lt64 c =
