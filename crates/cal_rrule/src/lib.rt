@@ -1,6 +1,7 @@
 //! The occurrences of recurrence rules of iCalendar over the dates of any calendar (RFC 5545; RFC 7529).
 #![tactic(auto)]
 
+mod day_bits;
 mod occurrence;
 
 pub use occurrence::Occurrence;
