@@ -52,11 +52,13 @@ pub(crate) fn add_run(words: &mut [u64], from: u32, to: u32)
 }
 
 /// Keeps the numbers that are in other words, too.
-pub(crate) fn keep_common(words: &mut [u64; 7], others: &[u64; 7])
-    ensures numbers { (i : ℕ) → has_number words.new i ≡ (has_number words.old i && has_number others.now i) }
+pub(crate) fn keep_common(words: &mut [u64], others: &[u64])
+    requires { length others.now ≡ length words.old }
+    ensures numbers { (i : ℕ) → i < 64 * length words.old →
+        has_number words.new i ≡ (has_number words.old i && has_number others.now i) }
     ensures same_length { length words.new ≡ length words.old }
 {
-    for place in 0..7 {
+    for place in 0..words.len() {
         words[place] &= others[place];
     }
 }

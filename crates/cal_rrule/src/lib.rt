@@ -3,5 +3,6 @@
 
 mod day_bits;
 mod occurrence;
+mod period_days;
 
 pub use occurrence::Occurrence;

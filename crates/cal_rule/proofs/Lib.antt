@@ -1,4 +1,5 @@
 pub mod BitLemmas
+pub mod BlankLemmas
 pub mod ListLemmas
 pub mod NameLemmas
 pub mod NumberLemmas

@@ -1,6 +1,7 @@
 //! Sets of numbers as bits of words.
 
-ghost use Rattle.std.specs.Prelude.{◌≡◌, ◌<◌, ◌*◌, ◌||◌, ◌==◌, ℕ, length};
+ghost use Rattle.std.specs.Prelude.{◌≡◌, ◌↔◌, ◌<◌, ◌*◌, ◌||◌, ◌==◌, IsTrue, false, ℕ, length};
+ghost use Rattle.std.specs.List.{list_all};
 ghost use Rattle.cal_rule.specs.Sets.{has_bit, has_number};
 
 /// Returns a word with a bit set.
@@ -34,4 +35,25 @@ pub const fn add_number(words: &mut [u64], number: u16)
 {
     let place = (number / 64) as usize;
     words[place] = with_bit(words[place], number % 64);
+}
+
+/// Returns whether a word has no bit.
+pub const fn has_no_bit(word: u64) -> bool
+    ensures { IsTrue result ↔ ((i : ℕ) → has_bit word i ≡ false) }
+{
+    word == 0
+}
+
+/// Returns whether all words are 0.
+fn are_zero(words: &[u64]) -> bool
+    ensures { result ≡ list_all (λ w. w == 0) words.now }
+{
+    words.iter().all(|word| *word == 0)
+}
+
+/// Returns whether the words of a set have no number.
+pub fn has_no_number(words: &[u64]) -> bool
+    ensures { IsTrue result ↔ ((i : ℕ) → has_number words.now i ≡ false) }
+{
+    are_zero(words)
 }

@@ -1,11 +1,11 @@
 //! Sets of months.
 
-ghost use Rattle.std.specs.Prelude.{◌≡◌, ◌<◌, ◌||◌, false};
+ghost use Rattle.std.specs.Prelude.{◌≡◌, ◌↔◌, IsTrue, ◌<◌, ◌||◌, false};
 ghost use Rattle.cal_types.specs.Month.{MonthParts};
 ghost use Rattle.cal_types.specs.MonthParts.{month_parts};
 ghost use Rattle.cal_rule.specs.Sets.{has_month, is_month};
 
-use crate::bits::{bit_of, with_bit};
+use crate::bits::{bit_of, has_no_bit, with_bit};
 use cal_types::Month;
 
 /// A set of months with numbers below 64, regular ones and leap months.
@@ -38,6 +38,15 @@ impl MonthSet {
         } else {
             bit_of(self.regular, number)
         }
+    }
+
+    /// Returns `true` if the set has no month.
+    pub const fn is_empty(&self) -> bool
+        ensures { IsTrue result ↔ ((m : MonthParts) → has_month self.now m ≡ false) }
+    {
+        let regular = has_no_bit(self.regular);
+        let leap = has_no_bit(self.leap);
+        regular & leap
     }
 
     /// Adds a month.

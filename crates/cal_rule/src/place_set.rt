@@ -1,9 +1,9 @@
 //! Sets of places that are counted from either end.
 
-ghost use Rattle.std.specs.Prelude.{◌≡◌, ◌<◌, ◌*◌, ◌||◌, false};
+ghost use Rattle.std.specs.Prelude.{◌≡◌, ◌↔◌, IsTrue, ◌<◌, ◌*◌, ◌||◌, false};
 ghost use Rattle.cal_rule.specs.Sets.{has_place, is_place, number_of};
 
-use crate::bits::{add_number, number_in};
+use crate::bits::{add_number, has_no_number, number_in};
 
 /// A place in a row, counted from 1.
 #[derive(Clone, Copy, Debug, PartialEq, Eq)]
@@ -42,6 +42,15 @@ impl<const WORDS: usize> PlaceSet<WORDS> {
             Place::FromFront(number) => number_in(&self.front, number),
             Place::FromBack(number) => number_in(&self.back, number),
         }
+    }
+
+    /// Returns `true` if the set has no place.
+    pub fn is_empty(&self) -> bool
+        ensures { IsTrue result ↔ ((place : Place) → has_place self.now place ≡ false) }
+    {
+        let front = has_no_number(&self.front);
+        let back = has_no_number(&self.back);
+        front & back
     }
 
     /// Adds a place.
