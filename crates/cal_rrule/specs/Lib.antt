@@ -1,3 +1,4 @@
+pub mod NamedDays
 pub mod Occurrences
 pub mod PeriodBits
 pub mod Periods

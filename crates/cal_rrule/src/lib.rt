@@ -2,6 +2,7 @@
 #![tactic(auto)]
 
 mod day_bits;
+mod named_days;
 mod occurrence;
 mod period_days;
 

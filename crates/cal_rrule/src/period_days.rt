@@ -43,4 +43,28 @@ impl PeriodDays {
         }
         number_in(&self.words, offset as u16)
     }
+
+    /// Adds the days from one up to another, which isn't added itself. All of them are among the 448 days.
+    pub fn insert_run(&mut self, from: RataDie, to: RataDie)
+        requires first { self.old.first ≤ℤ from }
+        requires order { from ≤ℤ to }
+        requires last { to ≤ℤ (self.old.first +ℤ pos 448) }
+        ensures first { self.new.first ≡ self.old.first }
+        ensures days { (n : ℤ) → n <ℤ (self.old.first +ℤ pos 448) →
+            has_day self.new n ≡ ((int_le from n && int_lt n to) || has_day self.old n) }
+    {
+        let begin = from.since(self.first) as u32;
+        let end = to.since(self.first) as u32;
+        add_run(&mut self.words, begin, end);
+    }
+
+    /// Keeps the days that are in another set of the same 448 days, too.
+    pub fn keep_common(&mut self, other: &PeriodDays)
+        requires { other.now.first ≡ self.old.first }
+        ensures first { self.new.first ≡ self.old.first }
+        ensures days { (n : ℤ) → n <ℤ (self.old.first +ℤ pos 448) →
+            has_day self.new n ≡ (has_day self.old n && has_day other.now n) }
+    {
+        keep_common(&mut self.words, &other.words);
+    }
 }
