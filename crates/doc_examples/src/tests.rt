@@ -7,6 +7,7 @@ mod hijri;
 mod iso;
 mod lists;
 mod rows;
+mod rules;
 mod solar;
 mod spans;
 mod units;

@@ -1,0 +1,2 @@
+mod DayBitLemmas
+mod NamedDayLemmas

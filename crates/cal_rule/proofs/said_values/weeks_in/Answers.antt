@@ -1,0 +1,12 @@
+use Rattle.cal_rule.specs.Lists.{list_read}
+use Rattle.cal_rule.specs.Values.{week_read}
+use Rattle.cal_rule.specs.Sets.{has_place, is_place}
+use Rattle.cal_rule.proofs.ListLemmas.{values-of_set}
+use Rattle.cal_rule.proofs.said_values.weeks_in.Goals as goal
+
+pub returns-in-Some : goal.returns-in-Some
+returns-in-Some c =
+    let list = list_read (week_read c.args.kind) c.in-Some.text.now in
+    let read = c.read_weeks.result in
+    rw (c.in-Some.is, c.unwrap_or.ensures)
+    (values-of_set has_place is_place c.new-in-Some.result read list c.new-in-Some.ensures c.read_weeks.ensures)

@@ -1,0 +1,17 @@
+pub mod CalendarNames
+pub mod Faults
+pub mod KindRanges
+pub mod Lists
+pub mod Months
+pub mod Numbers
+pub mod Pieces
+pub mod Places
+pub mod RuleNames
+pub mod RuleText
+pub mod Sets
+pub mod Steps
+pub mod TextTable
+pub mod Until
+pub mod Values
+pub mod WeekdayItems
+pub mod Words

@@ -1,0 +1,5 @@
+//! Rules that are read from texts, and the first error of those that are none.
+
+mod errors;
+mod expected;
+mod rules;
