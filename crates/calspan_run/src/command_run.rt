@@ -9,6 +9,7 @@ ghost use Rattle.calspan_run.specs.Serving.{Serves};
 ghost use Rattle.calspan_run.specs.SpacedWords.{words_in};
 
 use crate::command::{Command, read_command, read_command_text};
+use crate::convert::serving::serve_convert;
 use crate::generated::generating::serve_totals;
 use crate::holidays::listing::serve_holidays;
 use crate::lists::serve_list;
@@ -36,6 +37,7 @@ fn run_command<S: Source, K: Sink>(
         Command::Anniversary(asked) => serve_list(alloc, &asked, source, sink),
         Command::Recur(asked) => serve_list(alloc, &asked, source, sink),
         Command::Holidays(asked) => serve_holidays(alloc, asked, source, sink),
+        Command::Convert(asked) => serve_convert(alloc, asked, source, sink),
     }
 }
 
