@@ -136,6 +136,9 @@ class China(Iso):
             found.append((f"M{number:02}" + ("L" if place == int(leap) else ""), 30 if length == "l" else 29))
         return found
 
+    def is_month(self, code: str) -> bool:
+        return super().is_month(code.removesuffix("L"))
+
     def year_of_day(self, day: int) -> int:
         return max(year for year in self.rows if self.start(year) <= day)
 
@@ -281,9 +284,9 @@ def head_cases() -> Iterator[Case]:
         yield case(names, [b"ro", b"1-1-1"], [b"!syntax 3", b"1-M01-01"], head)
         yield case(names, [b"row" + b" x" * 300, b"rows\t1"], [b"!syntax 5", b"!syntax 5\t1"], head)
         yield case(names, [b"\r", b"1-1-1"], [b"!syntax 1", b"1-M01-01"], head)
-    for head, number, fault in ((b"row\n", 1, b"syntax"), (b"#\nrow china\n", 2, b"syntax"), (b"row era 2018 1 1 x 1\n", 1, b"range")):
+    for head, number, fault in ((b"row\n", 1, b"syntax"), (b"#\nrow china\n", 2, b"syntax"), (b"row era 2030 13 1 x 1\n", 1, b"range")):
         yield Case([b"convert", b"iso", b"iso", b"reject"], head + b"1-1-1\n", b"table line %d %s\n" % (number, fault), 6)
-    yield Case([b"convert", b"iso", b"iso", b"reject"], b"row persian 1\n1-1-1\n", b"table persian 1 rule\n", 6)
+    yield Case([b"convert", b"iso", b"iso", b"reject"], b"row persian 1503\n1-1-1\n", b"table persian 1 rule\n", 6)
 
 
 def long_cases() -> Iterator[Case]:
