@@ -5,7 +5,6 @@ ghost use Rattle.cal_types.specs.Bag.{bag_of};
 ghost use Rattle.cal_tables.specs.Kinds.{kind_system, table_contents};
 ghost use Rattle.date_lines.specs.DatesSaid.{date_said};
 ghost use Rattle.calspan_run.specs.Converted.{day_of, day_resolved, valid_day};
-ghost use Rattle.calspan_run.specs.ConvertSaid.{convert_said};
 
 use crate::convert::words::ConvertWords;
 use crate::kinds::{CalendarTask, run_in_kind};
@@ -82,7 +81,7 @@ pub(crate) fn find_day(
     tables: &Tables<'_>,
 ) -> Result<RataDie, DateFromFieldsError>
     ensures day { let calendar = kind_system (table_contents tables.now) words.now.calendar in
-        result ≡ day_of calendar (convert_said words.now) (date_said date.now) }
+        result ≡ day_of calendar words.now.overflow (date_said date.now) }
     ensures valid { IfOk result IsValidDay }
 {
     match date {

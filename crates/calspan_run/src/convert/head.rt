@@ -1,5 +1,11 @@
 //! The row lines at the head of the input of `convert`.
-ghost use Rattle.std.specs.Prelude.{◌≡◌};
+ghost use Rattle.std.specs.Prelude.{◌≡◌, ◌≤◌, ◌+◌, ◌∷◌, ◌^◌, [], ℕ, List, Option, IsTrue};
+ghost use Rattle.std.specs.Io.KnownBytes.{Consumes, IsAtEnd};
+ghost use Rattle.byte_io.specs.Faults.{counted_on};
+ghost use Rattle.long_lines.specs.Buffer.{Holds};
+ghost use Rattle.long_lines.specs.declared.reader.LineReader.{LineReader};
+ghost use Rattle.long_lines.specs.declared.buffer.LongLine.{LongLine};
+ghost use Rattle.table_rows.specs.RowsSaid.{rows_said};
 
 use byte_io::{Filled, Source};
 use long_lines::{LineReader, LongLine};
@@ -37,8 +43,13 @@ pub(crate) enum Headed {
     TooLong,
 }
 
-/// Takes a line that may be a row line.
-fn take_row(rows: &mut TableRows, text: &[u8]) -> HeadLine {
+ghost use Rattle.calspan_run.specs.Heading.{HasHeaded, Heads, HeadsChunk, IsHeading, TakesLine};
+
+/// Takes a line of at most 65536 bytes that begins with `r`.
+fn take_row(rows: &mut TableRows, text: &[u8]) -> HeadLine
+    ensures { (rest : List ℕ) → text.now ≡ 114 ∷ rest
+        → TakesLine result text.now (rows_said rows.old) (rows_said rows.new) }
+{
     match rows.take_line(text) {
         Ok(_) => HeadLine::GoesOn,
         Err(RowError::Row(why)) => HeadLine::Refused(why),
@@ -49,7 +60,10 @@ fn take_row(rows: &mut TableRows, text: &[u8]) -> HeadLine {
 }
 
 /// Takes a line at the head.
-fn take_head(rows: &mut TableRows, line: &LongLine) -> HeadLine {
+fn take_head(rows: &mut TableRows, line: &LongLine) -> HeadLine
+    ensures { (whole : List ℕ) → Holds line.now whole
+        → TakesLine result whole (rows_said rows.old) (rows_said rows.new) }
+{
     match line.prefix() {
         [b'#', ..] => HeadLine::GoesOn,
         [b'r', ..] => {
@@ -69,8 +83,12 @@ fn gather_chunk(
     number: &mut u64,
     reader: &mut LineReader,
     line: &mut LongLine,
-) -> Option<Headed> {
-    loop {
+) -> Option<Headed>
+    ensures { (left now : Option (List ℕ)) (reads : ℕ)
+        → IsHeading left now reader.old line.old (rows_said rows.old) number.old reads
+        → HeadsChunk result left now reader.new line.new (rows_said rows.new) number.new reads }
+{
+    'lines: loop {
         if !reader.next_line(line) {
             return None;
         }
@@ -85,7 +103,11 @@ fn gather_chunk(
 }
 
 /// Takes the bytes after the last LF, at the end of the source. `number` is the number of the lines before them.
-fn gather_last(rows: &mut TableRows, number: u64, line: &LongLine) -> Headed {
+fn gather_last(rows: &mut TableRows, number: u64, line: &LongLine) -> Headed
+    ensures { (left l l2 : Option (List ℕ)) (reads faults more : ℕ) (reader after : LineReader)
+        → HasHeaded left l reader line.now (rows_said rows.old) number reads → Consumes l l2 [] → IsAtEnd l2
+        → Heads result left l2 faults more after line.now (rows_said rows.new) }
+{
     if line.prefix().is_empty() {
         return Headed::End;
     }
@@ -104,17 +126,25 @@ pub(crate) fn gather_head<S: Source>(
     reader: &mut LineReader,
     line: &mut LongLine,
     source: &mut S,
-) -> Headed {
-    let mut number = 0;
-    for _ in 0..u64::MAX {
+) -> Headed
+    ensures later { S.faults source.old ≤ S.faults source.new }
+    ensures heads { (left : Option (List ℕ)) (faults : ℕ) → faults ≤ S.faults source.old
+        → IsHeading left (S.left source.old) reader.old line.old (rows_said rows.old) 0 0
+        → Heads result left (S.left source.new) faults (S.faults source.new) reader.new line.new (rows_said rows.new) }
+{
+    let mut number = 0u64;
+    let mut reads = 0u64;
+    'chunks: loop {
         if let Some(headed) = gather_chunk(rows, &mut number, reader, line) {
             return headed;
         }
+        if reads == u64::MAX {
+            return Headed::TooLong;
+        }
         match reader.fill(source) {
-            Filled::Some => {}
+            Filled::Some => reads += 1,
             Filled::End => return gather_last(rows, number, line),
             Filled::Fault => return Headed::ReadFault,
         }
     }
-    Headed::TooLong
 }

@@ -1,5 +1,20 @@
 //! Running `convert`.
-ghost use Rattle.std.specs.Prelude.{◌≡◌};
+ghost use Rattle.std.specs.Prelude.{◌≡◌, ◌≤◌, ◌++◌, [], ℕ, List, Option};
+ghost use Rattle.cal_tables.specs.Kinds.{table_contents};
+ghost use Rattle.long_lines.specs.Buffer.{Holds};
+ghost use Rattle.table_rows.specs.RowsSaid.{rows_said};
+ghost use Rattle.table_rows.specs.TableRows as table;
+ghost use Rattle.table_rows.specs.TableRows.{contents_of};
+ghost use Rattle.calspan_run.specs.ConvertSaid.{convert_said};
+ghost use Rattle.calspan_run.specs.ConvertTexts.{any_bad};
+ghost use Rattle.calspan_run.specs.Converted.{line_text};
+ghost use Rattle.calspan_run.specs.Converting.{ConvertsChunk, IsConverting, open_lines};
+ghost use Rattle.calspan_run.specs.Endings.{EndsWith};
+ghost use Rattle.calspan_run.specs.Heading.{MetDate, MetHeadEnd, MetLastDate};
+ghost use Rattle.calspan_run.specs.Refusals.{status_of as status_where};
+ghost use Rattle.calspan_run.specs.Run.{Outside, outside};
+ghost use Rattle.calspan_run.specs.Streaming.{Streams, convert_rules};
+ghost use Rattle.calspan_run.specs.TextSoFar.{TextSoFar, lines_text};
 
 use crate::convert::answers::{Conversion, answer_line};
 use crate::convert::head::{Headed, gather_head};
@@ -14,7 +29,9 @@ use std::alloc::Global;
 use table_rows::TableRows;
 
 /// Returns the status at the end of the input.
-fn status_of(is_bad: bool) -> Status {
+fn status_of(is_bad: bool) -> Status
+    ensures { result ≡ status_where is_bad }
+{
     if is_bad {
         Status::Refused
     } else {
@@ -24,7 +41,10 @@ fn status_of(is_bad: bool) -> Status {
 
 /// Writes the pending text after the last line. Returns the status of the run, or `WriteFault` if the sink counted a
 /// fault.
-fn conclude<K: Sink>(is_bad: bool, pending: &mut Pending, sink: &mut K) -> Status {
+fn conclude<K: Sink>(is_bad: bool, pending: &mut Pending, sink: &mut K) -> Status
+    ensures { (before : Option (List ℕ)) (text : List ℕ) → TextSoFar before (K.taken sink.old) pending.old.items text
+        → EndsWith result (status_where is_bad) before (K.taken sink.new) (K.faults sink.old) (K.faults sink.new) text }
+{
     match flush(pending, sink) {
         Ok(()) => status_of(is_bad),
         Err(_) => Status::WriteFault,
@@ -43,9 +63,16 @@ fn answer_chunk<K: Sink>(
     line: &mut LongLine,
     pending: &mut Pending,
     sink: &mut K,
-) -> Result<bool, Failed> {
+) -> Result<bool, Failed>
+    ensures { (old : Outside) (left : Option (List ℕ)) (faults reads : ℕ) (rows : table.TableRows)
+        → table_contents conversion.now.tables ≡ contents_of rows
+        → IsConverting (convert_said conversion.now.words) rows old
+        (outside left (K.taken sink.old) faults (K.faults sink.old)) reader.old line.old pending.old.items was_bad reads
+        → ConvertsChunk result (convert_said conversion.now.words) rows old
+        (outside left (K.taken sink.new) faults (K.faults sink.new)) reader.new line.new pending.new.items reads }
+{
     let mut is_bad = was_bad;
-    loop {
+    'lines: loop {
         if !reader.next_line(line) {
             return Ok(is_bad);
         }
@@ -62,7 +89,13 @@ fn finish<K: Sink>(
     line: &LongLine,
     pending: &mut Pending,
     sink: &mut K,
-) -> Status {
+) -> Status
+    ensures { (before : Option (List ℕ)) (text last : List ℕ) → Holds line.now last
+        → TextSoFar before (K.taken sink.old) pending.old.items text
+        → (let a = convert_said conversion.now.words in let tables = table_contents conversion.now.tables in
+        EndsWith result (status_where (any_bad a tables is_bad (open_lines last))) before (K.taken sink.new)
+        (K.faults sink.old) (K.faults sink.new) (text ++ lines_text (line_text a tables) (open_lines last))) }
+{
     if line.prefix().is_empty() {
         return conclude(is_bad, pending, sink);
     }
@@ -81,9 +114,17 @@ fn serve_from<S: Source, K: Sink>(
     pending: &mut Pending,
     source: &mut S,
     sink: &mut K,
-) -> Status {
+) -> Status
+    ensures { (old : Outside) (rows : table.TableRows) → table_contents conversion.now.tables ≡ contents_of rows
+        → IsConverting (convert_said conversion.now.words) rows old
+        (outside (S.left source.old) (K.taken sink.old) (S.faults source.old) (K.faults sink.old)) reader.old line.old
+        pending.old.items was_bad 0
+        → Streams (convert_rules (convert_said conversion.now.words)) result old
+        (outside (S.left source.new) (K.taken sink.new) (S.faults source.new) (K.faults sink.new)) }
+{
     let mut is_bad = was_bad;
-    for _ in 0..u64::MAX {
+    let mut reads = 0u64;
+    'chunks: loop {
         match answer_chunk(is_bad, conversion, reader, line, pending, sink) {
             Ok(bad) => is_bad = bad,
             Err(_) => return Status::WriteFault,
@@ -91,13 +132,15 @@ fn serve_from<S: Source, K: Sink>(
         let Ok(()) = flush(pending, sink) else {
             return Status::WriteFault;
         };
+        if reads == u64::MAX {
+            return Status::TooLong;
+        }
         match reader.fill(source) {
-            Filled::Some => {}
+            Filled::Some => reads += 1,
             Filled::End => return finish(is_bad, conversion, line, pending, sink),
             Filled::Fault => return Status::ReadFault,
         }
     }
-    Status::TooLong
 }
 
 /// Tests the tables, then writes the answers to the first line after the head, which `line` holds, and to the lines after
@@ -109,7 +152,13 @@ fn serve_dates<S: Source, K: Sink>(
     line: &mut LongLine,
     source: &mut S,
     sink: &mut K,
-) -> Status {
+) -> Status
+    ensures { (left : Option (List ℕ)) (faults : ℕ) → faults ≤ S.faults source.old
+        → MetDate left (S.left source.old) reader.old line.old (rows_said rows.now)
+        → Streams (convert_rules (convert_said words)) result
+        (outside left (K.taken sink.old) faults (K.faults sink.old))
+        (outside (S.left source.new) (K.taken sink.new) (S.faults source.new) (K.faults sink.new)) }
+{
     let tables = match rows.tables() {
         Ok(tables) => tables,
         Err(refusal) => return refuse_table(refusal, sink),
@@ -131,7 +180,12 @@ fn serve_last<K: Sink>(
     rows: &TableRows,
     line: &LongLine,
     sink: &mut K,
-) -> Status {
+) -> Status
+    ensures { (left now : Option (List ℕ)) (faults reads : ℕ) → MetLastDate left now line.now (rows_said rows.now)
+        → Streams (convert_rules (convert_said words)) result
+        (outside left (K.taken sink.old) faults (K.faults sink.old))
+        (outside now (K.taken sink.new) reads (K.faults sink.new)) }
+{
     let tables = match rows.tables() {
         Ok(tables) => tables,
         Err(refusal) => return refuse_table(refusal, sink),
@@ -141,7 +195,12 @@ fn serve_last<K: Sink>(
 }
 
 /// Tests the tables at the end of an input without a line after the head.
-fn serve_none<K: Sink>(rows: &TableRows, sink: &mut K) -> Status {
+fn serve_none<K: Sink>(words: ConvertWords, rows: &TableRows, sink: &mut K) -> Status
+    ensures { (left now : Option (List ℕ)) (faults reads : ℕ) → MetHeadEnd left now (rows_said rows.now)
+        → Streams (convert_rules (convert_said words)) result
+        (outside left (K.taken sink.old) faults (K.faults sink.old))
+        (outside now (K.taken sink.new) reads (K.faults sink.new)) }
+{
     match rows.tables() {
         Ok(_) => Status::Done,
         Err(refusal) => refuse_table(refusal, sink),
@@ -154,7 +213,11 @@ pub(crate) fn serve_convert<S: Source, K: Sink>(
     words: ConvertWords,
     source: &mut S,
     sink: &mut K,
-) -> Status {
+) -> Status
+    ensures { Streams (convert_rules (convert_said words)) result
+        (outside (S.left source.old) (K.taken sink.old) (S.faults source.old) (K.faults sink.old))
+        (outside (S.left source.new) (K.taken sink.new) (S.faults source.new) (K.faults sink.new)) }
+{
     let Ok(mut line) = LongLine::try_new(alloc) else {
         return Status::NoMemory;
     };
@@ -163,7 +226,7 @@ pub(crate) fn serve_convert<S: Source, K: Sink>(
     match gather_head(&mut rows, &mut reader, &mut line, source) {
         Headed::Dated => serve_dates(words, &rows, &mut reader, &mut line, source, sink),
         Headed::LastDated => serve_last(words, &rows, &line, sink),
-        Headed::End => serve_none(&rows, sink),
+        Headed::End => serve_none(words, &rows, sink),
         Headed::Refused(number, why) => refuse_row(number, why, sink),
         Headed::ReadFault => Status::ReadFault,
         Headed::NoMemory => Status::NoMemory,
