@@ -1,6 +1,9 @@
 mod AnswerLemmas
 mod BehindRowsLemmas
 mod CommandLemmas
+mod ConvertAnswerLemmas
+mod ConvertHeadLemmas
+mod ConvertRunLemmas
 mod DayLineLemmas
 mod EndLemmas
 mod GeneratorLemmas

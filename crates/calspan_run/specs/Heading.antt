@@ -1,5 +1,5 @@
 -- Where reading the head of an input of `convert` stands, and where it came to an end.
-use Rattle.std.specs.Prelude.{◌≡◌, ℕ, ◌≤◌, Bool, true, false, List, [], ◌∷◌, ◌++◌, ◌⊎◌, length, Option, Some, None}
+use Rattle.std.specs.Prelude.{◌≡◌, ℕ, ◌≤◌, Bool, true, false, List, [], ◌∷◌, ◌++◌, ◌⊎◌, length, Option, Some, None, Result, Ok, Err, not, ◌==◌}
 use Rattle.std.specs.Io.KnownBytes.{Consumes, IsAtEnd}
 use Rattle.byte_io.specs.Faults.{Rose, counted_on}
 use Rattle.byte_io.specs.Lines.{closed_lines, lines_in, open_line}
@@ -10,6 +10,8 @@ use Rattle.long_lines.specs.declared.reader.LineReader.{LineReader}
 use Rattle.request_lines.specs.Rows.{Row}
 use Rattle.table_rows.specs.RowLines.{Kept, Faulty, TakesRow}
 use Rattle.table_rows.specs.TableRows.{TableRows, no_rows}
+use Rattle.table_rows.specs.declared.errors.RowError.{RowError}
+use Rattle.table_rows.specs.declared.errors.RowError.TheVariants as error
 use Rattle.table_rows.specs.declared.table.RowFault.{RowFault}
 use Rattle.calspan_run.specs.ConvertAsked.{ConvertAsked}
 use Rattle.calspan_run.specs.ConvertTexts as texts
@@ -32,6 +34,20 @@ TakesLine head.Dated line old new = (head_line line ≡ texts.Dated) × (new ≡
 TakesLine (head.Refused why) line old new =
     (row : Option Row) × (head_line line ≡ texts.RowLine row) × TakesRow old row (Faulty why)
 TakesLine head.NoMemory line old new = Unit {0}
+
+-- the effect of a line that the rows took or not
+abbrev pub taken_line : Result Bool RowError → HeadLine
+taken_line (Ok true) = head.GoesOn
+taken_line (Ok false) = head.Dated
+taken_line (Err (error.Row why)) = head.Refused why
+taken_line (Err error.NoRow) = head.Dated
+taken_line (Err error.LongLine) = head.Dated
+taken_line (Err error.NoMemory) = head.NoMemory
+
+-- whether a line isn't empty and begins with no `#`
+abbrev pub is_plain : List ℕ → Bool
+is_plain [] = false
+is_plain (b ∷ line) = not (b == 35)
 
 -- these lines are the first of a head: they gave these rows, and have been counted
 abbrev pub AreHead : List (List ℕ) → TableRows → ℕ → Type 0

@@ -1,10 +1,8 @@
 //! The row lines at the head of the input of `convert`.
-ghost use Rattle.std.specs.Prelude.{◌≡◌, ◌≤◌, ◌+◌, ◌∷◌, ◌^◌, [], ℕ, List, Option, IsTrue};
+ghost use Rattle.std.specs.Prelude.{◌≡◌, ◌≤◌, [], true, ℕ, List, Option};
 ghost use Rattle.std.specs.Io.KnownBytes.{Consumes, IsAtEnd};
-ghost use Rattle.byte_io.specs.Faults.{counted_on};
 ghost use Rattle.long_lines.specs.Buffer.{Holds};
 ghost use Rattle.long_lines.specs.declared.reader.LineReader.{LineReader};
-ghost use Rattle.long_lines.specs.declared.buffer.LongLine.{LongLine};
 ghost use Rattle.table_rows.specs.RowsSaid.{rows_said};
 
 use byte_io::{Filled, Source};
@@ -43,15 +41,15 @@ pub(crate) enum Headed {
     TooLong,
 }
 
-ghost use Rattle.calspan_run.specs.Heading.{HasHeaded, Heads, HeadsChunk, IsHeading, TakesLine};
+ghost use Rattle.calspan_run.specs.Heading.{HasHeaded, Heads, HeadsChunk, IsHeading, TakesLine, is_plain, taken_line};
 
-/// Takes a line of at most 65536 bytes that begins with `r`.
-fn take_row(rows: &mut TableRows, text: &[u8]) -> HeadLine
-    ensures { (rest : List ℕ) → text.now ≡ 114 ∷ rest
-        → TakesLine result text.now (rows_said rows.old) (rows_said rows.new) }
+/// Returns the effect of a line that the rows took or not. Kept apart so that one fact says it of every result.
+fn effect_of(taken: Result<bool, RowError>) -> HeadLine
+    ensures { result ≡ taken_line taken }
 {
-    match rows.take_line(text) {
-        Ok(_) => HeadLine::GoesOn,
+    match taken {
+        Ok(true) => HeadLine::GoesOn,
+        Ok(false) => HeadLine::Dated,
         Err(RowError::Row(why)) => HeadLine::Refused(why),
         Err(RowError::NoRow) => HeadLine::Dated,
         Err(RowError::LongLine) => HeadLine::Dated,
@@ -59,22 +57,30 @@ fn take_row(rows: &mut TableRows, text: &[u8]) -> HeadLine
     }
 }
 
+/// Takes a line that isn't empty and doesn't begin with `#`.
+fn take_row(rows: &mut TableRows, line: &LongLine) -> HeadLine
+    ensures { (whole : List ℕ) → Holds line.now whole → is_plain whole ≡ true
+        → TakesLine result whole (rows_said rows.old) (rows_said rows.new) }
+{
+    if line.is_over() {
+        return HeadLine::Dated;
+    }
+    effect_of(rows.take_line(line.prefix()))
+}
+
 /// Takes a line at the head.
 fn take_head(rows: &mut TableRows, line: &LongLine) -> HeadLine
     ensures { (whole : List ℕ) → Holds line.now whole
         → TakesLine result whole (rows_said rows.old) (rows_said rows.new) }
 {
-    match line.prefix() {
-        [b'#', ..] => HeadLine::GoesOn,
-        [b'r', ..] => {
-            if line.is_over() {
-                HeadLine::Dated
-            } else {
-                take_row(rows, line.prefix())
-            }
-        }
-        _ => HeadLine::Dated,
+    let text = line.prefix();
+    if text.is_empty() {
+        return HeadLine::Dated;
     }
+    if text[0] == b'#' {
+        return HeadLine::GoesOn;
+    }
+    take_row(rows, line)
 }
 
 /// Takes the lines of the chunk. `number` is the number of the lines so far. Returns `None` if all were taken.
