@@ -15,14 +15,12 @@ import sys
 import tempfile
 from pathlib import Path
 
-from operations import FEW, MANY, PROGRAM, ROUNDS, seconds
+from operations import ALL_CALENDARS, FEW, LIKE_OTHERS, MANY, PROGRAM, ROUNDS, seconds
 
 TOP = Path(__file__).resolve().parent.parent
 LIBRARY = TOP / "crates/icu_calendar_c"
-CODES = {
-    "iso": 13, "gregorian": 6, "buddhist": 0, "roc": 17, "japanese": 14, "julian": 15, "coptic": 2, "ethiopic": 4, "indian": 8, "persian": 16,
-    "hebrew": 7, "islamic-civil": 9, "islamic-umalqura": 12, "chinese": 1, "dangi": 3,
-}  # fmt: skip
+# The place of a calendar's name is its code. Leap years of both types take the same.
+CODES = {name: code for code, name in enumerate(ALL_CALENDARS) if name not in LIKE_OTHERS | {"islamic-type1-friday"}}
 # What a conversion from C may take more.
 MOST = 20.0
 

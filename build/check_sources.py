@@ -8,6 +8,8 @@
 - `edits`: every must-fail edit that the gate doesn't try still fits its file.
 - `published`: the constant data of `published_years` is what `build/published.py` writes.
 - `exports`: the calls for C and for WebAssembly have the same source.
+- `calendars`: the lists of calendars are what `build/calendars.py` writes from calendars.txt, and the sources say the same of the kinds.
+- `definitions`: docs/ARCHITECTURE.md names the crates, the longest chain and the definitions that are there (`build/definitions.py`).
 - `documents`: the documents have at most 22,000 words, lines of at most 120 characters outside of blocks, and tables of at most 160.
 
 With names of checks, only these run.
@@ -49,7 +51,7 @@ def lines_of(path: Path) -> list[Line]:
     return [Line(path, number, text) for number, text in enumerate(path.read_text().splitlines(), 1)]
 
 
-def definitions() -> Iterator[Line]:
+def lines_of_definitions() -> Iterator[Line]:
     for path in sorted(TOP.glob("crates/*/specs/*.antt")):
         yield from lines_of(path)
 
@@ -72,7 +74,7 @@ def clauses() -> Iterator[Line]:
 
 
 def widths() -> int:
-    wide = [it for it in [*definitions(), *clauses()] if len(it.text) > MOST and not IMPORT.match(it.text)]
+    wide = [it for it in [*lines_of_definitions(), *clauses()] if len(it.text) > MOST and not IMPORT.match(it.text)]
     for it in wide:
         it.say(f"{len(it.text)} characters")
     return len(wide)
@@ -183,6 +185,14 @@ def published() -> int:
     return script("build/published.py", "--check")
 
 
+def calendars() -> int:
+    return script("build/calendars.py", "--check")
+
+
+def definitions() -> int:
+    return script("build/definitions.py", "--check")
+
+
 def exports() -> int:
     both = [(TOP / f"crates/icu_calendar_{it}/src/exports.rt").read_bytes() for it in ("c", "wasm")]
     if both[0] == both[1]:
@@ -211,7 +221,7 @@ def documents() -> int:
     return found
 
 
-CHECKS = {it.__name__: it for it in (widths, docstrings, examples, edits, published, exports, documents)}
+CHECKS = {it.__name__: it for it in (widths, docstrings, examples, edits, published, exports, calendars, definitions, documents)}
 
 
 def main(names: list[str]) -> int:

@@ -1,8 +1,8 @@
 #!/usr/bin/env python3
 """Measures what proofs cost: what the proof of each crate and of its tests takes of one processor, in seconds and in multiples of `rt selftest`.
 
-Each is proved with one job, as many side by side as there are processors, over libraries of statements in a folder of its own, which a later
-run takes over for crates that haven't changed. With names of crates, these are measured, and those below them that aren't built yet. With
+Each is proved with one job, as many side by side as there are processors, over libraries of statements in the user's store (`build/store.py`).
+With names of crates, these are measured, and those below them that the store hasn't. With
 `--functions NAME` it proves one crate and lists its functions by what they took: in seconds by the clock, and in millions of steps, once those
 of the elaboration and once those of the kernel; the crates below are built first. With `--goals NAME` it lists the goals and lemmas so, each with
 what its tactics took: a `search` that took half a million steps, or that a `grind` stands behind, is worth an answer.
@@ -16,11 +16,11 @@ import re
 import resource
 import subprocess
 import sys
-import time
 from pathlib import Path
 from typing import NamedTuple
 
 import program
+import store
 
 # How often the unit is measured; the least counts.
 TIMES = 3
@@ -82,44 +82,48 @@ def command(task: Task, crates: dict[str, list[str]], tools: program.Kit, room: 
 class Measuring:
     """The proofs that are to be measured, those under way, and the libraries that are there."""
 
-    def __init__(self, room: Path, names: list[str]):
+    def __init__(self, kept: store.Store, room: Path, names: list[str]):
         self.room, self.tools = room, program.kit()
         listed = [head.split()[0] for head, _ in program.lines_of_crates()]
         self.crates = program.crates_below(names or listed)
         self.wanted = set(names or listed)
-        self.sums = program.sums(self.crates, self.tools)
+        self.view = program.View(kept, room, self.crates, self.tools)
         self.chains = program.longest_chains(self.crates, program.proof_seconds(self.crates))
-        self.built = {it for it in self.crates if it not in self.wanted and program.is_made(it, room, self.sums[it])}
         tests = [Task(it, True) for it in self.crates if it in self.wanted and has_tests(it)]
-        self.left = [Task(it, False) for it in self.crates if it not in self.built] + tests
+        self.left = [Task(it, False) for it in self.crates] + tests
         self.left.sort(key=lambda it: (it.is_of_tests, -self.chains[it.name]))
-        self.running: dict[int, Task] = {}
+        self.running: dict[int, tuple[Task, str]] = {}
 
-    def is_ready(self, task: Task) -> bool:
-        return all(it in self.built or it not in self.crates for it in self.crates[task.name])
+    def find_built(self) -> None:
+        """Finds what the store has of the crates that aren't measured, lowest first."""
+        for name in self.crates:
+            task = Task(name, False)
+            if name not in self.wanted and task in self.left and self.view.is_ready(name) and self.view.find(name):
+                self.left.remove(task)
+
+    def log(self, task: Task) -> Path:
+        return self.room / f"{task.name}{'.tests' if task.is_of_tests else ''}.log"
 
     def begin(self, task: Task) -> None:
-        if not task.is_of_tests:
-            program.clear(task.name, self.room)
-        log = self.room / f"{task.name}{'.tests' if task.is_of_tests else ''}.log"
-        with log.open("w") as out:
+        with self.log(task).open("w") as out:
             words = command(task, self.crates, self.tools, self.room)
             process = subprocess.Popen(words, cwd=program.TOP / "crates" / task.name, stdin=subprocess.DEVNULL, stdout=out, stderr=out)
-        self.running[process.pid] = task
+        self.running[process.pid] = task, self.view.key(task.name)
         self.left.remove(task)
 
     def each(self, lanes: int):
         """What each proof takes, as it ends."""
+        self.find_built()
         while self.left or self.running:
-            for task in [it for it in self.left if self.is_ready(it)][: lanes - len(self.running)]:
+            for task in [it for it in self.left if self.view.is_ready(it.name)][: lanes - len(self.running)]:
                 self.begin(task)
             pid, said, usage = os.wait4(-1, 0)
-            task = self.running.pop(pid)
+            task, key = self.running.pop(pid)
             if os.waitstatus_to_exitcode(said):
-                sys.exit(f"{task.name} isn't proved: see {self.room}")
-            if not task.is_of_tests:
-                self.built.add(task.name)
-                (self.room / f"{task.name}.sum").write_text(self.sums[task.name])
+                sys.exit(f"{self.log(task).read_text(errors='replace')}\n{task.name} isn't proved")
+            if not task.is_of_tests and program.made(task.name, self.room).exists():
+                self.view.keep(task.name, key)
+                self.find_built()
             yield task, usage.ru_utime + usage.ru_stime
 
 
@@ -150,21 +154,20 @@ def steps_of_functions(kept: Path) -> dict[str, tuple[int, int]]:
     return taken
 
 
-def kept_work(room: Path, name: str) -> Path:
-    """Proves a crate with one job, and answers the folder of the work that is kept."""
+def proved_work(kept: store.Store, room: Path, name: str) -> Path:
+    """Proves a crate with one job, and answers the folder of the work that the prover keeps."""
     below = [it for it in program.crates_below([name]) if it != name]
-    if below and (status := program.Build(room, below, False).whole()):
+    if below and (status := program.Build(kept, room, below, False).whole()):
         sys.exit(status)
-    kept = room / "kept" / f"{name}-{time.time_ns()}"
-    kept.mkdir(parents=True)
-    words = command(Task(name, False), program.crates_below([name]), program.kit(), room, kept)
+    work = room / "work"
+    work.mkdir()
+    words = command(Task(name, False), program.crates_below([name]), program.kit(), room, work)
     subprocess.run(words, cwd=program.TOP / "crates" / name, stdout=subprocess.DEVNULL, stderr=subprocess.DEVNULL, check=True)
-    return kept
+    return work
 
 
-def show_functions(room: Path, name: str) -> None:
+def show_functions(kept: Path) -> None:
     """Lists what the functions of a crate took."""
-    kept = kept_work(room, name)
     seconds, steps = seconds_of_functions(kept), steps_of_functions(kept)
     print("seconds  elaboration  kernel  function")
     for function, taken in sorted(seconds.items(), key=lambda it: -it[1])[:40]:
@@ -174,10 +177,10 @@ def show_functions(room: Path, name: str) -> None:
     print(f"{sum(seconds.values()):7.1f} {elaborated:12.2f} {checked:7.1f}  in all")
 
 
-def show_goals(room: Path, name: str) -> None:
+def show_goals(kept: Path) -> None:
     """Lists what the goals and lemmas of a crate took."""
     found = []
-    for it in kept_work(room, name).rglob("records/*.decls.oantt"):
+    for it in kept.rglob("records/*.decls.oantt"):
         module = it.name.removesuffix(".decls.oantt").removeprefix("Rattle-")
         for calls, goal, elaborated, checked in DECLARATION.findall(it.read_bytes()):
             tactics = " ".join(f"{tactic.decode()} {int(steps) / 1e6:.2f}" for tactic, steps in TACTIC.findall(calls) if int(steps) >= 10000)
@@ -188,18 +191,18 @@ def show_goals(room: Path, name: str) -> None:
 
 
 def main(words: list[str]) -> int:
-    room = program.room_of_checkout() / "costs"
-    room.mkdir(parents=True, exist_ok=True)
-    if words[:1] == ["--functions"]:
-        show_functions(room, words[1])
-        return 0
-    if words[:1] == ["--goals"]:
-        show_goals(room, words[1])
-        return 0
-    unit = selftest()
-    print(f"rt selftest: {unit:.0f} s")
-    for task, seconds in Measuring(room, words).each(os.cpu_count() or 1):
-        print(f"{task.name}{' (tests)' if task.is_of_tests else ''}: {seconds:.0f} s, {seconds / unit:.2f}", flush=True)
+    with store.opened() as kept, kept.view() as room:
+        if words[:1] == ["--functions"]:
+            show_functions(proved_work(kept, room, words[1]))
+            return 0
+        if words[:1] == ["--goals"]:
+            show_goals(proved_work(kept, room, words[1]))
+            return 0
+        unit = selftest()
+        print(f"rt selftest: {unit:.0f} s")
+        with kept.proving():
+            for task, seconds in Measuring(kept, room, words).each(os.cpu_count() or 1):
+                print(f"{task.name}{' (tests)' if task.is_of_tests else ''}: {seconds:.0f} s, {seconds / unit:.2f}", flush=True)
     return 0
 
 

@@ -7,20 +7,22 @@ the one for WebAssembly the module `bindings/web/icu_calendar.wasm`. With
 A crate is built as soon as the crates below it are. Where one crate has by far the longest chain of others behind it, the chain decides
 when the program is there: so that crate has all processors, and others run beside it with less right to them. The libraries have
 statements alone (`--statements`): with their proofs in them, each crate above takes half a minute more to load. What is built stays in
-the user's cache folder with what it was made of, so that a later build proves only the crates that changed and those above them; and what
-`rt ci` left in this checkout is taken over.
+the user's store (`build/store.py`), which all checkouts share: a later build proves only the crates that changed, and those above them where
+a library differs. What `rt ci` left in this checkout is taken over.
 """
 
-import fcntl
 import hashlib
 import math
 import os
 import shutil
+import signal
 import subprocess
 import sys
 import time
 from pathlib import Path
 from typing import NamedTuple
+
+import store
 
 TOP = Path(__file__).resolve().parent.parent
 PROGRAM = "calspan"
@@ -29,6 +31,8 @@ TARGET = "x86_64-unknown-linux-gnu"
 MODULE = "icu_calendar_wasm"
 MODULE_TARGET = "wasm64-unknown-unknown"
 MODULE_STACK = 131072
+# A library of the kit that says, as each does, which libraries of the toolchain it was built over.
+A_LIBRARY = "thiserror"
 # More jobs than four gain nothing in one crate.
 MOST_JOBS = 4
 # A crate has a right to processors beside the one with the longest chain where its own is at least this part of it.
@@ -95,16 +99,6 @@ def files_of(name: str) -> list[Path]:
     return sorted(it for part in ("src", "specs", "proofs") for it in (folder / part).rglob("*") if it.is_file())
 
 
-def sums(crates: dict[str, list[str]], tools: Kit) -> dict[str, str]:
-    """What each crate is made of: the toolchain, its own files, and those of the crates below it."""
-    found = {}
-    for name, names in crates.items():
-        said = [tools.sum, name, *(found.get(it, it) for it in names)]
-        said += [f"{it.relative_to(TOP)} {hashlib.sha256(it.read_bytes()).hexdigest()}" for it in files_of(name)]
-        found[name] = hashlib.sha256("\n".join(said).encode()).hexdigest()
-    return found
-
-
 def proof_seconds(crates: dict[str, list[str]]) -> dict[str, int]:
     """What the proof of each crate is expected to take on one processor. Only the order of the builds goes by it."""
     measured = dict(line.split() for line in (TOP / "build/proof_seconds.txt").read_text().splitlines() if line[:1] not in ("", "#"))
@@ -145,55 +139,79 @@ def made(name: str, room: Path) -> Path:
     return room / (f"{name}.o" if name == PROGRAM else f"{name}.rlib")
 
 
-def is_made(name: str, room: Path, stamp: str) -> bool:
-    said = room / f"{name}.sum"
-    return made(name, room).exists() and said.is_file() and said.read_text() == stamp
-
-
 def newest(paths: list[Path]) -> float:
     return max((it.stat().st_mtime for it in paths), default=0.0)
 
 
-def take_over(room: Path, crates: dict[str, list[str]], stamps: dict[str, str]) -> None:
-    """Puts the libraries into the room that `rt ci` left in this checkout, where each is newer than its files and those of all crates below.
-    Where AFTER_GATE is set, `rt ci` has just ended, and may have kept older ones of the same files. It is all of them or none, since libraries
-    of one build fit no other."""
-    left = {it: TOP / "crates" / it / "out/rlib" / f"{it}.rlib" for it in crates if it != PROGRAM and it not in static_libraries()}
-    sources: dict[str, float] = {}
-    for name, names in crates.items():
-        sources[name] = max([newest(files_of(name)), *(sources.get(it, 0.0) for it in names)])
-    is_after_gate = bool(os.environ.get("AFTER_GATE"))
-    seals = {name: it / "format" for name, it in left.items()}
-    if not all(it.is_file() and (is_after_gate or it.stat().st_mtime > sources[name]) for name, it in seals.items()):
-        return
-    for name, it in left.items():
-        kept = made(name, room) / "format"
-        if is_made(name, room, stamps[name]) and kept.is_file() and kept.read_bytes() == (it / "format").read_bytes():
-            continue
-        clear(name, room)
-        shutil.copytree(it, made(name, room))
-        (room / f"{name}.sum").write_text(stamps[name])
+def left_by_gate(name: str) -> Path:
+    return TOP / "crates" / name / "out/rlib" / f"{name}.rlib"
 
 
-def clear(name: str, room: Path) -> None:
-    (room / f"{name}.sum").unlink(missing_ok=True)
-    if made(name, room).is_dir():
-        shutil.rmtree(made(name, room))
+class View:
+    """The folder of a build: what it makes, and links to what the store has. `sums` are those of the crates that are there."""
+
+    def __init__(self, kept: store.Store, room: Path, crates: dict[str, list[str]], tools: Kit):
+        self.store, self.room, self.crates, self.tools = kept, room, crates, tools
+        self.sums: dict[str, str] = {}
+        self.below: dict[str, set[str]] = {}
+        for name, names in crates.items():
+            self.below[name] = {it for below in names if below in crates for it in (below, *self.below[below])}
+
+    def is_ready(self, name: str) -> bool:
+        return self.below[name] <= self.sums.keys()
+
+    def key(self, name: str) -> str:
+        """What a crate is made of: the toolchain, the words of its build, the libraries below it, and its own files."""
+        said = [self.tools.sum, *command(name, self.crates, self.tools, Path(), 0)]
+        said += [f"{it} {self.sums[it]}" for it in sorted(self.below[name])]
+        said += [f"{it.relative_to(TOP)} {hashlib.sha256(it.read_bytes()).hexdigest()}" for it in files_of(name)]
+        return hashlib.sha256("\n".join(said).encode()).hexdigest()
+
+    def find(self, name: str) -> bool:
+        """Links what was once made of the same contents, or what `rt ci` left of them."""
+        key = self.key(name)
+        found = self.store.found(name, key)
+        if not found and self.is_left(name):
+            shutil.copytree(left_by_gate(name), made(name, self.room))
+            found = self.store.kept(name, key, made(name, self.room))
+        if found:
+            self.link(name, found)
+        return bool(found)
+
+    def keep(self, name: str, key: str) -> None:
+        """Moves what was made of a crate into the store, and links it."""
+        self.link(name, self.store.kept(name, key, made(name, self.room)))
+
+    def link(self, name: str, kept: Path) -> None:
+        made(name, self.room).symlink_to(kept)
+        self.sums[name] = kept.stem
+
+    def is_left(self, name: str) -> bool:
+        """Whether `rt ci` left a library of a crate in this checkout that is newer than its files and fits those below it: one of statements
+        has the sums of all that it was built over. Where AFTER_GATE is set, `rt ci` has just ended, and may have kept an older one of the
+        same files."""
+        library = left_by_gate(name)
+        if made(name, self.room).suffix != ".rlib" or not (library / "format").is_file():
+            return False
+        if not os.environ.get("AFTER_GATE") and newest([library / "format"]) <= newest(files_of(name)):
+            return False
+        said, of_kit = store.seal_of(library), store.seal_of(self.tools.libraries / f"{A_LIBRARY}.rlib")
+        sums = of_kit.below | {it: self.sums[it] for it in self.below[name]}
+        return said.prover == of_kit.prover and said.direct == {"std", *self.crates[name]} and sums.items() <= said.below.items()
 
 
 class Build:
     """The crates that are built, those that are under way, and those that are left, by the longest chain."""
 
-    def __init__(self, room: Path, tops: list[str], shows_progress: bool):
+    def __init__(self, kept: store.Store, room: Path, tops: list[str], shows_progress: bool):
         self.shows_progress = shows_progress
         self.room, self.tools, self.crates = room, kit(), crates_below(tops)
-        self.sums, self.seconds = sums(self.crates, self.tools), proof_seconds(self.crates)
+        self.view = View(kept, room, self.crates, self.tools)
+        self.seconds = proof_seconds(self.crates)
         self.chains = longest_chains(self.crates, self.seconds)
         self.processors = len(os.sched_getaffinity(0))
-        take_over(room, self.crates, self.sums)
-        self.built = {it for it in self.crates if is_made(it, room, self.sums[it])}
-        self.left = sorted(set(self.crates) - self.built, key=lambda it: -self.chains[it])
-        self.running: dict[str, tuple[subprocess.Popen, int]] = {}
+        self.left = sorted(self.crates, key=lambda it: -self.chains[it])
+        self.running: dict[str, tuple[subprocess.Popen, int, str]] = {}
         self.began = time.monotonic()
 
     def say(self, what: str) -> None:
@@ -201,20 +219,23 @@ class Build:
 
     def show_progress(self) -> None:
         minutes = (time.monotonic() - self.began) / 60
-        print(f"calspan: {len(self.built)} of {len(self.crates)} crates proved, {minutes:.0f} minutes gone", file=sys.stderr, flush=True)
+        print(f"calspan: {len(self.view.sums)} of {len(self.crates)} crates proved, {minutes:.0f} minutes gone", file=sys.stderr, flush=True)
 
-    def ready(self) -> list[str]:
-        return [it for it in self.left if all(below in self.built or below not in self.crates for below in self.crates[it])]
+    def find_made(self) -> None:
+        """Finds what was once made of the same contents, lowest first."""
+        for name in self.crates:
+            if name in self.left and self.view.is_ready(name) and self.view.find(name):
+                self.left.remove(name)
 
     def begin_ready(self) -> None:
         """Begins what can be built. Where several crates have long chains, each has processors by what its own proof takes, but at least an
         even share, and none begins where all have jobs: more than four proofs at once slow one another. Others begin beside one that is alone."""
-        ready = self.ready()
+        ready = [it for it in self.left if self.view.is_ready(it)]
         able = sorted([*ready, *self.running], key=lambda it: -self.chains[it])
         peers = [it for it in able if self.chains[it] >= PEER * self.chains[able[0]]]
         together = sum(self.seconds[it] for it in peers)
         for name in ready:
-            under_way = sum(it for _, it in self.running.values())
+            under_way = sum(it for _, it, _ in self.running.values())
             if name not in peers:
                 if under_way < self.processors + (2 if len(peers) == 1 else 0):
                     self.begin(name, 1, LAST_RIGHT)
@@ -226,38 +247,55 @@ class Build:
             self.begin(name, jobs, min(peers.index(name), LAST_RIGHT))
 
     def begin(self, name: str, jobs: int, niceness: int) -> None:
-        clear(name, self.room)
+        key = self.view.key(name)
         words = ["nice", "-n", str(niceness), *command(name, self.crates, self.tools, self.room, jobs)]
         self.say(f"{name}, {jobs} jobs")
         with (self.room / f"{name}.log").open("w") as log:
             process = subprocess.Popen(words, cwd=TOP / "crates" / name, stdin=subprocess.DEVNULL, stdout=log, stderr=log)
-        self.running[name] = process, jobs
+        self.running[name] = process, jobs, key
         self.left.remove(name)
 
-    def ended(self) -> tuple[str, int]:
-        """The name of the next crate whose build ends, and its status."""
+    def ended(self) -> tuple[str, str, int]:
+        """The name of the next crate whose build ends, the key of its contents as they were when it began, and the status."""
         pid, said, usage = os.wait4(-1, 0)
-        name = next(it for it, (process, _) in self.running.items() if process.pid == pid)
-        process, _ = self.running.pop(name)
+        name = next(it for it, (process, _, _) in self.running.items() if process.pid == pid)
+        process, _, key = self.running.pop(name)
         process.returncode = os.waitstatus_to_exitcode(said)
         self.say(f"{name}: status {process.returncode}, {usage.ru_utime + usage.ru_stime:.0f} s of one processor")
-        return name, process.returncode
+        return name, key, process.returncode
 
     def whole(self) -> int:
+        """Finds or builds each crate, and answers the status of the first build that fails, or 0."""
+        self.find_made()
+        if not self.left:
+            return 0
+        with self.view.store.proving():
+            try:
+                self.find_made()
+                return self.built()
+            finally:
+                self.stop()
+
+    def built(self) -> int:
         """Builds what is left, and answers the status of the first build that fails, or 0."""
         while self.left or self.running:
             self.begin_ready()
-            name, status = self.ended()
+            name, key, status = self.ended()
             if status:
-                for other, _ in self.running.values():
-                    other.terminate()
                 print((self.room / f"{name}.log").read_text(errors="replace"))
                 return status
-            (self.room / f"{name}.sum").write_text(self.sums[name])
-            self.built.add(name)
+            self.view.keep(name, key)
             if self.shows_progress:
                 self.show_progress()
+            self.find_made()
         return 0
+
+    def stop(self) -> None:
+        """Ends the builds under way, where another one failed or this program is to end."""
+        for process, _, _ in self.running.values():
+            process.terminate()
+        for process, _, _ in self.running.values():
+            process.wait()
 
 
 def link(tools: Kit, room: Path) -> int:
@@ -282,26 +320,26 @@ def hand_out(room: Path, tops: list[str]) -> None:
         shutil.copy(made(name, room), out)
 
 
-def room_of_checkout() -> Path:
-    caches = Path(os.environ.get("XDG_CACHE_HOME") or Path.home() / ".cache")
-    return caches / "calspan" / hashlib.sha256(str(TOP).encode()).hexdigest()[:16]
+def build(kept: store.Store, tops: list[str], shows_progress: bool) -> int:
+    """Builds libraries or the program, and answers the status."""
+    with kept.view() as room:
+        work = Build(kept, room, tops, shows_progress)
+        if status := work.whole():
+            return status
+        hand_out(room, tops)
+        if MODULE in tops and (status := link_module(work.tools, made(MODULE, room))):
+            return status
+        return link(work.tools, room) if PROGRAM in tops else 0
 
 
 def main(words: list[str]) -> int:
+    signal.signal(signal.SIGTERM, lambda number, _: sys.exit(128 + number))
     shows_progress = words[:1] == ["--progress"]
     tops = words[1:] if shows_progress else words
-    tops = tops or [PROGRAM]
-    room = room_of_checkout()
-    room.mkdir(parents=True, exist_ok=True)
-    with (room / "lock").open("w") as lock:
-        fcntl.flock(lock, fcntl.LOCK_EX)
-        build = Build(room, tops, shows_progress)
-        if status := build.whole():
-            return status
-        hand_out(room, tops)
-        if MODULE in tops and (status := link_module(build.tools, made(MODULE, room))):
-            return status
-        return link(build.tools, room) if PROGRAM in tops else 0
+    with store.opened() as kept:
+        status = build(kept, tops or [PROGRAM], shows_progress)
+        kept.prune()
+        return status
 
 
 if __name__ == "__main__":

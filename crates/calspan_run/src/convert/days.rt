@@ -7,13 +7,13 @@ ghost use Rattle.date_lines.specs.DatesSaid.{date_said};
 ghost use Rattle.calspan_run.specs.Converted.{day_of, day_resolved, valid_day};
 
 use crate::convert::words::ConvertWords;
-use crate::kinds::{CalendarTask, run_in_kind};
 use cal_base::Calendar;
 use cal_days::RataDie;
 use cal_days::ranges::is_valid_day;
 use cal_tables::Tables;
 use cal_types::{DateFields, DateFromFieldsError, DateFromFieldsOptions};
 use date_lines::DateText;
+use kind_calls::{CalendarTask, run_in_kind};
 
 /// Returns the day of a bag of fields in a calendar.
 // Kept out of line so that a branch over calendars stays small.
@@ -42,7 +42,7 @@ struct FindDay<'a, 'f> {
 impl<'a, 'f> CalendarTask<()> for FindDay<'a, 'f> {
     type Answer = Result<RataDie, DateFromFieldsError>;
 
-    ghost asks = { λ _. ⊤ };
+    ghost asks = { λ _ _ _. ⊤ };
 
     ghost done = { λ t s _ _ answer. (answer ≡ day_resolved s (bag_of t.fields.now) t.options)
         × (IfOk answer IsValidDay) };

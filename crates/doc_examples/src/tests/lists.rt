@@ -8,14 +8,20 @@ use icu_calendar::{
 use std::alloc::Global;
 use std::process::Abort;
 
+/// The examples of the days of a list.
+fn show_days<I: Iterator<Item = RataDie>>(rt: &impl Abort, days: &mut I) -> Option<()> {
+    assert!(rt; days.next()?.to_i64_date() == 738582); // 2023-03-03
+    assert!(rt; days.next()?.to_i64_date() == 738935); // 2024-02-19
+    assert!(rt; days.next()?.to_i64_date() == 739320); // 2025-03-10
+    Some(())
+}
+
 /// The examples of [`birthdays`].
 fn show_birthdays(rt: &impl Abort) -> Option<()> {
     let window = Window::try_new(RataDie::new(738521), RataDie::new(739616))?;
     let hebrew = AnyCalendar::Hebrew(Hebrew);
     let mut days = anniversaries(hebrew, Month::leap(5), 10, Leaping::Constrain, window).ok()?;
-    assert!(rt; days.next()?.to_i64_date() == 738582); // 2023-03-03
-    assert!(rt; days.next()?.to_i64_date() == 738935); // 2024-02-19
-    assert!(rt; days.next()?.to_i64_date() == 739320); // 2025-03-10
+    show_days(rt, &mut days)?;
     assert!(rt; days.rest()?.first().to_i64_date() == 739321);
     Some(())
 }

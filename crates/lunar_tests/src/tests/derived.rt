@@ -1,11 +1,10 @@
 //! The order, the equality and the hash of lunisolar dates, and the equality of the two sides.
 
-use crate::tests::expected::{assert_day, assert_holds, assert_in_order};
+use crate::tests::expected::{assert_day, assert_holds, hash_of};
 use cal_base::Calendar;
 use cal_days::RataDie;
 use cal_east_asian::{ChineseTraditional, EastAsianTable, KoreanTraditional, Side};
 use cal_hebrew::Hebrew;
-use std::fmt::Debug;
 use std::hash::Hash;
 use std::process::Abort;
 
@@ -15,22 +14,38 @@ fn date_of_day<C: Calendar>(rt: &impl Abort, calendar: &C, number: i64) -> C::Da
     calendar.from_rata_die(RataDie::new(number))
 }
 
+/// That the dates of two days are in the order of the days, and each has a hash of its own.
+fn assert_ordered<C: Calendar>(rt: &impl Abort, calendar: &C, first: i64, second: i64)
+where
+    C::DateInner: Ord + Hash,
+{
+    let again = date_of_day(rt, calendar, first);
+    let (one, other) = (
+        date_of_day(rt, calendar, first),
+        date_of_day(rt, calendar, second),
+    );
+    assert_holds(rt, first, one < other && !(other < one));
+    assert_holds(rt, first, one == again && one != other);
+    assert_holds(
+        rt,
+        first,
+        hash_of(&one) == hash_of(&again) && hash_of(&one) != hash_of(&other),
+    );
+}
+
 /// That the dates of days are in the order of the days.
 fn assert_ordered_by_time<C: Calendar>(rt: &impl Abort, calendar: &C)
 where
-    C::DateInner: Ord + Hash + Debug + Copy,
+    C::DateInner: Ord + Hash,
 {
-    assert_in_order(
-        rt,
-        &[
-            date_of_day(rt, calendar, -365242499),
-            date_of_day(rt, calendar, -1),
-            date_of_day(rt, calendar, 738946),
-            date_of_day(rt, calendar, 738947),
-            date_of_day(rt, calendar, 738976),
-            date_of_day(rt, calendar, 365242134),
-        ],
-    );
+    for &(first, second) in &[
+        (-365242499, -1),
+        (738946, 738947),
+        (738947, 738976),
+        (-1, 365242134),
+    ] {
+        assert_ordered(rt, calendar, first, second);
+    }
 }
 
 #[test]
