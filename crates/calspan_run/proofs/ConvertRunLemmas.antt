@@ -9,12 +9,14 @@ use Rattle.long_lines.specs.Buffer.{Holds}
 use Rattle.long_lines.specs.Reader.{GivesAll, GivesLine, IsAt, IsSpent}
 use Rattle.long_lines.specs.declared.buffer.LongLine.{LongLine}
 use Rattle.long_lines.specs.declared.reader.LineReader.{LineReader}
-use Rattle.table_rows.specs.TableRows.{AreAccepted, TableRows, contents_of, no_rows}
+use Rattle.cal_errors.specs.declared.errors.TableFault.{TableFault}
+use Rattle.table_rows.specs.TableRows.{AreAccepted, IsFirstRefused, TableRows, contents_of, no_rows}
+use Rattle.table_rows.specs.declared.table.Table.{Table}
 use Rattle.table_rows.proofs.InputLemmas.{consumes_end}
 use Rattle.calspan_run.specs.BehindRows.{OverTables, RefusesTables}
 use Rattle.calspan_run.specs.ConvertAsked.{ConvertAsked}
 use Rattle.calspan_run.specs.Converted.{is_bad, line_text}
-use Rattle.calspan_run.specs.ConvertTexts.{AtLine, Converts, Dated, HeadLine, SaysConvert, SaysFrom, any_bad, head_line}
+use Rattle.calspan_run.specs.ConvertTexts.{AtEnd, AtLine, Converts, Dated, HeadLine, SaysConvert, SaysFrom, any_bad, head_line}
 use Rattle.calspan_run.specs.Converting.{ConvertsTo, HasConverted, IsConverting, open_lines}
 use Rattle.calspan_run.specs.Endings.{EndsWith}
 use Rattle.calspan_run.specs.Heading.{AreHead, MetDate, MetHeadEnd, MetLastDate, Said}
@@ -27,7 +29,7 @@ use Rattle.calspan_run.specs.TextSoFar.{TextSoFar, lines_text}
 use Rattle.calspan_run.specs.Written.{WrotePrefix}
 use Rattle.calspan_run.specs.declared.status.Status.{Status}
 use Rattle.calspan_run.specs.declared.status.Status.TheVariants.{Done, Refused, TableRefused}
-use Rattle.calspan_run.proofs.ConvertHeadLemmas.{all_lines, given_all}
+use Rattle.calspan_run.proofs.ConvertHeadLemmas.{all_lines, given_all, open_one}
 use Rattle.calspan_run.proofs.EndLemmas.{IsEnd}
 use Rattle.calspan_run.proofs.KnownLemmas.{appends_none}
 use Rattle.calspan_run.proofs.WriterLemmas.{lines_text-append, short_more, text_all}
@@ -260,3 +262,145 @@ module _ (a : ConvertAsked) (rows : TableRows) (old : Outside) (l t : Option (Li
     at_end = λ yes. end;
     at_line = λ no. cc;
   }
+
+-- at the first line with a date
+module _ (a : ConvertAsked) (rows : TableRows) (left l : Option (List ℕ)) (reader : LineReader) (line : LongLine) (h : MetDate left l reader line rows) where
+  pub first_refused : (table : Table) (fault : TableFault) → IsFirstRefused rows table fault → MayStream (convert_rules a) left l (table_refusal table fault) TableRefused
+  first_refused table fault first =
+      let (others, all) = given_all reader h.bytes (h.lines ++ h.whole ∷ []) [] h.at in
+      record {
+        bytes = h.bytes;
+        whole = false;
+        took = h.took;
+        says = subst (λ (y : List (List ℕ)). SaysFrom a false no_rows 1 y (table_refusal table fault) TableRefused) (sym (all ∙ append_assoc h.lines (h.whole ∷ []) others))
+            (refused_first a rows h.lines others h.whole (table_refusal table fault) h.number false h.are_head h.dated (table, fault, first, refl));
+        at_end = λ no. cc;
+        at_line = λ no. refl;
+      }
+
+  module _ (accepted : AreAccepted rows) where
+    converts : ConvertsTo a rows (h.lines ++ h.whole ∷ []) (line_text a (contents_of rows) h.whole) (is_bad a (contents_of rows) h.whole)
+    converts = converts_first a rows h.lines h.whole h.number h.are_head h.dated accepted
+
+    pub first_stopped : (t t2 : Option (List ℕ)) (r r2 w w2 : ℕ) → Rose w w2 → WrotePrefix t t2 ([] ++ line_text a (contents_of rows) h.whole) → StoppedWriting (convert_rules a) (outside left t r w) (outside l t2 r2 w2)
+    first_stopped t t2 r r2 w w2 rose short =
+        let (others, all) = given_all reader h.bytes (h.lines ++ h.whole ∷ []) [] h.at in
+        let text = line_text a (contents_of rows) h.whole in
+        let more = lines_text (line_text a (contents_of rows)) others in
+        let (prefix, wrote, begins) = short_more t t2 text more short in
+        let bad = is_bad a (contents_of rows) h.whole in
+        record {
+          bytes = h.bytes;
+          prefix = prefix;
+          text = text ++ more;
+          whole = false;
+          status = status_of (any_bad a (contents_of rows) bad others);
+          rose = rose;
+          exchanged = record { took = h.took; wrote = wrote };
+          begins = begins;
+          says = said_lines a rows h.bytes false (h.lines ++ h.whole ∷ []) others text bad all converts;
+          at_end = λ no. cc;
+        }
+
+    pub first_answered : (t t2 : Option (List ℕ)) (r r2 w w2 : ℕ) (cleared : LongLine) (new : List ℕ) (this : Bool) → r ≤ r2 → w ≤ w2 → this ≡ is_bad a (contents_of rows) h.whole
+        → TextSoFar t t2 new ([] ++ line_text a (contents_of rows) h.whole) → Holds cleared [] → IsConverting a rows (outside left t r w) (outside l t2 r2 w2) reader cleared new this 0
+    first_answered t t2 r r2 w w2 cleared new this read write is so_far empty = record {
+      bytes = h.bytes;
+      lines = h.lines ++ h.whole ∷ [];
+      rest = [];
+      text = line_text a (contents_of rows) h.whole;
+      took = h.took;
+      some = omega arith;
+      at = h.at;
+      holds = empty;
+      so_far = so_far;
+      converts = subst (λ (b : Bool). ConvertsTo a rows (h.lines ++ h.whole ∷ []) (line_text a (contents_of rows) h.whole) b) (sym is) converts;
+      read_later = read;
+      write_later = write;
+    }
+
+-- the only line with a date, which has no LF
+module _ (a : ConvertAsked) (rows : TableRows) (left l : Option (List ℕ)) (line : LongLine) (h : MetLastDate left l line rows) where
+  pub last_refused : (table : Table) (fault : TableFault) → IsFirstRefused rows table fault → MayStream (convert_rules a) left l (table_refusal table fault) TableRefused
+  last_refused table fault first = record {
+    bytes = h.bytes;
+    whole = true;
+    took = h.took;
+    says = subst (λ (y : List (List ℕ)). SaysFrom a true no_rows 1 y (table_refusal table fault) TableRefused) (sym h.all)
+        (refused_first a rows h.lines [] h.whole (table_refusal table fault) h.number true h.are_head h.dated (table, fault, first, refl));
+    at_end = λ yes. h.at_end;
+    at_line = λ no. cc;
+  }
+
+  last_converts : AreAccepted rows → SaysFrom a true no_rows 1 (h.lines ++ h.whole ∷ []) (lines_text (line_text a (contents_of rows)) (h.whole ∷ [])) (status_of (any_bad a (contents_of rows) false (h.whole ∷ [])))
+  last_converts accepted =
+      let t = contents_of rows in
+      let text = lines_text (line_text a t) (h.whole ∷ []) in
+      let status = status_of (any_bad a t false (h.whole ∷ [])) in
+      h.are_head a true (h.whole ∷ []) text status
+      (subst (λ (y : HeadLine). AtLine y rows (λ r. SaysFrom a true r (counted_on (counted_on h.number)) [] text status) _ (OverTables (Converts a (h.whole ∷ [])) rows text status)) (sym h.dated) (inl (accepted, (refl, refl))))
+
+  pub last_answered : AreAccepted rows → MayStream (convert_rules a) left l ([] ++ lines_text (line_text a (contents_of rows)) (open_lines h.whole)) (status_of (any_bad a (contents_of rows) false (open_lines h.whole)))
+  last_answered accepted =
+      let t = contents_of rows in
+      record {
+        bytes = h.bytes;
+        whole = true;
+        took = h.took;
+        says = subst (λ (y : List (List ℕ)). SaysFrom a true no_rows 1 y (lines_text (line_text a t) (open_lines h.whole)) (status_of (any_bad a t false (open_lines h.whole)))) (sym h.all)
+            (subst (λ (y : List (List ℕ)). SaysFrom a true no_rows 1 (h.lines ++ h.whole ∷ []) (lines_text (line_text a t) y) (status_of (any_bad a t false y))) (sym (open_one h.whole h.some)) (last_converts accepted));
+        at_end = λ yes. h.at_end;
+        at_line = λ no. cc;
+      }
+
+-- the head alone came
+module _ (a : ConvertAsked) (rows : TableRows) (left l : Option (List ℕ)) (h : MetHeadEnd left l rows) where
+  says_end : (text : List ℕ) (status : Status) → AtEnd true rows text status → SaysConvert a h.bytes true text status
+  says_end text status end = subst (λ (y : List (List ℕ)). SaysFrom a true no_rows 1 y text status) (append-nil (lines_in h.bytes true)) (h.are_head a true [] text status end)
+
+  pub none_refused : (table : Table) (fault : TableFault) → IsFirstRefused rows table fault → MayStream (convert_rules a) left l (table_refusal table fault) TableRefused
+  none_refused table fault first = record {
+    bytes = h.bytes;
+    whole = true;
+    took = h.took;
+    says = says_end (table_refusal table fault) TableRefused (inr ((table, fault, first, refl), refl));
+    at_end = λ yes. h.at_end;
+    at_line = λ no. cc;
+  }
+
+  pub none_answered : (t : Option (List ℕ)) (r r2 w w2 : ℕ) → AreAccepted rows → StreamAnswered (convert_rules a) (outside left t r w) (outside l t r2 w2) Done
+  none_answered t r r2 w w2 accepted = record {
+    bytes = h.bytes;
+    text = [];
+    whole = true;
+    exchanged = record { took = h.took; wrote = appends_none t };
+    says = says_end [] Done (inl (accepted, (refl, refl)));
+    at_end = λ yes. h.at_end;
+    at_line = λ no. cc;
+  }
+
+-- these bytes were taken, and this is said of them
+pub said_stream : (a : ConvertAsked) (left l : Option (List ℕ)) (whole : Bool) (text : List ℕ) → Said left l whole text TableRefused → MayStream (convert_rules a) left l text TableRefused
+said_stream a left l whole text h = record { bytes = h.bytes; whole = whole; took = h.took; says = h.says a; at_end = h.at_end; at_line = λ no. refl }
+
+pub said_fault : (a : ConvertAsked) (left l t : Option (List ℕ)) (r r2 w w2 : ℕ) → Rose r r2 → Said left l false [] Done → StoppedReading (convert_rules a) (outside left t r w) (outside l t r2 w2)
+said_fault a left l t r r2 w w2 rose h = record {
+  bytes = h.bytes;
+  text = [];
+  status = Done;
+  rose = rose;
+  exchanged = record { took = h.took; wrote = appends_none t };
+  says = h.says a;
+  goes_on = goes_on false;
+}
+
+pub said_too_long : (a : ConvertAsked) (left l t : Option (List ℕ)) (r r2 w w2 : ℕ) → (h : Said left l false [] Done) × (most_reads ≤ length h.bytes) → StreamTooLong (convert_rules a) (outside left t r w) (outside l t r2 w2)
+said_too_long a left l t r r2 w w2 (h, more) = record {
+  bytes = h.bytes;
+  text = [];
+  status = Done;
+  more = more;
+  exchanged = record { took = h.took; wrote = appends_none t };
+  says = h.says a;
+  goes_on = goes_on false;
+}
