@@ -1,7 +1,8 @@
 -- The head of an input of `convert`, line by line.
-use Rattle.std.proofs.Common.{◌≡◌, ℕ, ◌+◌, ◌<◌, ◌≤◌, ◌==◌, Bool, true, false, cond, not, nat_lt, List, [], ◌∷◌, ◌++◌, length, take, Option, Some, None, ◌⊎◌, inl, inr, Result, Ok, Err, refl, arith, ◌∙◌, sym, ap, subst}
+use Rattle.std.proofs.Common.{◌≡◌, ℕ, ◌+◌, ◌<◌, ◌≤◌, ◌==◌, Bool, true, false, cond, not, nat_lt, List, [], ◌∷◌, ◌++◌, length, take, Option, Some, None, ◌⊎◌, inl, inr, ⊎_elim, Result, Ok, Err, refl, arith, ◌∙◌, sym, ap, subst}
 use Rattle.std.proofs.lemmas.Bool.{lt-ltb}
-use Rattle.std.proofs.lemmas.Bool.Decides.{nat_tests}
+use Rattle.std.proofs.lemmas.Bool.Decides.{eqb_tells, nat_tests}
+use Rattle.std.specs.Prelude.{slice_index}
 use Rattle.std.proofs.lemmas.List.{append-nil, append_assoc, length-append}
 use borrow.Author.Tests.{ltb-true}
 use Rattle.std.specs.Io.KnownBytes.{Consumes, IsAtEnd, Keeps}
@@ -25,10 +26,12 @@ use Rattle.table_rows.specs.declared.errors.RowError.{RowError}
 use Rattle.table_rows.specs.declared.errors.RowError.TheVariants as error
 use Rattle.table_rows.specs.declared.table.RowFault.{RowFault}
 use Rattle.table_rows.proofs.InputLemmas.{consumes_end}
+use Rattle.calspan_run.specs.BehindRows.{OverTables}
 use Rattle.calspan_run.specs.ConvertAsked.{ConvertAsked}
-use Rattle.calspan_run.specs.ConvertTexts.{AtLine, Comment, Dated, HeadLine, RowLine, SaysConvert, SaysFrom, head_line, said_line}
+use Rattle.calspan_run.specs.ConvertTexts.{AtLine, Comment, Converts, Dated, HeadLine, RowLine, SaysConvert, SaysFrom, head_line, said_line}
 use Rattle.calspan_run.specs.Converting.{open_lines}
 use Rattle.calspan_run.specs.Heading.{AreHead, HasHeaded, IsHeading, MetDate, MetHeadEnd, MetLastDate, Said, TakesLine, is_plain, taken_line}
+use Rattle.calspan_run.specs.Streaming.{most_reads}
 use Rattle.calspan_run.specs.TableTexts.{row_refusal}
 use Rattle.calspan_run.specs.declared.convert.head.HeadLine.TheVariants as head
 use Rattle.calspan_run.specs.declared.status.Status.{Status}
@@ -64,16 +67,46 @@ long_dated line plain long = head_of line plain ∙ by (is_silent line) (nat_lt 
     by false true h = refl
     by false false h = cc
 
--- a line, by the first bytes that the buffer holds
+-- a line, by the first byte that the buffer holds
+pub comment_line : (whole text : List ℕ) → text ≡ take 65536 whole → (length text == 0) ≡ false → slice_index text 0 ≡ 35 → head_line whole ≡ Comment
+comment_line [] text is some first = absurd (none (sym (ap (λ (t : List ℕ). length t == 0) is) ∙ some))
+  where
+    none : ◌≡◌ {A = Bool} true false → ⊥
+    none e = cc
+comment_line (b ∷ line) text is some first =
+    let same : b ≡ 35 = sym (ap (λ (t : List ℕ). slice_index t 0) is) ∙ first in
+    ap (λ (x : ℕ). head_line (x ∷ line)) same
+
+pub plain_line : (whole text : List ℕ) → text ≡ take 65536 whole → (length text == 0) ≡ false → (slice_index text 0 ≡ 35 → ⊥) → is_plain whole ≡ true
+plain_line [] text is some first = absurd (none (sym (ap (λ (t : List ℕ). length t == 0) is) ∙ some))
+  where
+    none : ◌≡◌ {A = Bool} true false → ⊥
+    none e = cc
+plain_line (b ∷ line) text is some first =
+    ⊎_elim
+    (λ (same : ((b == 35) ≡ true) × (b ≡ 35)). absurd (first (ap (λ (t : List ℕ). slice_index t 0) is ∙ same.1)))
+    (λ (other : ((b == 35) ≡ false) × (b ≡ 35 → ⊥)). ap not other.0)
+    (eqb_tells b 35)
+
+pub some_of : (whole text : List ℕ) → text ≡ take 65536 whole → (length text == 0) ≡ false → whole ≡ [] → ⊥
+some_of whole text is some none = differ (sym (ap (λ (t : List ℕ). length t == 0) (is ∙ ap (take 65536) none)) ∙ some)
+  where
+    differ : ◌≡◌ {A = Bool} true false → ⊥
+    differ e = cc
+
 pub empty_dated : (line : List ℕ) → line ≡ [] → head_line line ≡ Dated
 empty_dated line e = ap head_line e
+
+-- a row line is refused by its number
+abbrev pub RefusedAt : ℕ → List ℕ → Status → RowFault → Type 0
+RefusedAt n text status why = (text ≡ row_refusal n why) × (status ≡ TableRefused)
 
 -- one line more
 at_line : (a : ConvertAsked) (whole : Bool) (rows next : TableRows) (n : ℕ) (line : List ℕ) (more : List (List ℕ)) (text : List ℕ) (status : Status) → TakesLine head.GoesOn line rows next → SaysFrom a whole next (counted_on n) more text status → SaysFrom a whole rows n (line ∷ more) text status
 at_line a whole rows next n line more text status (inl (is, same)) h =
-    subst (λ (y : HeadLine). AtLine y rows (λ r. SaysFrom a whole r (counted_on n) more text status) _ _) (sym is) (subst (λ (r : TableRows). SaysFrom a whole r (counted_on n) more text status) same h)
+    subst (λ (y : HeadLine). AtLine y rows (λ r. SaysFrom a whole r (counted_on n) more text status) (RefusedAt n text status) (OverTables (Converts a (line ∷ more)) rows text status)) (sym is) (subst (λ (r : TableRows). SaysFrom a whole r (counted_on n) more text status) same h)
 at_line a whole rows next n line more text status (inr (row, is, takes)) h =
-    subst (λ (y : HeadLine). AtLine y rows (λ r. SaysFrom a whole r (counted_on n) more text status) _ _) (sym is) (Kept next, takes, h)
+    subst (λ (y : HeadLine). AtLine y rows (λ r. SaysFrom a whole r (counted_on n) more text status) (RefusedAt n text status) (OverTables (Converts a (line ∷ more)) rows text status)) (sym is) (Kept next, takes, h)
 
 pub head_push : (lines : List (List ℕ)) (line : List ℕ) (rows next : TableRows) (n : ℕ) → AreHead lines rows n → TakesLine head.GoesOn line rows next → AreHead (lines ++ line ∷ []) next (counted_on n)
 head_push lines line rows next n h takes a whole more text status says =
@@ -86,7 +119,7 @@ pub head_refused : (lines others : List (List ℕ)) (line : List ℕ) (rows : Ta
 head_refused lines others line rows n why h (row, is, takes) a whole =
     subst (λ (y : List (List ℕ)). SaysFrom a whole no_rows 1 y (row_refusal (counted_on n) why) TableRefused) (sym (append_assoc lines (line ∷ []) others))
     (h a whole (line ∷ others) (row_refusal (counted_on n) why) TableRefused
-    (subst (λ (y : HeadLine). AtLine y rows (λ r. SaysFrom a whole r (counted_on (counted_on n)) others (row_refusal (counted_on n) why) TableRefused) _ _) (sym is) (Faulty why, takes, (refl, refl))))
+    (subst (λ (y : HeadLine). AtLine y rows (λ r. SaysFrom a whole r (counted_on (counted_on n)) others (row_refusal (counted_on n) why) TableRefused) (RefusedAt (counted_on n) (row_refusal (counted_on n) why) TableRefused) (OverTables (Converts a (line ∷ others)) rows (row_refusal (counted_on n) why) TableRefused)) (sym is) (Faulty why, takes, (refl, refl))))
 
 -- the lines that were given are the first of all
 pub given_all : (r : LineReader) (bytes : List ℕ) (lines : List (List ℕ)) (rest : List ℕ) → IsAt r bytes lines rest → (others : List (List ℕ)) × (closed_lines bytes ≡ lines ++ others)
@@ -185,6 +218,10 @@ module _ (left l : Option (List ℕ)) (r : LineReader) (line : LongLine) (rows :
     says = λ a. subst (λ (y : List (List ℕ)). SaysFrom a false no_rows 1 y [] Done) (append-nil h.heading.lines ∙ h.closed) (h.heading.are_head a false [] [] Done (refl, refl));
   }
 
+  pub too_many : reads ≡ most_reads → (said : Said left l false [] Done) × (most_reads ≤ length said.bytes)
+  unfolding only_head
+  too_many all = (only_head, omega (arith, all, h.heading.some))
+
   pub more_read : (l2 : Option (List ℕ)) (q : LineReader) (x : List ℕ) (count : ℕ) → count ≡ reads + 1 → 0 < length x → Consumes l l2 x → IsAt q (h.heading.bytes ++ x) h.heading.lines h.heading.rest → IsHeading left l2 q line rows n count
   more_read l2 q x count is some took at = record {
     bytes = h.heading.bytes ++ x;
@@ -198,6 +235,7 @@ module _ (left l : Option (List ℕ)) (r : LineReader) (line : LongLine) (rows :
   }
 
   pub head_kept : (l2 : Option (List ℕ)) → Keeps l l2 → Said left l2 false [] Done
+  unfolding only_head
   head_kept l2 keeps = record {
     bytes = h.heading.bytes;
     took = Consumes-kept left l l2 h.heading.bytes h.heading.took keeps;

@@ -29,7 +29,7 @@ use Rattle.calspan_run.specs.TextSoFar.{TextSoFar, lines_text}
 use Rattle.calspan_run.specs.Written.{WrotePrefix}
 use Rattle.calspan_run.specs.declared.status.Status.{Status}
 use Rattle.calspan_run.specs.declared.status.Status.TheVariants.{Done, Refused, TableRefused}
-use Rattle.calspan_run.proofs.ConvertHeadLemmas.{all_lines, given_all, open_one}
+use Rattle.calspan_run.proofs.ConvertHeadLemmas.{RefusedAt, all_lines, given_all, open_one}
 use Rattle.calspan_run.proofs.EndLemmas.{IsEnd}
 use Rattle.calspan_run.proofs.KnownLemmas.{appends_none}
 use Rattle.calspan_run.proofs.WriterLemmas.{lines_text-append, short_more, text_all}
@@ -107,13 +107,13 @@ converts_first a rows lines line n h dated accepted whole more =
     let text = line_text a t line ++ lines_text (line_text a t) more in
     let status = status_of (any_bad a t (is_bad a t line) more) in
     subst (λ (y : List (List ℕ)). SaysFrom a whole no_rows 1 y text status) (sym (append_assoc lines (line ∷ []) more))
-    (h a whole (line ∷ more) text status (subst (λ (y : HeadLine). AtLine y rows (λ r. SaysFrom a whole r (counted_on (counted_on n)) more text status) _ (OverTables (Converts a (line ∷ more)) rows text status)) (sym dated) (inl (accepted, (refl, refl)))))
+    (h a whole (line ∷ more) text status (subst (λ (y : HeadLine). AtLine y rows (λ r. SaysFrom a whole r (counted_on (counted_on n)) more text status) (RefusedAt (counted_on n) text status) (OverTables (Converts a (line ∷ more)) rows text status)) (sym dated) (inl (accepted, (refl, refl)))))
 
 -- the tables are refused at the first line with a date
 pub refused_first : (a : ConvertAsked) (rows : TableRows) (lines others : List (List ℕ)) (line text : List ℕ) (n : ℕ) (whole : Bool) → AreHead lines rows n → head_line line ≡ Dated → RefusesTables rows text
     → SaysFrom a whole no_rows 1 (lines ++ line ∷ others) text TableRefused
 refused_first a rows lines others line text n whole h dated refuses =
-    h a whole (line ∷ others) text TableRefused (subst (λ (y : HeadLine). AtLine y rows (λ r. SaysFrom a whole r (counted_on (counted_on n)) others text TableRefused) _ (OverTables (Converts a (line ∷ others)) rows text TableRefused)) (sym dated) (inr (refuses, refl)))
+    h a whole (line ∷ others) text TableRefused (subst (λ (y : HeadLine). AtLine y rows (λ r. SaysFrom a whole r (counted_on (counted_on n)) others text TableRefused) (RefusedAt (counted_on n) text TableRefused) (OverTables (Converts a (line ∷ others)) rows text TableRefused)) (sym dated) (inr (refuses, refl)))
 
 -- lines that are answered, of an input that goes on by others
 pub said_lines : (a : ConvertAsked) (rows : TableRows) (bytes : List ℕ) (whole : Bool) (lines others : List (List ℕ)) (text : List ℕ) (bad : Bool) → lines_in bytes whole ≡ lines ++ others → ConvertsTo a rows lines text bad
@@ -338,7 +338,7 @@ module _ (a : ConvertAsked) (rows : TableRows) (left l : Option (List ℕ)) (lin
       let text = lines_text (line_text a t) (h.whole ∷ []) in
       let status = status_of (any_bad a t false (h.whole ∷ [])) in
       h.are_head a true (h.whole ∷ []) text status
-      (subst (λ (y : HeadLine). AtLine y rows (λ r. SaysFrom a true r (counted_on (counted_on h.number)) [] text status) _ (OverTables (Converts a (h.whole ∷ [])) rows text status)) (sym h.dated) (inl (accepted, (refl, refl))))
+      (subst (λ (y : HeadLine). AtLine y rows (λ r. SaysFrom a true r (counted_on (counted_on h.number)) [] text status) (RefusedAt (counted_on h.number) text status) (OverTables (Converts a (h.whole ∷ [])) rows text status)) (sym h.dated) (inl (accepted, (refl, refl))))
 
   pub last_answered : AreAccepted rows → MayStream (convert_rules a) left l ([] ++ lines_text (line_text a (contents_of rows)) (open_lines h.whole)) (status_of (any_bad a (contents_of rows) false (open_lines h.whole)))
   last_answered accepted =

@@ -1,7 +1,8 @@
 //! The row lines at the head of the input of `convert`.
-ghost use Rattle.std.specs.Prelude.{◌≡◌, ◌≤◌, [], true, ℕ, List, Option};
+ghost use Rattle.std.specs.Prelude.{◌≡◌, ◌≤◌, [], true, ℕ, List, Option, IfNone};
 ghost use Rattle.std.specs.Io.KnownBytes.{Consumes, IsAtEnd};
 ghost use Rattle.long_lines.specs.Buffer.{Holds};
+ghost use Rattle.long_lines.specs.Reader.{IsSpent};
 ghost use Rattle.long_lines.specs.declared.reader.LineReader.{LineReader};
 ghost use Rattle.table_rows.specs.RowsSaid.{rows_said};
 
@@ -90,7 +91,8 @@ fn gather_chunk(
     reader: &mut LineReader,
     line: &mut LongLine,
 ) -> Option<Headed>
-    ensures { (left now : Option (List ℕ)) (reads : ℕ)
+    ensures spent { IfNone result (IsSpent reader.new) }
+    ensures heads { (left now : Option (List ℕ)) (reads : ℕ)
         → IsHeading left now reader.old line.old (rows_said rows.old) number.old reads
         → HeadsChunk result left now reader.new line.new (rows_said rows.new) number.new reads }
 {

@@ -1,7 +1,8 @@
 //! Running `convert`.
-ghost use Rattle.std.specs.Prelude.{◌≡◌, ◌≤◌, ◌++◌, [], ℕ, List, Option};
+ghost use Rattle.std.specs.Prelude.{◌≡◌, ◌≤◌, ◌++◌, [], ℕ, List, Option, IfOk};
 ghost use Rattle.cal_tables.specs.Kinds.{table_contents};
 ghost use Rattle.long_lines.specs.Buffer.{Holds};
+ghost use Rattle.long_lines.specs.Reader.{IsSpent};
 ghost use Rattle.table_rows.specs.RowsSaid.{rows_said};
 ghost use Rattle.table_rows.specs.TableRows as table;
 ghost use Rattle.table_rows.specs.TableRows.{contents_of};
@@ -64,7 +65,8 @@ fn answer_chunk<K: Sink>(
     pending: &mut Pending,
     sink: &mut K,
 ) -> Result<bool, Failed>
-    ensures { (old : Outside) (left : Option (List ℕ)) (faults reads : ℕ) (rows : table.TableRows)
+    ensures spent { IfOk result (λ _. IsSpent reader.new) }
+    ensures converts { (old : Outside) (left : Option (List ℕ)) (faults reads : ℕ) (rows : table.TableRows)
         → table_contents conversion.now.tables ≡ contents_of rows
         → IsConverting (convert_said conversion.now.words) rows old
         (outside left (K.taken sink.old) faults (K.faults sink.old)) reader.old line.old pending.old.items was_bad reads
