@@ -1,8 +1,10 @@
 -- A run of `convert` behind the head of its input.
-use Rattle.std.proofs.Common.{◌≡◌, ℕ, ◌+◌, ◌<◌, ◌≤◌, ◌||◌, Bool, true, false, List, [], ◌∷◌, ◌++◌, length, Option, ◌⊎◌, inl, inr, refl, arith, ◌∙◌, sym, ap, subst}
+use Rattle.std.proofs.Common.{◌≡◌, ℕ, ◌+◌, ◌<◌, ◌≤◌, ◌||◌, Bool, true, false, List, [], ◌∷◌, ◌++◌, length, Option, ◌⊎◌, inl, inr, Result, Ok, Err, true≢false, refl, arith, ◌∙◌, sym, ap, subst}
 use Rattle.std.proofs.lemmas.List.{append-nil, append_assoc, length-append}
 use Rattle.std.specs.Io.KnownBytes.{Appends, Consumes, IsAtEnd, Keeps}
 use Rattle.std.proofs.KnownBytes.{Consumes-kept, Consumes-nil, Consumes-trans}
+use Rattle.std.specs.Result.{IsErr}
+use Rattle.byte_io.specs.declared.Failed.{Failed}
 use Rattle.byte_io.specs.Faults.{Rose, counted_on}
 use Rattle.byte_io.specs.Lines.{closed_lines, lines_in, open_line}
 use Rattle.long_lines.specs.Buffer.{Holds}
@@ -10,6 +12,7 @@ use Rattle.long_lines.specs.Reader.{GivesAll, GivesLine, IsAt, IsSpent}
 use Rattle.long_lines.specs.declared.buffer.LongLine.{LongLine}
 use Rattle.long_lines.specs.declared.reader.LineReader.{LineReader}
 use Rattle.cal_errors.specs.declared.errors.TableFault.{TableFault}
+use Rattle.cal_tables.specs.Kinds.{TableContents}
 use Rattle.table_rows.specs.TableRows.{AreAccepted, IsFirstRefused, TableRows, contents_of, no_rows}
 use Rattle.table_rows.specs.declared.table.Table.{Table}
 use Rattle.table_rows.proofs.InputLemmas.{consumes_end}
@@ -17,7 +20,7 @@ use Rattle.calspan_run.specs.BehindRows.{OverTables, RefusesTables}
 use Rattle.calspan_run.specs.ConvertAsked.{ConvertAsked}
 use Rattle.calspan_run.specs.Converted.{is_bad, line_text}
 use Rattle.calspan_run.specs.ConvertTexts.{AtEnd, AtLine, Converts, Dated, HeadLine, SaysConvert, SaysFrom, any_bad, head_line}
-use Rattle.calspan_run.specs.Converting.{ConvertsTo, HasConverted, IsConverting, open_lines}
+use Rattle.calspan_run.specs.Converting.{ConvertsChunk, ConvertsTo, HasConverted, IsConverting, open_lines}
 use Rattle.calspan_run.specs.Endings.{EndsWith}
 use Rattle.calspan_run.specs.Heading.{AreHead, MetDate, MetHeadEnd, MetLastDate, Said}
 use Rattle.calspan_run.specs.Refusals.{status_of}
@@ -28,7 +31,7 @@ use Rattle.calspan_run.specs.TableTexts.{table_refusal}
 use Rattle.calspan_run.specs.TextSoFar.{TextSoFar, lines_text}
 use Rattle.calspan_run.specs.Written.{WrotePrefix}
 use Rattle.calspan_run.specs.declared.status.Status.{Status}
-use Rattle.calspan_run.specs.declared.status.Status.TheVariants.{Done, Refused, TableRefused}
+use Rattle.calspan_run.specs.declared.status.Status.TheVariants.{Done, Refused, TableRefused, WriteFault}
 use Rattle.calspan_run.proofs.ConvertHeadLemmas.{RefusedAt, all_lines, given_all, open_one}
 use Rattle.calspan_run.proofs.EndLemmas.{IsEnd}
 use Rattle.calspan_run.proofs.KnownLemmas.{appends_none}
@@ -404,3 +407,30 @@ said_too_long a left l t r r2 w w2 (h, more) = record {
   says = h.says a;
   goes_on = goes_on false;
 }
+
+-- where a write failed in a chunk
+pub chunk_stopped : (r : Result Bool Failed) (a : ConvertAsked) (rows : TableRows) (old new : Outside) (q : LineReader) (line : LongLine) (pending : List ℕ) (reads : ℕ) → IsErr r → StoppedWriting (convert_rules a) old new → ConvertsChunk r a rows old new q line pending reads
+chunk_stopped (Ok x) a rows old new q line pending reads failed h = absurd (true≢false (sym failed))
+chunk_stopped (Err e) a rows old new q line pending reads failed h = h
+
+-- the end of an input: what follows the last LF is nothing, or a line
+module _ (a : ConvertAsked) (t : TableContents) (result : Status) (bad : Bool) (before now : Option (List ℕ)) (w w2 : ℕ) (text : List ℕ) where
+  abbrev pub Ends : List ℕ → Type 0
+  Ends last = EndsWith result (status_of (any_bad a t bad (open_lines last))) before now w w2 (text ++ lines_text (line_text a t) (open_lines last))
+
+  pub ends_none : (last : List ℕ) → last ≡ [] → EndsWith result (status_of bad) before now w w2 text → Ends last
+  ends_none last none h = subst Ends (sym none) (subst (λ (x : List ℕ). EndsWith result (status_of bad) before now w w2 x) (sym (append-nil text)) h)
+
+  -- a line
+  pub ends_some : (last : List ℕ) → (last ≡ [] → ⊥) → EndsWith result (status_of (bad || is_bad a t last)) before now w w2 (text ++ line_text a t last) → Ends last
+  ends_some last some h =
+      subst (λ (y : List (List ℕ)). EndsWith result (status_of (any_bad a t bad y)) before now w w2 (text ++ lines_text (line_text a t) y)) (sym (open_one last some))
+      (subst (λ (x : List ℕ). EndsWith result (status_of (bad || is_bad a t last)) before now w w2 (text ++ x)) (sym (append-nil (line_text a t last))) h)
+
+pub ends_one : (a : ConvertAsked) (t : TableContents) (result : Status) (bad now_bad : Bool) (before now : Option (List ℕ)) (w m w2 : ℕ) (text last : List ℕ) → (last ≡ [] → ⊥) → now_bad ≡ (bad || is_bad a t last) → w ≤ m
+    → EndsWith result (status_of now_bad) before now m w2 (text ++ line_text a t last) → Ends a t result bad before now w w2 text last
+ends_one a t result bad now_bad before now w m w2 text last some is later (inl (e, wrote)) = ends_some a t result bad before now w w2 text last some (inl (e ∙ ap status_of is, wrote))
+ends_one a t result bad now_bad before now w m w2 text last some is later (inr (e, wrote, rose)) = ends_some a t result bad before now w w2 text last some (inr (e, wrote, omega (arith, later, rose)))
+
+pub one_short : (a : ConvertAsked) (t : TableContents) (bad : Bool) (before now : Option (List ℕ)) (w w2 : ℕ) (text last : List ℕ) → (last ≡ [] → ⊥) → WrotePrefix before now (text ++ line_text a t last) → Rose w w2 → Ends a t WriteFault bad before now w w2 text last
+one_short a t bad before now w w2 text last some short rose = ends_some a t WriteFault bad before now w w2 text last some (inr (refl, short, rose))

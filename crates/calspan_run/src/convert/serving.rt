@@ -1,5 +1,5 @@
 //! Running `convert`.
-ghost use Rattle.std.specs.Prelude.{◌≡◌, ◌≤◌, ◌++◌, [], ℕ, List, Option, IfOk};
+ghost use Rattle.std.specs.Prelude.{◌≡◌, ◌≤◌, ◌||◌, ◌++◌, [], ℕ, List, Option, IfOk};
 ghost use Rattle.cal_tables.specs.Kinds.{table_contents};
 ghost use Rattle.long_lines.specs.Buffer.{Holds};
 ghost use Rattle.long_lines.specs.Reader.{IsSpent};
@@ -38,6 +38,13 @@ fn status_of(is_bad: bool) -> Status
     } else {
         Status::Done
     }
+}
+
+/// Returns whether a line is bad, or one was before it.
+fn either(was_bad: bool, is_bad: bool) -> bool
+    ensures { result ≡ (was_bad || is_bad) }
+{
+    was_bad || is_bad
 }
 
 /// Writes the pending text after the last line. Returns the status of the run, or `WriteFault` if the sink counted a
@@ -79,7 +86,7 @@ fn answer_chunk<K: Sink>(
             return Ok(is_bad);
         }
         let this = answer_line(line, conversion, pending, sink)?;
-        is_bad = is_bad || this;
+        is_bad = either(is_bad, this);
         line.clear();
     }
 }
@@ -102,7 +109,7 @@ fn finish<K: Sink>(
         return conclude(is_bad, pending, sink);
     }
     match answer_line(line, conversion, pending, sink) {
-        Ok(this) => conclude(is_bad || this, pending, sink),
+        Ok(this) => conclude(either(is_bad, this), pending, sink),
         Err(_) => Status::WriteFault,
     }
 }
