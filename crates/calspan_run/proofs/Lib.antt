@@ -2,6 +2,7 @@ mod AnswerLemmas
 mod BehindRowsLemmas
 mod CommandLemmas
 mod ConvertAnswerLemmas
+mod ConvertCommandLemmas
 mod ConvertHeadLemmas
 mod ConvertRunLemmas
 mod DayLineLemmas
