@@ -15,7 +15,7 @@ returns-then-is_empty g c before text last holds so_far =
 pub returns-in-Ok : goal.returns-in-Ok
 returns-in-Ok g c before text last holds so_far =
     let (is, on) = c.in-Ok.ensures.answered before text last holds so_far in
-    ends_one (convert_said c.args.conversion.now.words) (table_contents c.args.conversion.now.tables) _ _ _ _ _ _ _ text last
+    ends_one (convert_said c.args.conversion.now.words) (table_contents c.args.conversion.now.tables) _ _ _ _ _ _ _ _ text last
     (some_of last c.prefix.result.now (c.prefix.ensures last holds) (sym c.is_empty.ensures ∙ c.if-is_empty.false)) (c.either.ensures ∙ ap (λ (b : Bool). c.args.is_bad || b) is) c.in-Ok.ensures.cause.later (c.conclude-in-Ok.ensures before _ on)
 
 pub returns-in-Err : goal.returns-in-Err

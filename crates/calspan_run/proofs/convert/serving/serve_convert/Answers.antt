@@ -47,8 +47,8 @@ returns-in-NoMemory g c =
     let (bytes, took) = c.in-NoMemory.ensures.heads left (g.S.Source.faults c.args.source.now) (omega arith) start in
     (bytes, record { took = took; wrote = appends_none _ })
 
-pub returns-in-TooLong : goal.returns-in-TooLong
-returns-in-TooLong g c =
+pub returns : goal.returns
+returns g c =
     let left = g.S.Source.left c.args.source.now in
     let start = heading_begins left _ _ _ (Consumes-nil left) c.new-reader.ensures c.in-Ok.ensures c.new-rows.ensures in
     said_too_long (convert_said c.args.words) left _ _ _ _ _ _ (c.in-TooLong.ensures.heads left (g.S.Source.faults c.args.source.now) (omega arith) start)

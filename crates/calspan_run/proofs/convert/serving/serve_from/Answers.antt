@@ -38,7 +38,7 @@ returns-in-End g c old rows tables at =
     let (took, end) = c.in-End.ensures.end refl in
     ends_stream (convert_rules a) old.left _ old.taken _ old.read_faults _ old.write_faults _ _ _ (input_ends a rows old _ _ _ _ _ _ _ _ c.chunks.reads h _ took end) c.finish.result _ (is_end _)
     (omega (arith, h.converting.write_later, c.in-Ok-flush.ensures.cause.later))
-    (subst (λ (t : TableContents). Ends a t c.finish.result _ old.taken _ _ _ h.converting.text h.converting.rest) tables
+    (subst (λ (t : TableContents). Ends a t c.finish.result c.in-Ok.bad old.taken (g.K.Sink.taken c.finish.new.sink) (g.K.Sink.faults c.flush.new.sink) (g.K.Sink.faults c.finish.new.sink) h.converting.text h.converting.rest) tables
     (c.finish.ensures old.taken h.converting.text h.converting.rest h.converting.holds (c.in-Ok-flush.ensures.text old.taken h.converting.text h.converting.so_far)))
 
 pub returns-in-Fault : goal.returns-in-Fault

@@ -1,4 +1,4 @@
-use Rattle.std.proofs.Common.{[], inr, refl, arith, subst}
+use Rattle.std.proofs.Common.{[], false, inr, refl, arith, subst}
 use Rattle.cal_tables.specs.Kinds.{TableContents}
 use Rattle.table_rows.specs.RowsSaid.{rows_said}
 use Rattle.calspan_run.specs.ConvertSaid.{convert_said}
@@ -16,5 +16,5 @@ pub returns : goal.returns
 returns g c left now faults reads met =
     let a = convert_said c.args.words in
     ends_stream (convert_rules a) left now _ _ faults reads _ _ _ _ (last_answered a (rows_said c.args.rows.now) left now _ met c.in-Ok.ensures.0) c.finish.result _ (is_end _) (omega arith)
-    (subst (λ (t : TableContents). Ends a t c.finish.result _ (g.K.Sink.taken c.args.sink.now) _ _ _ [] met.whole) c.in-Ok.ensures.1
+    (subst (λ (t : TableContents). Ends a t c.finish.result false (g.K.Sink.taken c.args.sink.now) (g.K.Sink.taken c.finish.new.sink) (g.K.Sink.faults c.args.sink.now) (g.K.Sink.faults c.finish.new.sink) [] met.whole) c.in-Ok.ensures.1
     (c.finish.ensures (g.K.Sink.taken c.args.sink.now) [] met.whole met.holds (text_begins (g.K.Sink.taken c.args.sink.now) _ c.new-pending.ensures)))
