@@ -30,5 +30,5 @@ lines-preserved g c old left faults reads rows tables at =
     let h = c.lines.invariant old left faults reads rows tables at in
     let f = c.if-not-next_line.ensures.gives h.bytes h.lines h.rest h.at h.holds in
     let (is, so_far) = subst (λ (t : TableContents). (c.in_ok-this.this ≡ (line_answer a t f.line).1) × TextSoFar old.taken (g.K.Sink.taken c.answer_line.new.sink) c.answer_line.new.pending.items (h.text ++ (line_answer a t f.line).0)) tables (c.in_ok-this.ensures.answered old.taken h.text f.line f.holds h.so_far) in
-    subst (λ (b : Bool). IsConverting a rows old (outside left (g.K.Sink.taken c.answer_line.new.sink) faults (g.K.Sink.faults c.answer_line.new.sink)) c.next_line.new.self c.clear.new.self c.answer_line.new.pending.items b reads) (sym c.either.ensures)
+    subst (λ (b : Bool). IsConverting a rows old (outside left (g.K.Sink.taken c.answer_line.new.sink) faults (g.K.Sink.faults c.answer_line.new.sink)) c.next_line.new.self c.clear.new.self c.answer_line.new.pending.items b reads) (sym c.either-is_bad.ensures)
     (line_on a rows old left _ faults _ _ _ _ _ reads h _ _ _ _ _ _ _ f is so_far c.clear.ensures c.in_ok-this.ensures.cause.later)
