@@ -91,7 +91,12 @@ pub(crate) fn find_day(
                 overflow: Some(words.overflow),
                 missing_fields_strategy: None,
             };
-            run_in_kind(&FindDay { fields, options }, &mut (), words.calendar, tables)
+            run_in_kind(
+                &FindDay { fields, options },
+                &mut (),
+                words.calendar,
+                tables,
+            )
         }
     }
 }

@@ -177,7 +177,15 @@ fn serve_dates<S: Source, K: Sink>(
     match answer_line(line, &conversion, &mut pending, sink) {
         Ok(is_bad) => {
             line.clear();
-            serve_from(is_bad, &conversion, reader, line, &mut pending, source, sink)
+            serve_from(
+                is_bad,
+                &conversion,
+                reader,
+                line,
+                &mut pending,
+                source,
+                sink,
+            )
         }
         Err(_) => Status::WriteFault,
     }
@@ -200,7 +208,13 @@ fn serve_last<K: Sink>(
         Err(refusal) => return refuse_table(refusal, sink),
     };
     let mut pending = Pending::new();
-    finish(false, &Conversion { words, tables }, line, &mut pending, sink)
+    finish(
+        false,
+        &Conversion { words, tables },
+        line,
+        &mut pending,
+        sink,
+    )
 }
 
 /// Tests the tables at the end of an input without a line after the head.
