@@ -32,21 +32,24 @@ still_refused : (a : ConvertAsked) (rows : TableRows) (lines more : List (List �
 still_refused a rows lines more text (inl (accepted, (is, e))) = absurd (goes_on (any_bad a (contents_of rows) false lines) (sym e))
 still_refused a rows lines more text (inr h) = inr h
 
+-- at a line, where what follows it lasts
+module _ (a : ConvertAsked) (whole : Bool) (rows : TableRows) (n : ℕ) (line : List ℕ) (more others : List (List ℕ)) (text : List ℕ)
+    (on : (r : TableRows) → SaysFrom a false r (counted_on n) more text TableRefused → SaysFrom a whole r (counted_on n) (more ++ others) text TableRefused) where
+  behind : (outcome : RowOutcome) → Behind outcome (λ r. SaysFrom a false r (counted_on n) more text TableRefused) (RefusedAt n text TableRefused)
+      → Behind outcome (λ r. SaysFrom a whole r (counted_on n) (more ++ others) text TableRefused) (RefusedAt n text TableRefused)
+  behind (Kept next) h = on next h
+  behind (Faulty why) h = h
+
+  line_lasts : (x : HeadLine) → AtLine x rows (λ r. SaysFrom a false r (counted_on n) more text TableRefused) (RefusedAt n text TableRefused) (OverTables (Converts a (line ∷ more)) rows text TableRefused)
+      → AtLine x rows (λ r. SaysFrom a whole r (counted_on n) (more ++ others) text TableRefused) (RefusedAt n text TableRefused) (OverTables (Converts a (line ∷ (more ++ others))) rows text TableRefused)
+  line_lasts Comment h = on rows h
+  line_lasts (RowLine row) (outcome, takes, h) = (outcome, takes, behind outcome h)
+  line_lasts Dated h = still_refused a rows (line ∷ more) (line ∷ (more ++ others)) text h
+
 -- what a row or the tables end, they end whatever follows
 lasts : (a : ConvertAsked) (whole : Bool) (rows : TableRows) (n : ℕ) (lines others : List (List ℕ)) (text : List ℕ) → SaysFrom a false rows n lines text TableRefused → SaysFrom a whole rows n (lines ++ others) text TableRefused
 lasts a whole rows n [] others text (none, e) = cc
-lasts a whole rows n (line ∷ more) others text h = at (head_line line) h
-  where
-    behind : (outcome : RowOutcome) → Behind outcome (λ r. SaysFrom a false r (counted_on n) more text TableRefused) (RefusedAt n text TableRefused)
-        → Behind outcome (λ r. SaysFrom a whole r (counted_on n) (more ++ others) text TableRefused) (RefusedAt n text TableRefused)
-    behind (Kept next) h = lasts a whole next (counted_on n) more others text h
-    behind (Faulty why) h = h
-
-    at : (x : HeadLine) → AtLine x rows (λ r. SaysFrom a false r (counted_on n) more text TableRefused) (RefusedAt n text TableRefused) (OverTables (Converts a (line ∷ more)) rows text TableRefused)
-        → AtLine x rows (λ r. SaysFrom a whole r (counted_on n) (more ++ others) text TableRefused) (RefusedAt n text TableRefused) (OverTables (Converts a (line ∷ (more ++ others))) rows text TableRefused)
-    at Comment h = lasts a whole rows (counted_on n) more others text h
-    at (RowLine row) (outcome, takes, h) = (outcome, takes, behind outcome h)
-    at Dated h = still_refused a rows (line ∷ more) (line ∷ (more ++ others)) text h
+lasts a whole rows n (line ∷ more) others text h = line_lasts a whole rows n line more others text (λ r g. lasts a whole r (counted_on n) more others text g) (head_line line) h
 
 module _ (a : ConvertAsked) (input : List ℕ) where
   says_to : (l2 : Option (List ℕ)) (bytes text : List ℕ) (whole : Bool) (status : Status) → Consumes (Some input) l2 bytes → (whole ≡ true → IsAtEnd l2) → (whole ≡ false → status ≡ TableRefused) → SaysConvert a bytes whole text status → SaysConvert a input true text status
