@@ -13,6 +13,7 @@ import subprocess
 import sys
 from pathlib import Path
 
+from convert import compare_conversions
 from grammar import FIELDS, REQUEST, WORDS, has_each_key_once
 import lists
 from lists import cases_of, compare_lists, compare_words
@@ -182,7 +183,7 @@ def check_broken_rows(chance: random.Random, inputs: list[bytes]) -> None:
 
 def compare_cases() -> str:
     count = sum(compare(name) for name in NAMES) + sum(compare_table(name) for name in STATUSES)
-    return f"{count} answers and {compare_lists(LISTS)}"
+    return f"{count} answers, {compare_lists(LISTS)}, and {compare_conversions()}"
 
 
 def compare_all() -> None:

@@ -38,6 +38,7 @@ FORMS = {
     b"anniversary": [CALENDAR, CALENDAR, one_of(LEAPINGS), CODE, BYTE, INT, INT],
     b"recur": [CALENDAR, CALENDAR, one_of(UNITS[:4]), rb"[0-9]{1,9}", one_of(MISSINGS), INT, INT],
     b"holidays": [INT, INT],
+    b"convert": [CALENDAR, CALENDAR, one_of(OVERFLOWS[:2])],
 }
 
 # What may stand as a word of a request, by its place: each word of the form, and near misses of some.
@@ -71,9 +72,10 @@ NEAR = {
     b"anniversary": [SHOWN, SHOWN, [*LEAPINGS, b"skip"], CODES, [b"0", b"029", b"30", b"255", b"256", b"-1", b"0001"], DAYS, DAYS],
     b"recur": [SHOWN, SHOWN, [*UNITS, b"day"], [b"0", b"1", b"000000012", b"999999999", b"1000000000", b"-1", b""], MISSINGS, DAYS, DAYS],
     b"holidays": [DAYS, DAYS],
+    b"convert": [SHOWN, SHOWN, [*OVERFLOWS, b"skip", b""]],
 }
 ANYWHERE = [
-    *[b"span", b"gen", b"anniversary", b"recur", b"holidays", b"iso", b"exact", b"constrain", b"M02", b"1", b"-1", b"", b" ", b"day=1 month=M02"],
+    *[b"span", b"gen", b"anniversary", b"recur", b"holidays", b"convert", b"iso", b"exact", b"constrain", b"M02", b"1", b"-1", b"", b" ", b"day=1 month=M02"],
     *[b"era=\n", b"era=\t", b"era=\xff", b"\xff", *FIELDS],
 ]
 

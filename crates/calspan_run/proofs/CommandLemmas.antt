@@ -1,42 +1,54 @@
 -- A run of any command: what it says lasts, so that all of its text is written.
 use Rattle.std.proofs.Common.{◌≡◌, ℕ, List, Option, Some, None, ◌↔◌, refl, sym, ap, subst, ◌∙◌}
-use Rattle.calspan_run.specs.Command.{Asked, Span, Generate, Anniversary, Recur, Holidays}
-use Rattle.calspan_run.specs.CommandRuns.{Ends, Runs, rules_of}
+use Rattle.calspan_run.specs.Command.{Asked, Span, Generate, Anniversary, Recur, Holidays, Convert}
+use Rattle.calspan_run.specs.CommandRuns.{Ends, Runs, RunsAs, ServesAs}
 use Rattle.calspan_run.specs.Laws.{AreLasting}
 use Rattle.calspan_run.specs.ListTexts.{ListsAnniversaries, ListsOccurrences}
+use Rattle.calspan_run.specs.Rules.{generator_rules, holiday_rules, list_rules, span_rules}
 use Rattle.calspan_run.specs.Run.{Outside, outside}
+use Rattle.calspan_run.specs.Streaming.{Streams, convert_rules}
 use Rattle.calspan_run.specs.Serving.{Rules, Serves}
 use Rattle.calspan_run.specs.declared.status.Status.{Status}
 use Rattle.calspan_run.specs.declared.status.Status.TheVariants.{Words}
 use Rattle.calspan_run.proofs.AnswerLemmas.{span_lasts}
+use Rattle.calspan_run.proofs.ConvertCommandLemmas.{stream_headline}
 use Rattle.calspan_run.proofs.GeneratorLemmas.{generator_lasts}
 use Rattle.calspan_run.proofs.HolidayLemmas.{holidays_last}
 use Rattle.calspan_run.proofs.ListLemmas.{list_lasts}
 use Rattle.calspan_run.proofs.ServingLemmas.{headline}
 
-lasting : (asked : Asked) → AreLasting (rules_of asked)
-lasting Span = span_lasts
-lasting (Generate count) = generator_lasts count
-lasting (Anniversary asked) = list_lasts (ListsAnniversaries asked)
-lasting (Recur asked) = list_lasts (ListsOccurrences asked)
-lasting (Holidays asked) = holidays_last asked
+runs_by : (c : Rules) → AreLasting c → (status : Status) (l l2 t t2 : Option (List ℕ)) (r r2 w w2 : ℕ) → Serves c status (outside l t r w) (outside l2 t2 r2 w2) → Runs c status (outside l t r w) (outside l2 t2 r2 w2)
+runs_by c lasting status l l2 t t2 r r2 w w2 h = record { serves = h; writes = headline c lasting status l l2 t t2 r r2 w w2 h }
 
 -- how the run of a command ends is all that is said of it
-pub command_ends : (asked : Asked) (o : Option Asked) → Some asked ≡ o → (status : Status) (l l2 t t2 : Option (List ℕ)) (r r2 w w2 : ℕ) → Serves (rules_of asked) status (outside l t r w) (outside l2 t2 r2 w2) → Ends o status (outside l t r w) (outside l2 t2 r2 w2)
+runs_as : (asked : Asked) (status : Status) (l l2 t t2 : Option (List ℕ)) (r r2 w w2 : ℕ) → ServesAs asked status (outside l t r w) (outside l2 t2 r2 w2) → RunsAs asked status (outside l t r w) (outside l2 t2 r2 w2)
+runs_as Span status l l2 t t2 r r2 w w2 h = runs_by span_rules span_lasts status l l2 t t2 r r2 w w2 h
+runs_as (Generate count) status l l2 t t2 r r2 w w2 h = runs_by (generator_rules count) (generator_lasts count) status l l2 t t2 r r2 w w2 h
+runs_as (Anniversary asked) status l l2 t t2 r r2 w w2 h = runs_by (list_rules (ListsAnniversaries asked)) (list_lasts (ListsAnniversaries asked)) status l l2 t t2 r r2 w w2 h
+runs_as (Recur asked) status l l2 t t2 r r2 w w2 h = runs_by (list_rules (ListsOccurrences asked)) (list_lasts (ListsOccurrences asked)) status l l2 t t2 r r2 w w2 h
+runs_as (Holidays asked) status l l2 t t2 r r2 w w2 h = runs_by (holiday_rules asked) (holidays_last asked) status l l2 t t2 r r2 w w2 h
+runs_as (Convert asked) status l l2 t t2 r r2 w w2 h = record { streams = h; writes = stream_headline asked status l l2 t t2 r r2 w w2 h }
+
+pub command_ends : (asked : Asked) (o : Option Asked) → Some asked ≡ o → (status : Status) (l l2 t t2 : Option (List ℕ)) (r r2 w w2 : ℕ) → ServesAs asked status (outside l t r w) (outside l2 t2 r2 w2) → Ends o status (outside l t r w) (outside l2 t2 r2 w2)
 command_ends asked o said status l l2 t t2 r r2 w w2 h =
-    let old = outside l t r w in
-    let new = outside l2 t2 r2 w2 in
-    let runs : Runs (rules_of asked) status old new = record { serves = h; writes = headline (rules_of asked) (lasting asked) status l l2 t t2 r r2 w w2 h } in
-    subst (λ (x : Option Asked). Ends x status old new) said runs
+    subst (λ (x : Option Asked). Ends x status (outside l t r w) (outside l2 t2 r2 w2)) said (runs_as asked status l l2 t t2 r r2 w w2 h)
 
 -- no run of a command ends as one of other words
-not_words : (c : Rules) (status : Status) (old new : Outside) → Serves c status old new → status ≡ Words → ⊥
-not_words c status old new h e = subst (λ (s : Status). Serves c s old new) e h
+no_words : (c : Rules) (status : Status) (old new : Outside) → Serves c status old new → status ≡ Words → ⊥
+no_words c status old new h e = subst (λ (s : Status). Serves c s old new) e h
+
+not_words : (asked : Asked) (status : Status) (old new : Outside) → RunsAs asked status old new → status ≡ Words → ⊥
+not_words Span status old new h e = no_words span_rules status old new h.serves e
+not_words (Generate count) status old new h e = no_words (generator_rules count) status old new h.serves e
+not_words (Anniversary asked) status old new h e = no_words (list_rules (ListsAnniversaries asked)) status old new h.serves e
+not_words (Recur asked) status old new h e = no_words (list_rules (ListsOccurrences asked)) status old new h.serves e
+not_words (Holidays asked) status old new h e = no_words (holiday_rules asked) status old new h.serves e
+not_words (Convert asked) status old new h e = subst (λ (s : Status). Streams (convert_rules asked) s old new) e h.streams
 
 -- a run ends as one of other words exactly where there is no command
 pub words_told : (o : Option Asked) (status : Status) (old new : Outside) → Ends o status old new → (status ≡ Words) ↔ (o ≡ None)
 words_told None status old new (e, same) = (λ _. refl, λ _. e)
-words_told (Some asked) status old new h = (λ e. absurd (not_words (rules_of asked) status old new h.serves e), λ e. cc)
+words_told (Some asked) status old new h = (λ e. absurd (not_words asked status old new h e), λ e. cc)
 
 -- where there is a command, there is none of other words
 pub some_words : {P : Type 0} (asked : Asked) (o : Option Asked) → Some asked ≡ o → (status : Status) (old new : Outside) → Ends o status old new → status ≡ Words → P

@@ -1,6 +1,10 @@
 mod AnswerLemmas
 mod BehindRowsLemmas
 mod CommandLemmas
+mod ConvertAnswerLemmas
+mod ConvertCommandLemmas
+mod ConvertHeadLemmas
+mod ConvertRunLemmas
 mod DayLineLemmas
 mod EndLemmas
 mod GeneratorLemmas

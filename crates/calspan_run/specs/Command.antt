@@ -4,15 +4,18 @@ use Rattle.std.specs.Option.{option_map, option_and_then}
 use Rattle.word_values.specs.Numbers.{number_of}
 use Rattle.request_lines.specs.Words.{is_text}
 use Rattle.request_lines.specs.Reading.{next_word, and_then}
+use Rattle.calspan_run.specs.ConvertAsked.{ConvertAsked, convert_read}
 use Rattle.calspan_run.specs.Asked.{AnniversaryAsked, HolidaysAsked, RecurAsked, anniversary_read, holidays_read, recur_of}
 
--- answers to the lines of an input, counts and sums over the answers to so many requests, or a list
+-- answers to the lines of an input, counts and sums over the answers to so many requests, a list, or dates in a second
+-- calendar
 pub data Asked : Type 0 where
   Span : Asked
   Generate : ℕ → Asked
   Anniversary : AnniversaryAsked → Asked
   Recur : RecurAsked → Asked
   Holidays : HolidaysAsked → Asked
+  Convert : ConvertAsked → Asked
 
 -- a number of requests
 abbrev pub few_requests : ℕ → Option ℕ
@@ -37,13 +40,17 @@ anniversary_of words = and_then (anniversary_read words) (λ asked words. at_end
 abbrev pub holidays_of : List (List ℕ) → Option Asked
 holidays_of words = and_then (holidays_read words) (λ asked words. at_end (Holidays asked) words)
 
+abbrev pub convert_of : List (List ℕ) → Option Asked
+convert_of words = and_then (convert_read words) (λ asked words. at_end (Convert asked) words)
+
 abbrev pub named_of : List ℕ → List (List ℕ) → Option Asked
 named_of name words =
     if is_text name (codes "span") then at_end Span words
     else (if is_text name (codes "gen") then generate_of words
     else (if is_text name (codes "anniversary") then anniversary_of words
     else (if is_text name (codes "recur") then option_map Recur (recur_of words)
-    else (if is_text name (codes "holidays") then holidays_of words else None))))
+    else (if is_text name (codes "holidays") then holidays_of words
+    else (if is_text name (codes "convert") then convert_of words else None)))))
 
 -- the word `span` alone; the word `gen` and a number of requests; or the name of a list and its words
 abbrev pub command_of : List (List ℕ) → Option Asked
@@ -57,3 +64,4 @@ is_command (Generate n) = n ≤ 100000
 is_command (Anniversary asked) = ⊤
 is_command (Recur asked) = ⊤
 is_command (Holidays asked) = ⊤
+is_command (Convert asked) = ⊤

@@ -1,21 +1,23 @@
 -- How a run of any command ends, and how the program does.
 use Rattle.std.specs.Prelude.{◌≡◌, ◌≢◌, ◌≤◌, ℕ, true, List, ◌⊎◌, Option, Some, None, IfSome, length}
-use Rattle.calspan_run.specs.Command.{Asked, Span, Generate, Anniversary, Recur, Holidays, command_of}
+use Rattle.calspan_run.specs.Command.{Asked, Span, Generate, Anniversary, Recur, Holidays, Convert, command_of}
 use Rattle.calspan_run.specs.ListTexts.{ListsAnniversaries, ListsOccurrences}
 use Rattle.calspan_run.specs.Rules.{generator_rules, holiday_rules, list_rules, span_rules}
 use Rattle.calspan_run.specs.Run.{Outside, NoFault, limit}
 use Rattle.calspan_run.specs.Serving.{IsAnswered, Rules, Serves}
 use Rattle.calspan_run.specs.Status.{code_of}
+use Rattle.calspan_run.specs.Streaming.{RunsStream, Streams, convert_rules}
 use Rattle.calspan_run.specs.declared.status.Status.{Status}
 use Rattle.calspan_run.specs.declared.status.Status.TheVariants.{NoMemory, Words}
 
--- what a run of a command is held to
-abbrev pub rules_of : Asked → Rules
-rules_of Span = span_rules
-rules_of (Generate count) = generator_rules count
-rules_of (Anniversary asked) = list_rules (ListsAnniversaries asked)
-rules_of (Recur asked) = list_rules (ListsOccurrences asked)
-rules_of (Holidays asked) = holiday_rules asked
+-- how a run of a command ends; that of `convert` takes any number of bytes
+abbrev pub ServesAs : Asked → Status → Outside → Outside → Type 0
+ServesAs Span status old new = Serves span_rules status old new
+ServesAs (Generate count) status old new = Serves (generator_rules count) status old new
+ServesAs (Anniversary asked) status old new = Serves (list_rules (ListsAnniversaries asked)) status old new
+ServesAs (Recur asked) status old new = Serves (list_rules (ListsOccurrences asked)) status old new
+ServesAs (Holidays asked) status old new = Serves (holiday_rules asked) status old new
+ServesAs (Convert asked) status old new = Streams (convert_rules asked) status old new
 
 -- how a run ended, and what it took and wrote; and over every input within the limit, with no fault and with memory,
 -- all of its text is written
@@ -25,10 +27,19 @@ pub record Runs (c : Rules) (status : Status) (old new : Outside) : Type 0 where
       (λ input. length input ≤ limit → NoFault old new → (c.MayLack input true → status ≢ NoMemory)
       → IsAnswered c old new status input)
 
+-- the same of any command
+abbrev pub RunsAs : Asked → Status → Outside → Outside → Type 0
+RunsAs Span status old new = Runs span_rules status old new
+RunsAs (Generate count) status old new = Runs (generator_rules count) status old new
+RunsAs (Anniversary asked) status old new = Runs (list_rules (ListsAnniversaries asked)) status old new
+RunsAs (Recur asked) status old new = Runs (list_rules (ListsOccurrences asked)) status old new
+RunsAs (Holidays asked) status old new = Runs (holiday_rules asked) status old new
+RunsAs (Convert asked) status old new = RunsStream (convert_rules asked) status old new
+
 -- the command ran; or there is none, and nothing was read or written
 abbrev pub Ends : Option Asked → Status → Outside → Outside → Type 0
 Ends None status old new = (status ≡ Words) × (new ≡ old)
-Ends (Some asked) status old new = Runs (rules_of asked) status old new
+Ends (Some asked) status old new = RunsAs asked status old new
 
 -- the program's exit code is that of the run over its words; or there was no memory for the words, and nothing was read
 -- or written

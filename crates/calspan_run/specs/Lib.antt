@@ -6,9 +6,15 @@ pub mod Command
 pub mod CommandRuns
 pub mod CommandSaid
 pub mod CommandWordsLeft
+pub mod ConvertAsked
+pub mod ConvertSaid
+pub mod ConvertTexts
+pub mod Converted
+pub mod Converting
 pub mod DayLines
 pub mod Endings
 pub mod Generator
+pub mod Heading
 pub mod HolidayEndings
 pub mod HolidayLines
 pub mod HolidayRuns
@@ -25,6 +31,7 @@ pub mod Run
 pub mod Serving
 pub mod SpacedWords
 pub mod Status
+pub mod Streaming
 pub mod TableTexts
 pub mod TextSoFar
 pub mod TotalBounds

@@ -2,12 +2,13 @@
 ghost use Rattle.std.specs.Prelude.{◌≡◌, ◌≤◌, IfSome, string_bytes, map};
 ghost use Rattle.std.specs.Option.{option_map};
 ghost use Rattle.request_lines.specs.Reading.{IsReading, next_word};
-ghost use Rattle.calspan_run.specs.Command.{anniversary_of, at_end, command_of, count_of, generate_of, holidays_of, is_command};
+ghost use Rattle.calspan_run.specs.Command.{anniversary_of, at_end, command_of, convert_of, count_of, generate_of, holidays_of, is_command};
 ghost use Rattle.calspan_run.specs.CommandWordsLeft.{words_left};
 ghost use Rattle.calspan_run.specs.SpacedWords.{words_in};
 
 use crate::anniversary::words::{AnniversaryWords, read_anniversary};
 use crate::command_words::CommandWords;
+use crate::convert::words::{ConvertWords, read_convert};
 use crate::holidays::words::{HolidayWords, read_holidays};
 use crate::recur::words::{RecurWords, read_recur};
 use word_values::read_number;
@@ -28,6 +29,8 @@ pub enum Command<'a> {
     Recur(RecurWords<'a>),
     /// `holidays FIRST LAST`: list the holidays of a book.
     Holidays(HolidayWords),
+    /// `convert CAL SHOWN constrain|reject`: write the date of each line in a second calendar.
+    Convert(ConvertWords),
 }
 
 ghost use Rattle.calspan_run.specs.CommandSaid.{command_said};
@@ -81,6 +84,15 @@ fn read_window(mut words: CommandWords<'_>) -> Option<Command<'_>>
     at_end(Command::Holidays(asked), &words)
 }
 
+/// Reads the arguments of `convert`, which are all remaining words.
+fn read_conversion(mut words: CommandWords<'_>) -> Option<Command<'_>>
+    ensures said { option_map command_said result ≡ convert_of (words_left words.entry) }
+    ensures few { IfSome result (λ c. is_command (command_said c)) }
+{
+    let asked = read_convert(&mut words)?;
+    at_end(Command::Convert(asked), &words)
+}
+
 /// Reads a command from all remaining words.
 fn read_words(mut words: CommandWords<'_>) -> Option<Command<'_>>
     ensures said { option_map command_said result ≡ command_of (words_left words.entry) }
@@ -100,7 +112,10 @@ fn read_words(mut words: CommandWords<'_>) -> Option<Command<'_>>
         return Some(Command::Recur(read_recur(words)?));
     }
     if name == b"holidays".as_slice() {
-        read_window(words)
+        return read_window(words);
+    }
+    if name == b"convert".as_slice() {
+        read_conversion(words)
     } else {
         None
     }

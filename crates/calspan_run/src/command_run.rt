@@ -2,13 +2,13 @@
 ghost use Rattle.std.specs.Prelude.{◌≡◌, ℕ, Option, Some, None, IfSome, ◌↔◌, map, string_bytes};
 ghost use Rattle.std.specs.Option.{option_map};
 ghost use Rattle.calspan_run.specs.Command.{Asked, Generate, command_of, is_command};
-ghost use Rattle.calspan_run.specs.CommandRuns.{Ends, rules_of};
+ghost use Rattle.calspan_run.specs.CommandRuns.{Ends, ServesAs};
 ghost use Rattle.calspan_run.specs.CommandSaid.{command_said};
 ghost use Rattle.calspan_run.specs.Run.{outside};
-ghost use Rattle.calspan_run.specs.Serving.{Serves};
 ghost use Rattle.calspan_run.specs.SpacedWords.{words_in};
 
 use crate::command::{Command, read_command, read_command_text};
+use crate::convert::serving::serve_convert;
 use crate::generated::generating::serve_totals;
 use crate::holidays::listing::serve_holidays;
 use crate::lists::serve_list;
@@ -28,7 +28,7 @@ fn run_command<S: Source, K: Sink>(
     ensures unread { (count : ℕ) → command_said command.entry ≡ Generate count → source.new ≡ source.old }
     ensures ends { let old = outside (S.left source.old) (K.taken sink.old) (S.faults source.old) (K.faults sink.old) in
         let new = outside (S.left source.new) (K.taken sink.new) (S.faults source.new) (K.faults sink.new) in
-        Serves (rules_of (command_said command.entry)) result old new }
+        ServesAs (command_said command.entry) result old new }
 {
     match command {
         Command::Span => serve_span(alloc, source, sink),
@@ -36,6 +36,7 @@ fn run_command<S: Source, K: Sink>(
         Command::Anniversary(asked) => serve_list(alloc, &asked, source, sink),
         Command::Recur(asked) => serve_list(alloc, &asked, source, sink),
         Command::Holidays(asked) => serve_holidays(alloc, asked, source, sink),
+        Command::Convert(asked) => serve_convert(alloc, asked, source, sink),
     }
 }
 
@@ -72,6 +73,7 @@ fn run_read<S: Source, K: Sink>(
 /// | `anniversary ..` | row lines | a line for each anniversary | `Done`, `Refused`, `TableRefused` |
 /// | `recur ..` | row lines | a line for each occurrence | `Done`, `Refused`, `TableRefused` |
 /// | `holidays FIRST LAST` | a book | a line for each holiday | `Done`, `Refused` |
+/// | `convert ..` | row lines, then dates | a line for each date | `Done`, `Refused`, `TableRefused` |
 ///
 /// - `span` answers the request lines. Its tables are the row lines before the first request line.
 /// - `gen` counts and sums up the answers to `COUNT` generated requests. `COUNT` is one to six digits, up to 100000.
@@ -82,6 +84,10 @@ fn run_read<S: Source, K: Sink>(
 ///   in `CAL` and the date in `SHOWN`.
 /// - `holidays` reads a book (see [`cal_holidays`]). A line has the date in the ISO calendar and the holiday's name.
 ///   The lines are in order of their days, and on one day in the order of the book.
+///
+/// - `convert CAL SHOWN constrain|reject` writes the date of each line in the calendar `SHOWN`, or `!` and why the line is
+///   bad, and after it the bytes from the line's first tab on. It reads any number of bytes. A bad line doesn't end the
+///   run: the status is `Refused`. There is one answer for each line after the rows and comments at the start.
 ///
 /// A list covers the day numbers from `FIRST` to `LAST` (rata die). If its arguments or its book are invalid, one
 /// `err` line replaces the list. It names the first of these:
@@ -101,12 +107,12 @@ fn run_read<S: Source, K: Sink>(
 /// - `Words`: the words name no command. Nothing was read or written.
 /// - `TableRefused`: a row line is invalid (`table line N syntax`, `range` or `late`), or a table
 ///   (`table NAME ROW PART`). The answers before it and the line about it are written.
-/// - `ReadFault`: the source counted a fault. With `span`, the answers to all lines whose LF was read are written;
+/// - `ReadFault`: the source counted a fault. With `span` and `convert`, the answers to all lines whose LF was read are written;
 ///   otherwise nothing.
 /// - `WriteFault`: the sink counted a fault. A prefix of the text is written; its length isn't specified.
 /// - `TooLong`: the source has more than 16777216 bytes. With `span`, the answers to all lines whose LF is among the
-///   first 16777216 bytes are written; otherwise nothing.
-/// - `NoMemory`: there was no memory for a row of a year, or with `holidays` for the book. Nothing is written. A row
+///   first 16777216 bytes are written; otherwise nothing. With `convert`, 18446744073709551615 reads were made.
+/// - `NoMemory`: there was no memory for a row of a year, with `holidays` for the book, or with `convert` for a line. Nothing is written. A row
 ///   line that is invalid or names an era needs no memory. A book of more than 16777216 bytes is `TooLong`.
 pub fn run<S: Source, K: Sink>(
     alloc: Global,

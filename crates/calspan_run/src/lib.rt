@@ -13,6 +13,7 @@ mod anniversary;
 mod command;
 mod command_run;
 mod command_words;
+mod convert;
 mod day_lines;
 mod endings;
 mod generated;

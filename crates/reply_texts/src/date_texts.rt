@@ -139,8 +139,8 @@ pub fn push_error(text: &mut Pending, error: SpanError)
     text.push(b'\n');
 }
 
-/// Appends a month code.
-fn push_month(text: &mut Pending, month: Month)
+/// Appends a month code, at most 4 bytes.
+pub fn push_month(text: &mut Pending, month: Month)
     requires { array_vec_len text.old + 4 ≤ 8192 }
     ensures items { text.new.items ≡ text.old.items ++ code_text (month_parts month) }
     ensures len { array_vec_len text.new ≤ array_vec_len text.old + 4 }
