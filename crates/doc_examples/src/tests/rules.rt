@@ -1,5 +1,6 @@
 //! The examples of the docs: recurrence rules.
 
+use cal_days::RataDie;
 use cal_rule::{Frequency, RecurrenceRule, RulePart, Skip};
 use icu_calendar::AnyCalendarKind;
 use std::process::Abort;
@@ -9,6 +10,8 @@ use std::test::Fail;
 fn recurrence_rules(rt: HostRuntime) -> Result<(), Fail> {
     let rule = RecurrenceRule::try_from_utf8(b"FREQ=MONTHLY;BYDAY=-1FR", AnyCalendarKind::Iso)?;
     assert!(rt; rule.frequency() == Frequency::Monthly);
+    let until: Option<RataDie> = rule.until();
+    assert!(rt; until.is_none());
 
     let rule = RecurrenceRule::try_from_str("FREQ=DAILY;COUNT=3", AnyCalendarKind::Iso)?;
     assert!(rt; rule.count() == Some(3));
