@@ -54,16 +54,33 @@ fn heap_beside(archive: &Path) -> Option<PathBuf> {
         return Some(beside);
     }
     let paths = env::var_os("PATH")?;
-    let rt = env::split_paths(&paths).map(|it| it.join("rt")).find(|it| it.is_file())?;
-    let heap = rt.canonicalize().ok()?.parent()?.parent()?.join("c").join(HEAP);
+    let rt = env::split_paths(&paths)
+        .map(|it| it.join("rt"))
+        .find(|it| it.is_file())?;
+    let heap = rt
+        .canonicalize()
+        .ok()?
+        .parent()?
+        .parent()?
+        .join("c")
+        .join(HEAP);
     heap.is_file().then_some(heap)
 }
 
 /// Links a static library by its path.
 fn link(archive: &Path) {
-    let name = archive.file_name().and_then(|it| it.to_str()).unwrap_or_default();
-    let Some(name) = name.strip_prefix("lib").and_then(|it| it.strip_suffix(".a")) else {
-        stop(&format!("icu_calendar_proved: {} isn't called lib*.a", archive.display()));
+    let name = archive
+        .file_name()
+        .and_then(|it| it.to_str())
+        .unwrap_or_default();
+    let Some(name) = name
+        .strip_prefix("lib")
+        .and_then(|it| it.strip_suffix(".a"))
+    else {
+        stop(&format!(
+            "icu_calendar_proved: {} isn't called lib*.a",
+            archive.display()
+        ));
     };
     if let Some(folder) = archive.parent() {
         println!("cargo:rustc-link-search=native={}", folder.display());
@@ -75,7 +92,13 @@ fn link(archive: &Path) {
 fn minor_of_rustc() -> u32 {
     let rustc = env::var_os("RUSTC").unwrap_or_else(|| "rustc".into());
     let said = Command::new(rustc).arg("--version").output();
-    let text = said.map(|it| String::from_utf8_lossy(&it.stdout).into_owned()).unwrap_or_default();
+    let text = said
+        .map(|it| String::from_utf8_lossy(&it.stdout).into_owned())
+        .unwrap_or_default();
     let version = text.split_whitespace().nth(1).unwrap_or_default();
-    version.split('.').nth(1).and_then(|it| it.parse().ok()).unwrap_or(0)
+    version
+        .split('.')
+        .nth(1)
+        .and_then(|it| it.parse().ok())
+        .unwrap_or(0)
 }

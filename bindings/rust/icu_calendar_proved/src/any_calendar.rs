@@ -1,11 +1,12 @@
 //! A calendar that is chosen at run time.
 
 use crate::cal::hijri::{
-    AstronomicalSimulation, TabularAlgorithm, TabularAlgorithmEpoch, TabularAlgorithmLeapYears, UmmAlQura,
+    AstronomicalSimulation, TabularAlgorithm, TabularAlgorithmEpoch, TabularAlgorithmLeapYears,
+    UmmAlQura,
 };
 use crate::cal::{
-    Buddhist, ChineseTraditional, Coptic, Ethiopian, EthiopianEraStyle, Gregorian, Hebrew, Hijri, Indian, Iso,
-    Japanese, Julian, KoreanTraditional, Persian, Roc,
+    Buddhist, ChineseTraditional, Coptic, Ethiopian, EthiopianEraStyle, Gregorian, Hebrew, Hijri,
+    Indian, Iso, Japanese, Julian, KoreanTraditional, Persian, Roc,
 };
 use crate::calendar::{AsCalendar, Calendar, Ref, Sealed};
 use crate::date::Date;
@@ -138,8 +139,14 @@ const NAMES: [(&str, AnyCalendarKind); 20] = [
     ("islamic-umalqura", AnyCalendarKind::HijriUmmAlQura),
     ("islamic-civil", AnyCalendarKind::HijriTabularTypeIIFriday),
     ("islamic-tbla", AnyCalendarKind::HijriTabularTypeIIThursday),
-    ("islamic-type1-friday", AnyCalendarKind::HijriTabularTypeIFriday),
-    ("islamic-type1-thursday", AnyCalendarKind::HijriTabularTypeIThursday),
+    (
+        "islamic-type1-friday",
+        AnyCalendarKind::HijriTabularTypeIFriday,
+    ),
+    (
+        "islamic-type1-thursday",
+        AnyCalendarKind::HijriTabularTypeIThursday,
+    ),
     ("islamic-simulated", AnyCalendarKind::HijriSimulatedMecca),
     ("persian", AnyCalendarKind::Persian),
     ("indian", AnyCalendarKind::Indian),
@@ -160,7 +167,10 @@ impl AnyCalendarKind {
     /// assert_eq!(AnyCalendarKind::from_program_name(b"klingon"), None);
     /// ```
     pub fn from_program_name(bytes: &[u8]) -> Option<AnyCalendarKind> {
-        NAMES.iter().find(|(name, _)| name.as_bytes() == bytes).map(|(_, kind)| *kind)
+        NAMES
+            .iter()
+            .find(|(name, _)| name.as_bytes() == bytes)
+            .map(|(_, kind)| *kind)
     }
 
     /// Returns the kind's name in the program `calspan`.
@@ -174,7 +184,10 @@ impl AnyCalendarKind {
     /// ```
     pub fn program_name(self) -> &'static str {
         // The extended Japanese calendar is the Japanese one.
-        NAMES.iter().find(|(_, kind)| *kind == self).map_or("japanese", |(name, _)| *name)
+        NAMES
+            .iter()
+            .find(|(_, kind)| *kind == self)
+            .map_or("japanese", |(name, _)| *name)
     }
 }
 
@@ -205,7 +218,9 @@ impl TryFrom<CalendarAlgorithm> for AnyCalendarKind {
             CalendarAlgorithm::Hijri(Some(HijriCalendarAlgorithm::Tbla)) => {
                 AnyCalendarKind::HijriTabularTypeIIThursday
             }
-            CalendarAlgorithm::Hijri(Some(HijriCalendarAlgorithm::Umalqura)) => AnyCalendarKind::HijriUmmAlQura,
+            CalendarAlgorithm::Hijri(Some(HijriCalendarAlgorithm::Umalqura)) => {
+                AnyCalendarKind::HijriUmmAlQura
+            }
             CalendarAlgorithm::Hijri(Some(HijriCalendarAlgorithm::Rgsa) | None) => return Err(()),
             CalendarAlgorithm::Indian => AnyCalendarKind::Indian,
             CalendarAlgorithm::Iso8601 => AnyCalendarKind::Iso,
@@ -216,7 +231,10 @@ impl TryFrom<CalendarAlgorithm> for AnyCalendarKind {
     }
 }
 
-const fn tabular(leap_years: TabularAlgorithmLeapYears, epoch: TabularAlgorithmEpoch) -> AnyCalendar {
+const fn tabular(
+    leap_years: TabularAlgorithmLeapYears,
+    epoch: TabularAlgorithmEpoch,
+) -> AnyCalendar {
     AnyCalendar::HijriTabular(Hijri::new_tabular(leap_years, epoch))
 }
 
@@ -247,9 +265,13 @@ impl AnyCalendar {
             AnyCalendarKind::Hebrew => AnyCalendar::Hebrew(Hebrew),
             AnyCalendarKind::Indian => AnyCalendar::Indian(Indian),
             AnyCalendarKind::HijriTabularTypeIIFriday => tabular(TypeII, Friday),
-            AnyCalendarKind::HijriSimulatedMecca => AnyCalendar::HijriSimulated(Hijri::new_simulated_mecca()),
+            AnyCalendarKind::HijriSimulatedMecca => {
+                AnyCalendar::HijriSimulated(Hijri::new_simulated_mecca())
+            }
             AnyCalendarKind::HijriTabularTypeIIThursday => tabular(TypeII, Thursday),
-            AnyCalendarKind::HijriUmmAlQura => AnyCalendar::HijriUmmAlQura(Hijri::new_umm_al_qura()),
+            AnyCalendarKind::HijriUmmAlQura => {
+                AnyCalendar::HijriUmmAlQura(Hijri::new_umm_al_qura())
+            }
             AnyCalendarKind::Iso => AnyCalendar::Iso(Iso),
             AnyCalendarKind::Japanese => AnyCalendar::Japanese(Japanese),
             AnyCalendarKind::JapaneseExtended => AnyCalendar::JapaneseExtended(Japanese),

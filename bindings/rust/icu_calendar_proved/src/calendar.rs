@@ -105,7 +105,12 @@ pub trait Calendar: Sealed {
     ///
     /// assert!(Iso.new_date(2024.into(), Month::new(13), 1).is_err());
     /// ```
-    fn new_date(&self, year: YearInput<'_>, month: Month, day: u8) -> Result<Self::DateInner, DateNewError> {
+    fn new_date(
+        &self,
+        year: YearInput<'_>,
+        month: Month,
+        day: u8,
+    ) -> Result<Self::DateInner, DateNewError> {
         naming::new_date(self.chosen(), year, month, day).map(Self::DateInner::of_parts)
     }
 
@@ -128,7 +133,9 @@ pub trait Calendar: Sealed {
         fields: DateFields<'_>,
         options: DateFromFieldsOptions,
     ) -> Result<Self::DateInner, DateFromFieldsError> {
-        self.chosen().date_of_fields(&fields, options).map(Self::DateInner::of_parts)
+        self.chosen()
+            .date_of_fields(&fields, options)
+            .map(Self::DateInner::of_parts)
     }
 
     /// Returns the date of a day number, clamped to the valid range.
@@ -252,7 +259,9 @@ pub trait Calendar: Sealed {
     /// ```
     fn days_in_month(&self, date: &Self::DateInner) -> u8 {
         let parts = date.parts();
-        parts.chosen().days_in_month(parts.extended_year, parts.ordinal_month)
+        parts
+            .chosen()
+            .days_in_month(parts.extended_year, parts.ordinal_month)
     }
 
     /// Returns `true` if the year is a leap year of the calendar.
@@ -368,7 +377,10 @@ pub trait Calendar: Sealed {
         options: DateAddOptions,
     ) -> Result<Self::DateInner, DateAddError> {
         let parts = date.parts();
-        parts.chosen().add(parts.day_number(), duration, options).map(Self::DateInner::of_parts)
+        parts
+            .chosen()
+            .add(parts.day_number(), duration, options)
+            .map(Self::DateInner::of_parts)
     }
 
     /// Returns the difference between two dates of calendars that are compatible, as
@@ -391,7 +403,9 @@ pub trait Calendar: Sealed {
         options: DateDifferenceOptions,
     ) -> DateDuration {
         let (first, second) = (date1.parts(), date2.parts());
-        first.chosen().until(first.day_number(), second.day_number(), options)
+        first
+            .chosen()
+            .until(first.day_number(), second.day_number(), options)
     }
 }
 

@@ -39,7 +39,10 @@ pub struct DateInner<C> {
 impl<C: Calendar> HasParts for DateInner<C> {
     #[inline]
     fn of_parts(parts: Parts) -> Self {
-        DateInner { parts, of: PhantomData }
+        DateInner {
+            parts,
+            of: PhantomData,
+        }
     }
 
     #[inline]
@@ -83,7 +86,15 @@ impl<C> Hash for DateInner<C> {
 
 impl<C> fmt::Debug for DateInner<C> {
     fn fmt(&self, f: &mut fmt::Formatter<'_>) -> fmt::Result {
-        let (year, month, day) = (self.parts.extended_year, self.parts.ordinal_month, self.parts.day);
-        f.debug_tuple("DateInner").field(&year).field(&month).field(&day).finish()
+        let (year, month, day) = (
+            self.parts.extended_year,
+            self.parts.ordinal_month,
+            self.parts.day,
+        );
+        f.debug_tuple("DateInner")
+            .field(&year)
+            .field(&month)
+            .field(&day)
+            .finish()
     }
 }

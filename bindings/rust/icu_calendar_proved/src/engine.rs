@@ -67,7 +67,10 @@ impl Chosen {
 
     fn family(self) -> Chosen {
         match self.code {
-            codes::ETHIOAA => Chosen { code: codes::ETHIOPIC, ..self },
+            codes::ETHIOAA => Chosen {
+                code: codes::ETHIOPIC,
+                ..self
+            },
             _ => self,
         }
     }
@@ -259,7 +262,13 @@ impl Chosen {
             days: duration.days,
             is_negative: u8::from(duration.is_negative),
         };
-        match ffi::add(self.code, self.years, day, &raw, overflow_code(options.overflow)) {
+        match ffi::add(
+            self.code,
+            self.years,
+            day,
+            &raw,
+            overflow_code(options.overflow),
+        ) {
             Ok(raw) => Ok(Parts::of(raw, self)),
             Err(refusal) => Err(add_error(refusal)),
         }
@@ -267,8 +276,19 @@ impl Chosen {
 
     /// Computes the difference between the dates of two valid day numbers.
     #[inline]
-    pub(crate) fn until(self, first: i64, second: i64, options: DateDifferenceOptions) -> DateDuration {
-        match ffi::until(self.code, self.years, first, second, unit_code(options.largest_unit)) {
+    pub(crate) fn until(
+        self,
+        first: i64,
+        second: i64,
+        options: DateDifferenceOptions,
+    ) -> DateDuration {
+        match ffi::until(
+            self.code,
+            self.years,
+            first,
+            second,
+            unit_code(options.largest_unit),
+        ) {
             Ok(raw) => DateDuration {
                 is_negative: raw.is_negative != 0,
                 years: raw.years,

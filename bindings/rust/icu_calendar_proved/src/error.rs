@@ -314,8 +314,18 @@ pub enum ParseError {
 /// Converts to [`DateError::Range`] with the same fields.
 impl From<RangeError> for DateError {
     fn from(e: RangeError) -> DateError {
-        let RangeError { field, value, min, max } = e;
-        DateError::Range { field, value, min, max }
+        let RangeError {
+            field,
+            value,
+            min,
+            max,
+        } = e;
+        DateError::Range {
+            field,
+            value,
+            min,
+            max,
+        }
     }
 }
 
@@ -365,15 +375,34 @@ fn write_day(f: &mut fmt::Formatter<'_>, max: u8) -> fmt::Result {
 
 impl fmt::Display for RangeError {
     fn fmt(&self, f: &mut fmt::Formatter<'_>) -> fmt::Result {
-        let RangeError { field, value, min, max } = self;
-        write!(f, "The {field} = {value} argument is out of range {min}..={max}")
+        let RangeError {
+            field,
+            value,
+            min,
+            max,
+        } = self;
+        write!(
+            f,
+            "The {field} = {value} argument is out of range {min}..={max}"
+        )
     }
 }
 
 impl fmt::Display for DateError {
     fn fmt(&self, f: &mut fmt::Formatter<'_>) -> fmt::Result {
         match *self {
-            DateError::Range { field, value, min, max } => RangeError { field, value, min, max }.fmt(f),
+            DateError::Range {
+                field,
+                value,
+                min,
+                max,
+            } => RangeError {
+                field,
+                value,
+                min,
+                max,
+            }
+            .fmt(f),
             DateError::UnknownEra => f.write_str("Unknown era"),
         }
     }

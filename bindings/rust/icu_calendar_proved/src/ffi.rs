@@ -65,7 +65,12 @@ mod raw {
     use super::{RawDate, RawDuration, RawFields};
 
     extern "C" {
-        pub(super) fn icu_calendar_date_of_day(calendar: u8, years: u8, day: i64, date: *mut RawDate) -> u8;
+        pub(super) fn icu_calendar_date_of_day(
+            calendar: u8,
+            years: u8,
+            day: i64,
+            date: *mut RawDate,
+        ) -> u8;
         pub(super) fn icu_calendar_date_of_fields(
             calendar: u8,
             years: u8,
@@ -186,8 +191,11 @@ pub(crate) fn add(
     let mut date = RawDate::default();
     let mut max = 0;
     // SAFETY: `date` and `max` are two locals of the header's layout, and `duration` is a borrowed struct of it.
-    let code =
-        unsafe { raw::icu_calendar_add(calendar, years, day, duration, overflow, &mut date, &mut max) };
+    let code = unsafe {
+        raw::icu_calendar_add(
+            calendar, years, day, duration, overflow, &mut date, &mut max,
+        )
+    };
     if code == 0 {
         Ok(date)
     } else {
@@ -197,10 +205,17 @@ pub(crate) fn add(
 
 /// Computes the difference between the dates of two day numbers.
 #[inline]
-pub(crate) fn until(calendar: u8, years: u8, first: i64, second: i64, unit: u8) -> Result<RawDuration, u8> {
+pub(crate) fn until(
+    calendar: u8,
+    years: u8,
+    first: i64,
+    second: i64,
+    unit: u8,
+) -> Result<RawDuration, u8> {
     let mut duration = RawDuration::default();
     // SAFETY: `duration` is a local of the header's layout.
-    let code = unsafe { raw::icu_calendar_until(calendar, years, first, second, unit, &mut duration) };
+    let code =
+        unsafe { raw::icu_calendar_until(calendar, years, first, second, unit, &mut duration) };
     if code == 0 {
         Ok(duration)
     } else {
@@ -210,11 +225,23 @@ pub(crate) fn until(calendar: u8, years: u8, first: i64, second: i64, unit: u8) 
 
 /// Writes the code of the era of a day's year to the start of a room, and returns its length.
 #[inline]
-pub(crate) fn era_of_day(calendar: u8, years: u8, day: i64, room: &mut [u8; 16]) -> Result<usize, u8> {
+pub(crate) fn era_of_day(
+    calendar: u8,
+    years: u8,
+    day: i64,
+    room: &mut [u8; 16],
+) -> Result<usize, u8> {
     let mut written = 0;
     // SAFETY: the room is borrowed for writing, with its own length, and `written` is a local.
     let code = unsafe {
-        raw::icu_calendar_era_of_day(calendar, years, day, room.as_mut_ptr(), room.len(), &mut written)
+        raw::icu_calendar_era_of_day(
+            calendar,
+            years,
+            day,
+            room.as_mut_ptr(),
+            room.len(),
+            &mut written,
+        )
     };
     if code == 0 {
         Ok(written)

@@ -25,7 +25,10 @@ fn place(year: i32, ordinal_month: u8, day: u8) -> DateFields<'static> {
 /// Returns the greatest number that an error names, which for a valid year it does.
 fn greatest(answer: Result<Parts, DateFromFieldsError>) -> u8 {
     match answer {
-        Err(DateFromFieldsError::InvalidOrdinalMonth { max } | DateFromFieldsError::InvalidDay { max }) => max,
+        Err(
+            DateFromFieldsError::InvalidOrdinalMonth { max }
+            | DateFromFieldsError::InvalidDay { max },
+        ) => max,
         Ok(_) | Err(_) => unreachable!("no year has 255 months, and no month 255 days"),
     }
 }
@@ -49,7 +52,9 @@ impl Chosen {
 
     /// Returns the number of days in the first so many months of the year of a date.
     fn days_before(self, year: i32, months: u8) -> u16 {
-        (1..=months).map(|month| u16::from(self.days_in_month(year, month))).sum()
+        (1..=months)
+            .map(|month| u16::from(self.days_in_month(year, month)))
+            .sum()
     }
 
     /// Returns the number of days in the year of a date.
@@ -64,7 +69,9 @@ impl Chosen {
     pub(crate) fn day_of_year(self, date: &Parts) -> u16 {
         match self.year_start(date.extended_year) {
             Some(first) => (date.day_number() - first) as u16 + 1,
-            None => self.days_before(date.extended_year, date.ordinal_month - 1) + u16::from(date.day),
+            None => {
+                self.days_before(date.extended_year, date.ordinal_month - 1) + u16::from(date.day)
+            }
         }
     }
 

@@ -2,7 +2,8 @@
 
 use crate::engine::{codes, Parts};
 use crate::types::{
-    Beside, CyclicYear, EraYear, LeapStatus, Month, MonthInfo, TinyAsciiStr, YearAmbiguity, YearInfo,
+    Beside, CyclicYear, EraYear, LeapStatus, Month, MonthInfo, TinyAsciiStr, YearAmbiguity,
+    YearInfo,
 };
 
 /// The place that Adar has in a Hebrew leap year, behind Adar I.
@@ -53,7 +54,11 @@ impl OfParts for YearInfo {
 type Era = (TinyAsciiStr<16>, Option<u8>, YearAmbiguity);
 
 const fn era(code: &str, index: u8, ambiguity: YearAmbiguity) -> Era {
-    (TinyAsciiStr::of_text(code.as_bytes()), Some(index), ambiguity)
+    (
+        TinyAsciiStr::of_text(code.as_bytes()),
+        Some(index),
+        ambiguity,
+    )
 }
 
 /// Returns an era whose years are read with their century.
@@ -83,7 +88,11 @@ fn japanese_era(parts: &Parts) -> Era {
         1925 => plain("showa", 4),
         1988 => plain("heisei", 5),
         2018 => plain("reiwa", 6),
-        _ => (parts.chosen().era(parts.day_number()), None, YearAmbiguity::CenturyRequired),
+        _ => (
+            parts.chosen().era(parts.day_number()),
+            None,
+            YearAmbiguity::CenturyRequired,
+        ),
     }
 }
 
@@ -134,9 +143,12 @@ pub(crate) fn month_info(parts: &Parts) -> MonthInfo {
         return MonthInfo::new(place, month, month, Beside::Known(LeapStatus::Leap));
     }
     match parts.chosen().code() {
-        codes::HEBREW if place == ADAR_IN_LEAP_YEAR && month.number() < place => {
-            MonthInfo::new(place, month, Month::leap(6), Beside::Known(LeapStatus::Base))
-        }
+        codes::HEBREW if place == ADAR_IN_LEAP_YEAR && month.number() < place => MonthInfo::new(
+            place,
+            month,
+            Month::leap(6),
+            Beside::Known(LeapStatus::Base),
+        ),
         // A month in the place of its number has no leap month before it, and may have one behind it.
         codes::CHINESE | codes::DANGI if place == month.number() => {
             let beside = Beside::Next(parts.chosen(), parts.extended_year);

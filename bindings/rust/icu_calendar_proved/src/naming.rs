@@ -40,14 +40,16 @@ pub(crate) fn new_date(
         }
         _ => return Err(DateNewError::InvalidYear),
     }
-    chosen.date_of_fields(&fields, REJECT).map_err(|error| match error {
-        DateFromFieldsError::InvalidEra => DateNewError::InvalidEra,
-        DateFromFieldsError::MonthNotInCalendar => DateNewError::MonthNotInCalendar,
-        DateFromFieldsError::MonthNotInYear => DateNewError::MonthNotInYear,
-        DateFromFieldsError::InvalidDay { max } => DateNewError::InvalidDay { max },
-        // A small year with a month and a day has no other error.
-        _ => DateNewError::InvalidYear,
-    })
+    chosen
+        .date_of_fields(&fields, REJECT)
+        .map_err(|error| match error {
+            DateFromFieldsError::InvalidEra => DateNewError::InvalidEra,
+            DateFromFieldsError::MonthNotInCalendar => DateNewError::MonthNotInCalendar,
+            DateFromFieldsError::MonthNotInYear => DateNewError::MonthNotInYear,
+            DateFromFieldsError::InvalidDay { max } => DateNewError::InvalidDay { max },
+            // A small year with a month and a day has no other error.
+            _ => DateNewError::InvalidYear,
+        })
 }
 
 fn year_error(year: i32) -> RangeError {
@@ -81,8 +83,14 @@ fn date_of<A: AsCalendar>(
     fields: &DateFields<'_>,
     calendar: A,
 ) -> Result<Date<A>, DateFromFieldsError> {
-    let parts = calendar.as_calendar().chosen().date_of_fields(fields, REJECT)?;
-    Ok(Date::of_inner(<A::Calendar as Calendar>::DateInner::of_parts(parts), calendar))
+    let parts = calendar
+        .as_calendar()
+        .chosen()
+        .date_of_fields(fields, REJECT)?;
+    Ok(Date::of_inner(
+        <A::Calendar as Calendar>::DateInner::of_parts(parts),
+        calendar,
+    ))
 }
 
 /// Creates a date of an extended year, the number of a month, and a day.
@@ -102,7 +110,17 @@ pub(crate) fn placed<A: AsCalendar>(
         ..DateFields::default()
     };
     date_of(&fields, calendar).map_err(|error| match number_error(error, month, day) {
-        DateError::Range { field, value, min, max } => RangeError { field, value, min, max },
+        DateError::Range {
+            field,
+            value,
+            min,
+            max,
+        } => RangeError {
+            field,
+            value,
+            min,
+            max,
+        },
         // There is no era in these fields.
         DateError::UnknownEra => year_error(year),
     })

@@ -108,4 +108,3 @@ pub struct DateDifferenceOptions {
     /// The largest unit of the duration. The default is [`DateDurationUnit::Days`].
     pub largest_unit: Option<DateDurationUnit>,
 }
-

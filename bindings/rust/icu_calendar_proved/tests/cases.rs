@@ -8,14 +8,23 @@ use std::fs;
 fn compare(name: &str) {
     let read = |end: &str| fs::read(common::top().join(format!("cases/{name}.{end}"))).unwrap();
     let (requests, answers) = (read("in"), read("out"));
-    let (requests, answers) = (String::from_utf8_lossy(&requests), String::from_utf8_lossy(&answers));
-    let asked = requests.lines().filter(|line| !line.is_empty() && !line.starts_with('#'));
+    let (requests, answers) = (
+        String::from_utf8_lossy(&requests),
+        String::from_utf8_lossy(&answers),
+    );
+    let asked = requests
+        .lines()
+        .filter(|line| !line.is_empty() && !line.starts_with('#'));
     let mut compared = 0;
     for (line, wanted) in asked.zip(answers.lines()) {
         if wanted.starts_with("err line") {
             continue;
         }
-        assert_eq!(common::answer(line, |name| common::computed(name).unwrap()), wanted, "{name}: {line}");
+        assert_eq!(
+            common::answer(line, |name| common::computed(name).unwrap()),
+            wanted,
+            "{name}: {line}"
+        );
         compared += 1;
     }
     assert!(compared > 200, "{name}: {compared} requests");

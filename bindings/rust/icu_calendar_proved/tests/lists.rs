@@ -33,7 +33,9 @@ fn texts(line: &str) -> Vec<String> {
                     'f' => text.push('\u{c}'),
                     'u' => {
                         let digits: String = chars.by_ref().take(4).collect();
-                        text.push(char::from_u32(u32::from_str_radix(&digits, 16).unwrap()).unwrap());
+                        text.push(
+                            char::from_u32(u32::from_str_radix(&digits, 16).unwrap()).unwrap(),
+                        );
                     }
                     other => text.push(other),
                 },
@@ -55,12 +57,20 @@ fn case(line: &str) -> Case {
     let source = texts.pop().unwrap();
     assert_eq!(texts.pop().unwrap(), "source");
     let are_words_wrong = line.ends_with("\"status\": 2}");
-    Case { words: texts, source, out, are_words_wrong }
+    Case {
+        words: texts,
+        source,
+        out,
+        are_words_wrong,
+    }
 }
 
 fn cases(command: &str) -> Vec<Case> {
     let lines = fs::read_to_string(common::top().join("cases/lists.jsonl")).unwrap();
-    let all = lines.lines().map(case).filter(|case| case.words[0] == command);
+    let all = lines
+        .lines()
+        .map(case)
+        .filter(|case| case.words[0] == command);
     let cases: Vec<Case> = all.collect();
     assert!(cases.len() > 100, "{command}: {}", cases.len());
     cases
@@ -68,7 +78,9 @@ fn cases(command: &str) -> Vec<Case> {
 
 /// Returns whether a case is about words, rows or lines, which are the program's own business.
 fn is_about_lines(case: &Case) -> bool {
-    case.are_words_wrong || case.source.lines().any(|line| line.starts_with("row")) || case.out.starts_with("err line")
+    case.are_words_wrong
+        || case.source.lines().any(|line| line.starts_with("row"))
+        || case.out.starts_with("err line")
 }
 
 fn window(first: &str, last: &str) -> Option<Window> {
@@ -77,16 +89,31 @@ fn window(first: &str, last: &str) -> Option<Window> {
 }
 
 fn list_anniversaries(words: &[&str]) -> String {
-    let &[_, calendar, shown, leaping, code, day, first, last] = words else { panic!("{words:?}") };
-    let (calendar, shown) = (common::computed(calendar).unwrap(), common::computed(shown).unwrap());
-    let Some(window) = window(first, last) else { return "err InvalidWindow\n".to_owned() };
-    let leaping = if leaping == "exact" { Leaping::Exact } else { Leaping::Constrain };
+    let &[_, calendar, shown, leaping, code, day, first, last] = words else {
+        panic!("{words:?}")
+    };
+    let (calendar, shown) = (
+        common::computed(calendar).unwrap(),
+        common::computed(shown).unwrap(),
+    );
+    let Some(window) = window(first, last) else {
+        return "err InvalidWindow\n".to_owned();
+    };
+    let leaping = if leaping == "exact" {
+        Leaping::Exact
+    } else {
+        Leaping::Constrain
+    };
     let month = Month::try_from_str(code).unwrap();
     match anniversaries(calendar, month, day.parse().unwrap(), leaping, window) {
         Ok(days) => days
             .map(|day| {
                 let date = Date::from_rata_die(day, calendar);
-                format!("{} {}\n", common::shown(&date), common::shown(&date.to_calendar(shown)))
+                format!(
+                    "{} {}\n",
+                    common::shown(&date),
+                    common::shown(&date.to_calendar(shown))
+                )
             })
             .collect(),
         Err(AnniversaryError::MonthNotInCalendar) => "err MonthNotInCalendar\n".to_owned(),
@@ -95,11 +122,23 @@ fn list_anniversaries(words: &[&str]) -> String {
 }
 
 fn list_recurrences(words: &[&str]) -> String {
-    let &[_, calendar, shown, unit, every, missing, first, last, ref fields @ ..] = words else { panic!("{words:?}") };
-    let (calendar, shown) = (common::computed(calendar).unwrap(), common::computed(shown).unwrap());
-    let Some(window) = window(first, last) else { return "err InvalidWindow\n".to_owned() };
-    let missing = if missing == "skip" { Missing::Skip } else { Missing::Constrain };
-    let Some(rule) = Rule::try_new(common::unit(unit).unwrap(), every.parse().unwrap(), missing) else {
+    let &[_, calendar, shown, unit, every, missing, first, last, ref fields @ ..] = words else {
+        panic!("{words:?}")
+    };
+    let (calendar, shown) = (
+        common::computed(calendar).unwrap(),
+        common::computed(shown).unwrap(),
+    );
+    let Some(window) = window(first, last) else {
+        return "err InvalidWindow\n".to_owned();
+    };
+    let missing = if missing == "skip" {
+        Missing::Skip
+    } else {
+        Missing::Constrain
+    };
+    let Some(rule) = Rule::try_new(common::unit(unit).unwrap(), every.parse().unwrap(), missing)
+    else {
         return "err Every\n".to_owned();
     };
     let start = match Date::try_from_fields(common::fields(fields), Default::default(), calendar) {
@@ -108,20 +147,36 @@ fn list_recurrences(words: &[&str]) -> String {
     };
     let items = start.recur(rule, window).map(|item| {
         let date = Date::from_rata_die(item.day, calendar);
-        format!("{} {} {}\n", item.index, common::shown(&date), common::shown(&date.to_calendar(shown)))
+        format!(
+            "{} {} {}\n",
+            item.index,
+            common::shown(&date),
+            common::shown(&date.to_calendar(shown))
+        )
     });
     items.collect()
 }
 
 fn list_holidays(words: &[&str], source: &str) -> String {
-    let &[_, first, last] = words else { panic!("{words:?}") };
-    let Some(window) = window(first, last) else { return "err InvalidWindow\n".to_owned() };
+    let &[_, first, last] = words else {
+        panic!("{words:?}")
+    };
+    let Some(window) = window(first, last) else {
+        return "err InvalidWindow\n".to_owned();
+    };
     let book = match Book::try_read(source.as_bytes()) {
         Ok(book) => book,
         Err(error) => return format!("err record {} field {}\n", error.number, error.field),
     };
     let days = holidays(&book, Years::Computed, window, 0);
-    days.map(|it| format!("{} {}\n", common::shown(&Date::from_rata_die(it.day, Iso)), book.name(it.rule))).collect()
+    days.map(|it| {
+        format!(
+            "{} {}\n",
+            common::shown(&Date::from_rata_die(it.day, Iso)),
+            book.name(it.rule)
+        )
+    })
+    .collect()
 }
 
 fn compare(command: &str, list: impl Fn(&[&str], &Case) -> String) {

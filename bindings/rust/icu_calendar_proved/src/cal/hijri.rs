@@ -90,7 +90,9 @@ impl<R: Rules> Calendar for Hijri<R> {
     }
 
     fn calendar_algorithm(&self) -> Option<CalendarAlgorithm> {
-        self.0.algorithm().map(|kind| CalendarAlgorithm::Hijri(Some(kind)))
+        self.0
+            .algorithm()
+            .map(|kind| CalendarAlgorithm::Hijri(Some(kind)))
     }
 
     fn debug_name(&self) -> &'static str {
@@ -198,7 +200,10 @@ impl TabularAlgorithm {
     /// let rules = TabularAlgorithm::new(TabularAlgorithmLeapYears::TypeI, TabularAlgorithmEpoch::Friday);
     /// assert_eq!(rules, rules.clone());
     /// ```
-    pub const fn new(leap_years: TabularAlgorithmLeapYears, epoch: TabularAlgorithmEpoch) -> TabularAlgorithm {
+    pub const fn new(
+        leap_years: TabularAlgorithmLeapYears,
+        epoch: TabularAlgorithmEpoch,
+    ) -> TabularAlgorithm {
         TabularAlgorithm { leap_years, epoch }
     }
 
@@ -331,10 +336,18 @@ impl Sealed for TabularAlgorithm {
     #[inline]
     fn chosen(&self) -> Chosen {
         Chosen::published(match (self.leap_years, self.epoch) {
-            (TabularAlgorithmLeapYears::TypeII, TabularAlgorithmEpoch::Friday) => codes::ISLAMIC_CIVIL,
-            (TabularAlgorithmLeapYears::TypeII, TabularAlgorithmEpoch::Thursday) => codes::ISLAMIC_TBLA,
-            (TabularAlgorithmLeapYears::TypeI, TabularAlgorithmEpoch::Friday) => codes::ISLAMIC_TYPE1_FRIDAY,
-            (TabularAlgorithmLeapYears::TypeI, TabularAlgorithmEpoch::Thursday) => codes::ISLAMIC_TYPE1_THURSDAY,
+            (TabularAlgorithmLeapYears::TypeII, TabularAlgorithmEpoch::Friday) => {
+                codes::ISLAMIC_CIVIL
+            }
+            (TabularAlgorithmLeapYears::TypeII, TabularAlgorithmEpoch::Thursday) => {
+                codes::ISLAMIC_TBLA
+            }
+            (TabularAlgorithmLeapYears::TypeI, TabularAlgorithmEpoch::Friday) => {
+                codes::ISLAMIC_TYPE1_FRIDAY
+            }
+            (TabularAlgorithmLeapYears::TypeI, TabularAlgorithmEpoch::Thursday) => {
+                codes::ISLAMIC_TYPE1_THURSDAY
+            }
         })
     }
 }
@@ -353,16 +366,26 @@ impl Rules for TabularAlgorithm {
     fn algorithm(&self) -> Option<HijriCalendarAlgorithm> {
         match (self.leap_years, self.epoch) {
             (TabularAlgorithmLeapYears::TypeI, _) => None,
-            (TabularAlgorithmLeapYears::TypeII, TabularAlgorithmEpoch::Thursday) => Some(HijriCalendarAlgorithm::Tbla),
-            (TabularAlgorithmLeapYears::TypeII, TabularAlgorithmEpoch::Friday) => Some(HijriCalendarAlgorithm::Civil),
+            (TabularAlgorithmLeapYears::TypeII, TabularAlgorithmEpoch::Thursday) => {
+                Some(HijriCalendarAlgorithm::Tbla)
+            }
+            (TabularAlgorithmLeapYears::TypeII, TabularAlgorithmEpoch::Friday) => {
+                Some(HijriCalendarAlgorithm::Civil)
+            }
         }
     }
 
     fn name(&self) -> &'static str {
         match (self.leap_years, self.epoch) {
-            (TabularAlgorithmLeapYears::TypeI, TabularAlgorithmEpoch::Thursday) => "Hijri (Type I, Thursday)",
-            (TabularAlgorithmLeapYears::TypeI, TabularAlgorithmEpoch::Friday) => "Hijri (Type I, Friday)",
-            (TabularAlgorithmLeapYears::TypeII, TabularAlgorithmEpoch::Thursday) => "Hijri (astronomical)",
+            (TabularAlgorithmLeapYears::TypeI, TabularAlgorithmEpoch::Thursday) => {
+                "Hijri (Type I, Thursday)"
+            }
+            (TabularAlgorithmLeapYears::TypeI, TabularAlgorithmEpoch::Friday) => {
+                "Hijri (Type I, Friday)"
+            }
+            (TabularAlgorithmLeapYears::TypeII, TabularAlgorithmEpoch::Thursday) => {
+                "Hijri (astronomical)"
+            }
             (TabularAlgorithmLeapYears::TypeII, TabularAlgorithmEpoch::Friday) => "Hijri (civil)",
         }
     }

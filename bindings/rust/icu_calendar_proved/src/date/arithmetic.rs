@@ -44,7 +44,10 @@ impl<A: AsCalendar> Date<A> {
         duration: DateDuration,
         options: DateAddOptions,
     ) -> Result<(), DateAddError> {
-        self.inner = self.calendar.as_calendar().add(&self.inner, duration, options)?;
+        self.inner = self
+            .calendar
+            .as_calendar()
+            .add(&self.inner, duration, options)?;
         Ok(())
     }
 

@@ -20,7 +20,9 @@ impl<A: AsCalendar + Clone> Clone for Date<A> {
 
 /// Dates are equal if their calendars are compatible and they have the same day. They may hold their calendars
 /// differently, such as one borrowed and one counted.
-impl<C: Calendar, A: AsCalendar<Calendar = C>, B: AsCalendar<Calendar = C>> PartialEq<Date<B>> for Date<A> {
+impl<C: Calendar, A: AsCalendar<Calendar = C>, B: AsCalendar<Calendar = C>> PartialEq<Date<B>>
+    for Date<A>
+{
     fn eq(&self, other: &Date<B>) -> bool {
         self.partial_cmp(other) == Some(Ordering::Equal)
     }
@@ -29,15 +31,21 @@ impl<C: Calendar, A: AsCalendar<Calendar = C>, B: AsCalendar<Calendar = C>> Part
 impl<A: AsCalendar> Eq for Date<A> {}
 
 /// Dates of calendars that are compatible are ordered by their days. Others have no order.
-impl<C: Calendar, A: AsCalendar<Calendar = C>, B: AsCalendar<Calendar = C>> PartialOrd<Date<B>> for Date<A> {
+impl<C: Calendar, A: AsCalendar<Calendar = C>, B: AsCalendar<Calendar = C>> PartialOrd<Date<B>>
+    for Date<A>
+{
     fn partial_cmp(&self, other: &Date<B>) -> Option<Ordering> {
-        self.calendar().check_date_compatibility(other.calendar()).ok()?;
+        self.calendar()
+            .check_date_compatibility(other.calendar())
+            .ok()?;
         Some(self.day_number().cmp(&other.day_number()))
     }
 }
 
 /// The order of days, for calendars that are always compatible.
-impl<C: Calendar<DateCompatibilityError = Infallible>, A: AsCalendar<Calendar = C>> Ord for Date<A> {
+impl<C: Calendar<DateCompatibilityError = Infallible>, A: AsCalendar<Calendar = C>> Ord
+    for Date<A>
+{
     fn cmp(&self, other: &Self) -> Ordering {
         self.day_number().cmp(&other.day_number())
     }

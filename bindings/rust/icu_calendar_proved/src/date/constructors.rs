@@ -4,8 +4,8 @@
 use super::Date;
 use crate::cal::hijri::Rules;
 use crate::cal::{
-    Buddhist, ChineseTraditional, Coptic, Ethiopian, EthiopianEraStyle, Gregorian, Hebrew, Hijri, Indian, Iso,
-    Japanese, Julian, KoreanTraditional, Persian, Roc,
+    Buddhist, ChineseTraditional, Coptic, Ethiopian, EthiopianEraStyle, Gregorian, Hebrew, Hijri,
+    Indian, Iso, Japanese, Julian, KoreanTraditional, Persian, Roc,
 };
 use crate::calendar::AsCalendar;
 use crate::error::{DateError, LunisolarDateError, RangeError};
@@ -45,13 +45,45 @@ macro_rules! by_number {
 }
 
 by_number!(Iso, try_new_iso, "ISO", "12", "2024", "3", "1");
-by_number!(Gregorian, try_new_gregorian, "Gregorian", "12", "2024", "3", "1");
+by_number!(
+    Gregorian,
+    try_new_gregorian,
+    "Gregorian",
+    "12",
+    "2024",
+    "3",
+    "1"
+);
 by_number!(Julian, try_new_julian, "Julian", "12", "2024", "2", "17");
-by_number!(Buddhist, try_new_buddhist, "Buddhist", "12", "2567", "3", "1");
-by_number!(Roc, try_new_roc, "Republic of China's", "12", "113", "3", "1");
+by_number!(
+    Buddhist,
+    try_new_buddhist,
+    "Buddhist",
+    "12",
+    "2567",
+    "3",
+    "1"
+);
+by_number!(
+    Roc,
+    try_new_roc,
+    "Republic of China's",
+    "12",
+    "113",
+    "3",
+    "1"
+);
 by_number!(Coptic, try_new_coptic, "Coptic", "13", "1740", "6", "22");
 by_number!(Indian, try_new_indian, "Indian", "12", "1945", "12", "11");
-by_number!(Persian, try_new_persian, "Persian", "12", "1402", "12", "11");
+by_number!(
+    Persian,
+    try_new_persian,
+    "Persian",
+    "12",
+    "1402",
+    "12",
+    "11"
+);
 
 impl Date<Ethiopian> {
     /// Creates an Ethiopian date from a year in the style's era, a month and a day.
@@ -103,7 +135,12 @@ impl<A: AsCalendar<Calendar = Hijri<R>>, R: Rules> Date<A> {
     /// # Ok(())
     /// # }
     /// ```
-    pub fn try_new_hijri_with_calendar(year: i32, month: u8, day: u8, calendar: A) -> Result<Date<A>, RangeError> {
+    pub fn try_new_hijri_with_calendar(
+        year: i32,
+        month: u8,
+        day: u8,
+        calendar: A,
+    ) -> Result<Date<A>, RangeError> {
         placed(year, month, day, calendar)
     }
 }
@@ -128,7 +165,11 @@ impl Date<Hebrew> {
     /// # Ok(())
     /// # }
     /// ```
-    pub fn try_new_hebrew_v2(year: i32, month: Month, day: u8) -> Result<Date<Hebrew>, LunisolarDateError> {
+    pub fn try_new_hebrew_v2(
+        year: i32,
+        month: Month,
+        day: u8,
+    ) -> Result<Date<Hebrew>, LunisolarDateError> {
         lunisolar(year, month, day, Hebrew)
     }
 }

@@ -13,8 +13,8 @@ use crate::date_inner::HasParts;
 use crate::error::{DateFromFieldsError, DateNewError};
 use crate::options::DateFromFieldsOptions;
 use crate::types::{
-    CyclicYear, DateFields, DayOfMonth, DayOfYear, EraYear, IsoWeekOfYear, Month, MonthInfo, RataDie, Weekday,
-    YearInfo, YearInput,
+    CyclicYear, DateFields, DayOfMonth, DayOfYear, EraYear, IsoWeekOfYear, Month, MonthInfo,
+    RataDie, Weekday, YearInfo, YearInput,
 };
 use crate::{engine, names};
 use core::fmt;
@@ -93,7 +93,12 @@ impl<A: AsCalendar> Date<A> {
     /// # Ok(())
     /// # }
     /// ```
-    pub fn try_new(year: YearInput<'_>, month: Month, day: u8, calendar: A) -> Result<Self, DateNewError> {
+    pub fn try_new(
+        year: YearInput<'_>,
+        month: Month,
+        day: u8,
+        calendar: A,
+    ) -> Result<Self, DateNewError> {
         let inner = calendar.as_calendar().new_date(year, month, day)?;
         Ok(Date { inner, calendar })
     }
@@ -580,7 +585,10 @@ impl<A: AsCalendar<Calendar = Iso>> Date<A> {
     /// ```
     pub fn week_of_year(&self) -> IsoWeekOfYear {
         let (iso_year, week_number) = engine::week_of_year(self.day_number());
-        IsoWeekOfYear { week_number, iso_year }
+        IsoWeekOfYear {
+            week_number,
+            iso_year,
+        }
     }
 }
 
@@ -592,10 +600,16 @@ impl<A: AsCalendar> fmt::Debug for Date<A> {
         let name = self.calendar().debug_name();
         match self.year() {
             YearInfo::Era(EraYear { year, era, .. }) => {
-                write!(f, "Date({year}-{month}-{day}, {era} era, for calendar {name})")
+                write!(
+                    f,
+                    "Date({year}-{month}-{day}, {era} era, for calendar {name})"
+                )
             }
             YearInfo::Cyclic(CyclicYear { year, related_iso }) => {
-                write!(f, "Date({year}-{month}-{day}, ISO year {related_iso}, for calendar {name})")
+                write!(
+                    f,
+                    "Date({year}-{month}-{day}, ISO year {related_iso}, for calendar {name})"
+                )
             }
         }
     }

@@ -58,7 +58,9 @@ pub struct IxdtfRecord<'a> {
 /// Reads a number of two digits at the start of a text.
 fn two_digits(text: &[u8]) -> Option<(u8, &[u8])> {
     match text {
-        [tens @ b'0'..=b'9', units @ b'0'..=b'9', rest @ ..] => Some((10 * (tens - b'0') + (units - b'0'), rest)),
+        [tens @ b'0'..=b'9', units @ b'0'..=b'9', rest @ ..] => {
+            Some((10 * (tens - b'0') + (units - b'0'), rest))
+        }
         _ => None,
     }
 }
@@ -94,14 +96,21 @@ fn part(text: &[u8]) -> Option<(u8, &[u8])> {
 
 fn is_calendar_name(name: &[u8]) -> bool {
     name.split(|byte| *byte == b'-').all(|part| {
-        (1..=8).contains(&part.len()) && part.iter().all(|it| it.is_ascii_lowercase() || it.is_ascii_digit())
+        (1..=8).contains(&part.len())
+            && part
+                .iter()
+                .all(|it| it.is_ascii_lowercase() || it.is_ascii_digit())
     })
 }
 
 /// Reads the annotation of a calendar, which ends the text.
 fn calendar_name(text: &[u8]) -> Option<&[u8]> {
-    let behind = text.strip_prefix(b"[u-ca=").or_else(|| text.strip_prefix(b"[!u-ca="))?;
-    behind.strip_suffix(b"]").filter(|name| is_calendar_name(name))
+    let behind = text
+        .strip_prefix(b"[u-ca=")
+        .or_else(|| text.strip_prefix(b"[!u-ca="))?;
+    behind
+        .strip_suffix(b"]")
+        .filter(|name| is_calendar_name(name))
 }
 
 /// Reads a date, and a calendar's name if anything follows the date.
@@ -109,14 +118,26 @@ fn read(text: &[u8]) -> Option<IxdtfRecord<'_>> {
     let (year, rest) = year(text)?;
     let (month, rest) = part(rest)?;
     let (day, rest) = part(rest)?;
-    let calendar = if rest.is_empty() { None } else { Some(calendar_name(rest)?) };
+    let calendar = if rest.is_empty() {
+        None
+    } else {
+        Some(calendar_name(rest)?)
+    };
     let date = DateRecord { year, month, day };
     day_of(date).ok()?;
-    Some(IxdtfRecord { date: Some(date), calendar })
+    Some(IxdtfRecord {
+        date: Some(date),
+        calendar,
+    })
 }
 
 fn range(field: &'static str, value: i32, min: i32, max: i32) -> RangeError {
-    RangeError { field, value, min, max }
+    RangeError {
+        field,
+        value,
+        min,
+        max,
+    }
 }
 
 /// Returns the day number of the date in a record, or its first part out of range.
@@ -131,9 +152,14 @@ fn day_of(date: DateRecord) -> Result<RataDie, RangeError> {
         day: Some(day),
         ..DateFields::default()
     };
-    match Iso.chosen().date_of_fields(&fields, DateFromFieldsOptions::default()) {
+    match Iso
+        .chosen()
+        .date_of_fields(&fields, DateFromFieldsOptions::default())
+    {
         Ok(parts) => Ok(RataDie::new(parts.day_number())),
-        Err(DateFromFieldsError::InvalidDay { max }) => Err(range("day", i32::from(day), 1, i32::from(max))),
+        Err(DateFromFieldsError::InvalidDay { max }) => {
+            Err(range("day", i32::from(day), 1, i32::from(max)))
+        }
         Err(_) => Err(range("month", i32::from(month), 1, 12)),
     }
 }
@@ -230,9 +256,15 @@ impl<A: AsCalendar> Date<A> {
     /// let record = IxdtfRecord { date, calendar: None };
     /// assert!(Date::try_from_ixdtf_record(&record, Iso).is_err());
     /// ```
-    pub fn try_from_ixdtf_record(ixdtf_record: &IxdtfRecord<'_>, calendar: A) -> Result<Self, ParseError> {
+    pub fn try_from_ixdtf_record(
+        ixdtf_record: &IxdtfRecord<'_>,
+        calendar: A,
+    ) -> Result<Self, ParseError> {
         let date = ixdtf_record.date.ok_or(ParseError::MissingFields)?;
-        check_name(calendar.as_calendar().calendar_algorithm(), ixdtf_record.calendar)?;
+        check_name(
+            calendar.as_calendar().calendar_algorithm(),
+            ixdtf_record.calendar,
+        )?;
         Ok(Date::from_rata_die(day_of(date)?, calendar))
     }
 }

@@ -114,7 +114,9 @@ fn number(text: &[u8], digits: usize) -> Option<i32> {
 }
 
 fn day(text: &[u8]) -> Option<u8> {
-    number(text, 2).filter(|day| (1..=31).contains(day)).map(|day| day as u8)
+    number(text, 2)
+        .filter(|day| (1..=31).contains(day))
+        .map(|day| day as u8)
 }
 
 fn offset(text: &[u8]) -> Option<i32> {
@@ -172,16 +174,30 @@ fn rule(kind: &[u8], fields: [&[u8]; 4]) -> Result<HolidayRule, u8> {
             return Err(4);
         }
         let offset = offset(value).ok_or(5)?;
-        return if last.is_empty() { Ok(HolidayRule::Easter { julian, offset }) } else { Err(6) };
+        return if last.is_empty() {
+            Ok(HolidayRule::Easter { julian, offset })
+        } else {
+            Err(6)
+        };
     }
     let calendar = AnyCalendarKind::from_program_name(calendar).ok_or(3)?;
     let month = month_of(calendar, month).ok_or(4)?;
     if kind == b"fixed" {
         let (day, leaping) = (day(value).ok_or(5)?, leaping(last).ok_or(6)?);
-        return Ok(HolidayRule::Fixed { calendar, month, day, leaping });
+        return Ok(HolidayRule::Fixed {
+            calendar,
+            month,
+            day,
+            leaping,
+        });
     }
     let (nth, weekday) = (nth(value).ok_or(5)?, weekday(last).ok_or(6)?);
-    Ok(HolidayRule::Nth { calendar, month, nth, weekday })
+    Ok(HolidayRule::Nth {
+        calendar,
+        month,
+        nth,
+        weekday,
+    })
 }
 
 /// Reads a record, or finds the number of its first invalid field.
@@ -192,8 +208,14 @@ fn entry(fields: &[Vec<u8>]) -> Result<(String, HolidayRule), u8> {
     if ![&b"fixed"[..], b"easter", b"weekday"].contains(&kind.as_slice()) {
         return Err(1);
     }
-    let text = str::from_utf8(name).ok().filter(|it| is_name(it.as_bytes())).ok_or(2)?;
-    Ok((String::from(text), rule(kind, [calendar, month, value, last])?))
+    let text = str::from_utf8(name)
+        .ok()
+        .filter(|it| is_name(it.as_bytes()))
+        .ok_or(2)?;
+    Ok((
+        String::from(text),
+        rule(kind, [calendar, month, value, last])?,
+    ))
 }
 
 impl Book {
@@ -216,7 +238,8 @@ impl Book {
     /// ```
     pub fn try_read(bytes: &[u8]) -> Result<Book, BookError> {
         let numbered = (1..).zip(Records::new(bytes));
-        let entries = numbered.map(|(number, fields)| entry(&fields).map_err(|field| BookError { number, field }));
+        let entries = numbered
+            .map(|(number, fields)| entry(&fields).map_err(|field| BookError { number, field }));
         Ok(Book {
             entries: entries.collect::<Result<_, _>>()?,
         })

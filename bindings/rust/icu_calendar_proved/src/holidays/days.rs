@@ -24,23 +24,40 @@ fn chosen(calendar: AnyCalendarKind, years: Years) -> Chosen {
 /// Returns the first day of a rule in a window.
 pub(super) fn first_day(rule: HolidayRule, years: Years, window: Window) -> Option<RataDie> {
     match rule {
-        HolidayRule::Fixed { calendar, month, day, leaping } => {
-            Anniversaries::new(chosen(calendar, years), month, day, leaping, window).next()
-        }
+        HolidayRule::Fixed {
+            calendar,
+            month,
+            day,
+            leaping,
+        } => Anniversaries::new(chosen(calendar, years), month, day, leaping, window).next(),
         HolidayRule::Easter { julian, offset } => first_easter(julian, offset, window),
-        HolidayRule::Nth { calendar, month, nth, weekday } => {
-            let asked = NthWeekday { month, nth, weekday };
+        HolidayRule::Nth {
+            calendar,
+            month,
+            nth,
+            weekday,
+        } => {
+            let asked = NthWeekday {
+                month,
+                nth,
+                weekday,
+            };
             asked.first_in(chosen(calendar, years), window)
         }
     }
 }
 
 fn first_easter(julian: bool, offset: i32, window: Window) -> Option<RataDie> {
-    let calendar = if julian { Julian.chosen() } else { Gregorian.chosen() };
+    let calendar = if julian {
+        Julian.chosen()
+    } else {
+        Gregorian.chosen()
+    };
     let year_of = |day| calendar.date_of_day(day).extended_year;
     let years = year_of(window.first()) - YEARS_BESIDE..=year_of(window.last()) + YEARS_BESIDE;
     let mut days = years.map(|year| easter(julian, year) + i64::from(offset));
-    days.find(|day| *day >= window.first()).filter(|day| window.contains(*day))
+    days.find(|day| *day >= window.first())
+        .filter(|day| window.contains(*day))
 }
 
 /// A weekday of a month: the first to the fifth, or the last for -1.
@@ -56,17 +73,24 @@ impl NthWeekday {
         let first = chosen.date_of_day(window.first());
         let last_year = chosen.date_of_day(window.last()).extended_year;
         // The month of the first day may begin before the valid range; the others are found by their first days.
-        let begun = if first.month() == self.month { self.day_in(chosen, &first) } else { None };
+        let begun = if first.month() == self.month {
+            self.day_in(chosen, &first)
+        } else {
+            None
+        };
         let years = first.extended_year..=last_year;
         let later = years.filter_map(|year| self.day_in(chosen, &self.month_in(chosen, year)?));
         let mut days = begun.into_iter().chain(later);
-        days.find(|day| *day >= window.first()).filter(|day| window.contains(*day))
+        days.find(|day| *day >= window.first())
+            .filter(|day| window.contains(*day))
     }
 
     /// Returns the first day of the month in a year.
     fn month_in(self, chosen: Chosen, year: i32) -> Option<Parts> {
         let fields = DateFields::from_year_month_day(year, self.month, 1);
-        chosen.date_of_fields(&fields, DateFromFieldsOptions::default()).ok()
+        chosen
+            .date_of_fields(&fields, DateFromFieldsOptions::default())
+            .ok()
     }
 
     /// Returns the day in the month of a date.

@@ -130,7 +130,11 @@ pub fn holidays(book: &Book, years: Years, window: Window, first_rule: usize) ->
         days: Vec::with_capacity(book.len()),
     };
     for rule in 0..book.len() {
-        let from = if rule < first_rule { window.after(window.first()) } else { Some(window) };
+        let from = if rule < first_rule {
+            window.after(window.first())
+        } else {
+            Some(window)
+        };
         list.days.push(list.first_day(rule, from));
     }
     list
@@ -172,7 +176,10 @@ impl Holidays<'_> {
             return Some(Rest { window, first_rule });
         }
         let window = window.after(found.day)?;
-        Some(Rest { window, first_rule: 0 })
+        Some(Rest {
+            window,
+            first_rule: 0,
+        })
     }
 }
 
@@ -182,7 +189,9 @@ impl Iterator for Holidays<'_> {
     fn next(&mut self) -> Option<Holiday> {
         let window = self.rest?.window;
         let days = self.days.iter().enumerate();
-        let first = days.filter_map(|(rule, day)| day.map(|day| (day, rule))).min();
+        let first = days
+            .filter_map(|(rule, day)| day.map(|day| (day, rule)))
+            .min();
         let Some((day, rule)) = first else {
             self.rest = None;
             return None;

@@ -59,7 +59,9 @@ pub enum AnniversaryError {
 impl fmt::Display for AnniversaryError {
     fn fmt(&self, f: &mut fmt::Formatter<'_>) -> fmt::Result {
         f.write_str(match self {
-            AnniversaryError::MonthNotInCalendar => "The specified month does not exist in this calendar",
+            AnniversaryError::MonthNotInCalendar => {
+                "The specified month does not exist in this calendar"
+            }
             AnniversaryError::InvalidDay => "The day isn't from 1 to 31",
         })
     }
@@ -97,7 +99,8 @@ pub struct Anniversaries {
 
 /// Returns whether a month is one of a calendar's months.
 pub(crate) fn knows_month(chosen: Chosen, month: Month) -> bool {
-    new_date(chosen, YearInput::Extended(1), month, 1).err() != Some(DateNewError::MonthNotInCalendar)
+    new_date(chosen, YearInput::Extended(1), month, 1).err()
+        != Some(DateNewError::MonthNotInCalendar)
 }
 
 /// Lists the days of a window that have a month and a day of a calendar, year after year.
@@ -141,7 +144,13 @@ pub fn anniversaries<A: AsCalendar>(
 }
 
 impl Anniversaries {
-    pub(crate) fn new(chosen: Chosen, month: Month, day: u8, leaping: Leaping, window: Window) -> Anniversaries {
+    pub(crate) fn new(
+        chosen: Chosen,
+        month: Month,
+        day: u8,
+        leaping: Leaping,
+        window: Window,
+    ) -> Anniversaries {
         Anniversaries {
             chosen,
             fields: DateFields {

@@ -68,7 +68,11 @@ impl Rule {
         if every == 0 {
             None
         } else {
-            Some(Rule { unit, every, missing })
+            Some(Rule {
+                unit,
+                every,
+                missing,
+            })
         }
     }
 
@@ -205,7 +209,9 @@ impl Recurrence {
             }
             DateDurationUnit::Months => {
                 let largest_unit = Some(DateDurationUnit::Months);
-                self.chosen.until(self.start, day, DateDifferenceOptions { largest_unit }).months
+                self.chosen
+                    .until(self.start, day, DateDifferenceOptions { largest_unit })
+                    .months
             }
         }
     }
@@ -216,7 +222,10 @@ impl Recurrence {
         let options = DateAddOptions {
             overflow: Some(overflow),
         };
-        let sum = self.chosen.add(self.start, self.rule.duration(amount), options).ok()?;
+        let sum = self
+            .chosen
+            .add(self.start, self.rule.duration(amount), options)
+            .ok()?;
         Some(RataDie::new(sum.day_number()))
     }
 

@@ -72,7 +72,11 @@ fn date(text: &str) -> Option<RowDate> {
     let day = parts.next()?.parse().ok()?;
     Some(RowDate {
         extended_year,
-        era: if era == "cycle" { None } else { Some(era.parse().ok()?) },
+        era: if era == "cycle" {
+            None
+        } else {
+            Some(era.parse().ok()?)
+        },
         era_year: era_year.parse().ok()?,
         month,
         day,
@@ -91,5 +95,11 @@ pub(super) fn span(line: &str) -> Option<Span> {
     let mut next = || date(words.next()?);
     let (from, from_shown, to, to_shown) = (next()?, next()?, next()?, next()?);
     let duration = DateDuration::try_from_str(words.next()?).ok()?;
-    Some(Span { from, from_shown, to, to_shown, duration })
+    Some(Span {
+        from,
+        from_shown,
+        to,
+        to_shown,
+        duration,
+    })
 }

@@ -103,10 +103,19 @@ pub enum RowsError {
 impl fmt::Display for RowsError {
     fn fmt(&self, f: &mut fmt::Formatter<'_>) -> fmt::Result {
         match self {
-            RowsError::Line { number, fault: LineFault::Syntax } => write!(f, "Line {number} isn't a row"),
-            RowsError::Line { number, fault: LineFault::Range } => write!(f, "Line {number} is out of range"),
+            RowsError::Line {
+                number,
+                fault: LineFault::Syntax,
+            } => write!(f, "Line {number} isn't a row"),
+            RowsError::Line {
+                number,
+                fault: LineFault::Range,
+            } => write!(f, "Line {number} is out of range"),
             RowsError::Table { table, row, part } => {
-                write!(f, "Row {row} of the table {table:?} breaks its rule {part:?}")
+                write!(
+                    f,
+                    "Row {row} of the table {table:?} breaks its rule {part:?}"
+                )
             }
             RowsError::TooLong => f.write_str("The rows are too long"),
         }
@@ -177,7 +186,11 @@ pub(super) fn rows_error(output: &str) -> RowsError {
     match words[..] {
         ["table", "line", line, fault] => RowsError::Line {
             number: number(line),
-            fault: if fault == "range" { LineFault::Range } else { LineFault::Syntax },
+            fault: if fault == "range" {
+                LineFault::Range
+            } else {
+                LineFault::Syntax
+            },
         },
         ["table", table, row, part] => RowsError::Table {
             table: match table {

@@ -40,7 +40,8 @@ use alloc::string::String;
 use alloc::vec::Vec;
 
 /// A request that any rows answer.
-const ANY_REQUEST: &str = "span iso iso none none none from year=1 month=M01 day=1 to year=1 month=M01 day=1\n";
+const ANY_REQUEST: &str =
+    "span iso iso none none none from year=1 month=M01 day=1 to year=1 month=M01 day=1\n";
 
 /// Rows of years and of an era that form tables.
 ///
@@ -80,8 +81,14 @@ impl Rows {
     /// assert_eq!(rows.unwrap_err(), RowsError::Line { number: 1, fault: LineFault::Syntax });
     /// ```
     pub fn try_read(bytes: &[u8]) -> Result<Rows, RowsError> {
-        if let Some(place) = bytes.split(|byte| *byte == b'\n').position(|line| !is_of_rows(line)) {
-            return Err(RowsError::Line { number: place + 1, fault: LineFault::Syntax });
+        if let Some(place) = bytes
+            .split(|byte| *byte == b'\n')
+            .position(|line| !is_of_rows(line))
+        {
+            return Err(RowsError::Line {
+                number: place + 1,
+                fault: LineFault::Syntax,
+            });
         }
         let mut lines = bytes.to_vec();
         if !lines.is_empty() && !lines.ends_with(b"\n") {
@@ -101,7 +108,10 @@ impl Rows {
         let input = [self.lines.as_slice(), behind.as_bytes()].concat();
         let run = calspan(words, &input);
         assert!(run.status != Status::NoMemory, "no memory for rows");
-        (run.status, String::from_utf8_lossy(&run.output).into_owned())
+        (
+            run.status,
+            String::from_utf8_lossy(&run.output).into_owned(),
+        )
     }
 
     /// Answers a request: two dates, both in a second calendar, and their difference.
@@ -161,7 +171,8 @@ impl Rows {
     pub fn date_of_day(&self, day: RataDie, calendar: AnyCalendarKind) -> RowDate {
         let date = Date::from_rata_die(day, Iso);
         let month = date.month().to_input();
-        let fields = DateFields::from_year_month_day(date.extended_year(), month, date.day_of_month().0);
+        let fields =
+            DateFields::from_year_month_day(date.extended_year(), month, date.day_of_month().0);
         let request = Request {
             calendar: AnyCalendarKind::Iso,
             shown: calendar,
@@ -170,7 +181,9 @@ impl Rows {
             fields_options: DateFromFieldsOptions::default(),
             difference_options: DateDifferenceOptions::default(),
         };
-        self.span(&request).expect("an ISO date is valid").from_shown
+        self.span(&request)
+            .expect("an ISO date is valid")
+            .from_shown
     }
 
     /// Lists the dates of a window that have a month and a day of a calendar over the rows, year after year.
@@ -216,7 +229,10 @@ impl Rows {
             Leaping::Constrain => "constrain",
         };
         let (first, last) = (window.first().to_i64_date(), window.last().to_i64_date());
-        let words = format!("anniversary {name} iso {leaping} {} {day} {first} {last}", month.code());
+        let words = format!(
+            "anniversary {name} iso {leaping} {} {day} {first} {last}",
+            month.code()
+        );
         let (status, output) = self.run(&words, "");
         match (status, output.as_str()) {
             (Status::Done, lines) => Ok(lines.lines().filter_map(answers::first_date).collect()),

@@ -1,7 +1,9 @@
 //! Request lines of the program.
 
 use crate::any_calendar::AnyCalendarKind;
-use crate::options::{DateDifferenceOptions, DateFromFieldsOptions, MissingFieldsStrategy, Overflow};
+use crate::options::{
+    DateDifferenceOptions, DateFromFieldsOptions, MissingFieldsStrategy, Overflow,
+};
 use crate::types::{DateDurationUnit, DateFields};
 use alloc::format;
 use alloc::string::String;
@@ -101,7 +103,14 @@ impl<'a> Request<'a> {
 /// Returns a code as a line can have it. A byte that it can't have is in no code, and neither is the one in its place.
 fn code(bytes: &[u8]) -> String {
     let kept = bytes.iter().take(LONGEST_CODE);
-    kept.map(|byte| if byte.is_ascii_graphic() { char::from(*byte) } else { '?' }).collect()
+    kept.map(|byte| {
+        if byte.is_ascii_graphic() {
+            char::from(*byte)
+        } else {
+            '?'
+        }
+    })
+    .collect()
 }
 
 /// Returns a year as a line can have it: none beyond the range of years has more than nine digits.

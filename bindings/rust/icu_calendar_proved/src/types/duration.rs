@@ -193,7 +193,12 @@ impl FromStr for DateDuration {
 /// Writes the form that [`DateDuration::try_from_str`] reads, without parts that are 0. An empty duration is `P0D`.
 impl fmt::Display for DateDuration {
     fn fmt(&self, f: &mut fmt::Formatter<'_>) -> fmt::Result {
-        let parts = [(self.years, 'Y'), (self.months, 'M'), (self.weeks, 'W'), (self.days, 'D')];
+        let parts = [
+            (self.years, 'Y'),
+            (self.months, 'M'),
+            (self.weeks, 'W'),
+            (self.days, 'D'),
+        ];
         f.write_str(if self.is_negative { "-P" } else { "P" })?;
         if parts.iter().all(|(number, _)| *number == 0) {
             return f.write_str("0D");

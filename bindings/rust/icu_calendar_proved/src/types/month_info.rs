@@ -68,7 +68,12 @@ pub struct MonthInfo {
 }
 
 impl MonthInfo {
-    pub(crate) fn new(ordinal: u8, month: Month, formatting_month: Month, beside: Beside) -> MonthInfo {
+    pub(crate) fn new(
+        ordinal: u8,
+        month: Month,
+        formatting_month: Month,
+        beside: Beside,
+    ) -> MonthInfo {
         MonthInfo {
             ordinal,
             standard_code: month.code(),
@@ -123,7 +128,9 @@ impl MonthInfo {
     pub fn leap_status(self) -> LeapStatus {
         match self.beside {
             Beside::Known(status) => status,
-            Beside::Next(chosen, year) if chosen.leap_month_follows(year, self.ordinal) => LeapStatus::Base,
+            Beside::Next(chosen, year) if chosen.leap_month_follows(year, self.ordinal) => {
+                LeapStatus::Base
+            }
             Beside::Next(..) => LeapStatus::Normal,
         }
     }

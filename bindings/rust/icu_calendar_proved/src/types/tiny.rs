@@ -232,10 +232,11 @@ impl<const N: usize> FromStr for TinyAsciiStr<N> {
 #[macro_export]
 macro_rules! tinystr {
     ($n:expr, $text:expr) => {{
-        const TEXT: $crate::types::TinyAsciiStr<$n> = match $crate::types::TinyAsciiStr::try_from_str($text) {
-            Ok(text) => text,
-            Err(_) => panic!("the literal is too long, or isn't ASCII"),
-        };
+        const TEXT: $crate::types::TinyAsciiStr<$n> =
+            match $crate::types::TinyAsciiStr::try_from_str($text) {
+                Ok(text) => text,
+                Err(_) => panic!("the literal is too long, or isn't ASCII"),
+            };
         TEXT
     }};
 }

@@ -114,7 +114,8 @@ pub fn fields<'a>(words: &[&'a str]) -> DateFields<'a> {
 /// Answers a request line of the program through the dates of this crate. The line is known to be well formed.
 pub fn answer<A: AsCalendar + Copy>(line: &str, calendar_of: impl Fn(&str) -> A) -> String {
     let words: Vec<&str> = line.split(' ').collect();
-    let [_, calendar, shown_in, largest, overflow, missing, "from", ref rest @ ..] = words[..] else {
+    let [_, calendar, shown_in, largest, overflow, missing, "from", ref rest @ ..] = words[..]
+    else {
         panic!("no request: {line}")
     };
     let split = rest.iter().position(|word| *word == "to").unwrap();
@@ -131,6 +132,11 @@ pub fn answer<A: AsCalendar + Copy>(line: &str, calendar_of: impl Fn(&str) -> A)
     let Ok(difference) = first.try_until_with_options(&second, options) else {
         panic!("two dates of one calendar: {line}")
     };
-    let dates = [shown(&first), shown(&first.to_calendar(shown_in)), shown(&second), shown(&second.to_calendar(shown_in))];
+    let dates = [
+        shown(&first),
+        shown(&first.to_calendar(shown_in)),
+        shown(&second),
+        shown(&second.to_calendar(shown_in)),
+    ];
     format!("ok {} {difference}", dates.join(" "))
 }
