@@ -41,6 +41,7 @@ impl OfParts for CyclicYear {
 }
 
 impl OfParts for YearInfo {
+    #[inline]
     fn of_parts(parts: &Parts) -> YearInfo {
         if parts.cyclic_year == 0 {
             YearInfo::Era(EraYear::of_parts(parts))
@@ -66,56 +67,81 @@ const fn plain(code: &str, index: u8) -> Era {
     era(code, index, YearAmbiguity::CenturyRequired)
 }
 
+/// The eras, which are made when this crate is compiled.
+const DEFAULT: Era = era("default", 0, YearAmbiguity::Unambiguous);
 const BCE: Era = era("bce", 0, YearAmbiguity::EraAndCenturyRequired);
+const EARLY_CE: Era = era("ce", 1, YearAmbiguity::EraAndCenturyRequired);
+const RECENT_CE: Era = era("ce", 1, YearAmbiguity::Unambiguous);
+const CE: Era = plain("ce", 1);
+const BE: Era = plain("be", 0);
+const BROC: Era = era("broc", 0, YearAmbiguity::EraAndCenturyRequired);
+const ROC: Era = plain("roc", 1);
+const MEIJI: Era = plain("meiji", 2);
+const TAISHO: Era = plain("taisho", 3);
+const SHOWA: Era = plain("showa", 4);
+const HEISEI: Era = plain("heisei", 5);
+const REIWA: Era = plain("reiwa", 6);
+const AM: Era = plain("am", 0);
+const INCARNATION: Era = plain("am", 1);
+const AA: Era = plain("aa", 0);
+const SHAKA: Era = plain("shaka", 0);
+const AP: Era = plain("ap", 0);
+const AH: Era = plain("ah", 0);
+const BH: Era = plain("bh", 1);
 
+#[inline]
 fn common_era(year: i32) -> Era {
     match year {
         ..=0 => BCE,
-        1..=999 => era("ce", 1, YearAmbiguity::EraAndCenturyRequired),
-        1950..=2049 => era("ce", 1, YearAmbiguity::Unambiguous),
-        _ => plain("ce", 1),
+        1..=999 => EARLY_CE,
+        1950..=2049 => RECENT_CE,
+        _ => CE,
     }
 }
 
 /// Returns the era of a Japanese date. An era is told by what its years are ahead of the common era's; the engine says
 /// the code of one that isn't listed here.
+#[inline]
 fn japanese_era(parts: &Parts) -> Era {
     match parts.extended_year - parts.era_year {
         0 => common_era(parts.extended_year),
         ..=-1 => BCE,
-        1867 => plain("meiji", 2),
-        1911 => plain("taisho", 3),
-        1925 => plain("showa", 4),
-        1988 => plain("heisei", 5),
-        2018 => plain("reiwa", 6),
-        _ => (
-            parts.chosen().era(parts.day_number()),
-            None,
-            YearAmbiguity::CenturyRequired,
-        ),
+        1867 => MEIJI,
+        1911 => TAISHO,
+        1925 => SHOWA,
+        1988 => HEISEI,
+        2018 => REIWA,
+        _ => unlisted_era(parts),
     }
 }
 
+#[cold]
+fn unlisted_era(parts: &Parts) -> Era {
+    let code = parts.chosen().era(parts.day_number());
+    (code, None, YearAmbiguity::CenturyRequired)
+}
+
 /// Returns the era of the year of a date in a calendar with eras.
+#[inline]
 fn era_of(parts: &Parts) -> Era {
     let is_before = parts.extended_year < 1;
     match parts.chosen().code() {
-        codes::ISO => era("default", 0, YearAmbiguity::Unambiguous),
+        codes::ISO => DEFAULT,
         codes::GREGORIAN => common_era(parts.extended_year),
         codes::JULIAN if is_before => BCE,
-        codes::JULIAN => plain("ce", 1),
-        codes::BUDDHIST => plain("be", 0),
-        codes::ROC if is_before => era("broc", 0, YearAmbiguity::EraAndCenturyRequired),
-        codes::ROC => plain("roc", 1),
+        codes::JULIAN => CE,
+        codes::BUDDHIST => BE,
+        codes::ROC if is_before => BROC,
+        codes::ROC => ROC,
         codes::JAPANESE => japanese_era(parts),
-        codes::COPTIC | codes::HEBREW => plain("am", 0),
-        codes::ETHIOPIC if is_before => plain("aa", 0),
-        codes::ETHIOPIC => plain("am", 1),
-        codes::ETHIOAA => plain("aa", 0),
-        codes::INDIAN => plain("shaka", 0),
-        codes::PERSIAN => plain("ap", 0),
-        _ if is_before => plain("bh", 1),
-        _ => plain("ah", 0),
+        codes::COPTIC | codes::HEBREW => AM,
+        codes::ETHIOPIC if is_before => AA,
+        codes::ETHIOPIC => INCARNATION,
+        codes::ETHIOAA => AA,
+        codes::INDIAN => SHAKA,
+        codes::PERSIAN => AP,
+        _ if is_before => BH,
+        _ => AH,
     }
 }
 

@@ -145,14 +145,12 @@ impl Month {
     ///
     /// assert!(Month::leap(5).code().0.as_str() == "M05L");
     /// ```
-    pub fn code(self) -> MonthCode {
+    #[inline]
+    pub const fn code(self) -> MonthCode {
         let tens = b'0' + self.number / 10;
         let units = b'0' + self.number % 10;
-        if self.is_leap {
-            MonthCode(TinyAsciiStr::of_text(&[b'M', tens, units, b'L']))
-        } else {
-            MonthCode(TinyAsciiStr::of_text(&[b'M', tens, units]))
-        }
+        let mark = if self.is_leap { b'L' } else { 0 };
+        MonthCode(TinyAsciiStr::of_filled([b'M', tens, units, mark]))
     }
 }
 

@@ -76,6 +76,11 @@ impl<const N: usize> TinyAsciiStr<N> {
         TinyAsciiStr::try_from_utf8(text.as_bytes())
     }
 
+    /// Creates a text from its bytes filled up with 0, which are ASCII.
+    pub(crate) const fn of_filled(bytes: [u8; N]) -> Self {
+        TinyAsciiStr { bytes }
+    }
+
     /// Creates a text from the bytes of a code, which fit and are ASCII.
     pub(crate) const fn of_text(text: &[u8]) -> Self {
         match TinyAsciiStr::try_from_utf8(text) {
