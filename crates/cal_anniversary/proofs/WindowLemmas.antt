@@ -1,5 +1,6 @@
 -- The list of a window, from its first anniversary on.
 use Rattle.std.proofs.Common.{◌≡◌, ℕ, zero, suc, Bool, true, false, cond, List, [], ◌∷◌, filter, Option, Some, None, refl, sym, ap, ◌∙◌, subst, arith, ℤ, pos, ◌+ℤ◌, ◌-ℤ◌, ◌<ℤ◌, ◌≤ℤ◌}
+use Rattle.std.specs.Prelude.{option_map, slice_get}
 use Rattle.std.proofs.lemmas.Int.{by_lt_z}
 use Rattle.cal_days.specs.Day.{IsBetween, IsValidDay}
 use Rattle.cal_days.specs.Sums.{years_up}
@@ -11,9 +12,11 @@ use Rattle.cal_types.specs.Anniversary.{is_anniversary, anniversaries_between}
 use Rattle.cal_anniversary.specs.Listing.{AreInYears, anniversaries_in}
 use Rattle.cal_types.specs.WindowDays.{IsAfter}
 use Rattle.cal_types.specs.Windows.{days_from, days_between}
+use Rattle.cal_anniversary.specs.Found.{IsFirstFound}
 use Rattle.cal_anniversary.specs.YearlyDays.{IsOfYear, IsFirst, HasNone}
 use Rattle.cal_types.specs.declared.leaping.Leaping.{Leaping}
 use Rattle.cal_types.specs.declared.window.Window.{Window}
+use Rattle.cal_anniversary.specs.declared.yearly_day.Found.{Found}
 use Rattle.cal_types.proofs.AnniversaryLemmas.{anniversary-true, true-anniversary}
 use Rattle.cal_anniversary.proofs.YearLemmas.{one_of_year, years_rise}
 
@@ -93,14 +96,22 @@ module _ (c : CalendarList) (law : IsLawful c) (leaping : Leaping) (m : MonthPar
       let same : z ≡ y = omega (arith, signed) in
       omega (arith, signed, one_of_year c law leaping m d y n k is.of_year (subst (λ (v : ℤ). IsOfYear c leaping m d v k) same there.1))))
 
-  -- the first one that is found comes first
-  pub first-left : (w : Window) (first last n y : ℤ) (rest : Option Window) → AreInYears c leaping m d first last (Some w) → IsFirst c leaping m d w.first w.last first last n y → IsAfter w n rest → anniversaries_in c leaping m d (Some w) ≡ n ∷ anniversaries_in c leaping m d rest
-  first-left w first last n y rest years is left =
+  -- the first one that is found comes first, before the days after it
+  first-between : (w : Window) (first last n y : ℤ) → AreInYears c leaping m d first last (Some w) → IsFirst c leaping m d w.first w.last first last n y → anniversaries_between c leaping m d w.first w.last ≡ n ∷ anniversaries_between c leaping m d (n +ℤ pos 1) w.last
+  first-between w first last n y years is =
       let there = is.of_year in
       between-first (is_anniversary c leaping m d) w.first w.last n is.within
       (true-anniversary c law leaping m d n (record { date = there.date; on = there.on; named = there.named }))
       (λ k low lt. not_true (is_anniversary c leaping m d k) (not_before w first last n y years is k low lt))
-      ∙ ap (λ (xs : List ℤ). n ∷ xs) (after_first w n rest left)
+
+  pub first-left : (w : Window) (first last n y : ℤ) (rest : Option Window) → AreInYears c leaping m d first last (Some w) → IsFirst c leaping m d w.first w.last first last n y → IsAfter w n rest → anniversaries_in c leaping m d (Some w) ≡ n ∷ anniversaries_in c leaping m d rest
+  first-left w first last n y rest years is left =
+      first-between w first last n y years is ∙ ap (λ (xs : List ℤ). n ∷ xs) (after_first w n rest left)
+
+  -- what the search of the years finds is the first of the list
+  pub first-found : (w : Window) (first last : ℤ) (found : Option Found) → AreInYears c leaping m d first last (Some w) → IsFirstFound c leaping m d w.first w.last first last found → option_map (λ f. f.day) found ≡ slice_get (anniversaries_between c leaping m d w.first w.last) 0
+  first-found w first last None years none = ap (λ (xs : List ℤ). slice_get xs 0) (sym (none-left w first last years none))
+  first-found w first last (Some f) years is = ap (λ (xs : List ℤ). slice_get xs 0) (sym (first-between w first last f.day f.year years is))
 
   -- and what is left lies in the years after its own
   pub years-left : (w : Window) (first last n y : ℤ) (rest : Option Window) → AreInYears c leaping m d first last (Some w) → IsFirst c leaping m d w.first w.last first last n y → IsAfter w n rest → AreInYears c leaping m d (y +ℤ pos 1) last rest

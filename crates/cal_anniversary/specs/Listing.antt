@@ -18,6 +18,12 @@ AreInYears c leaping m d first last rest =
     (w : Window) (y n : ℤ) → rest ≡ Some w → IsBetween w.first w.last n → IsOfYear c leaping m d y n →
     IsBetween first last y
 
+-- all anniversaries of a window lie in the years of its first and last day
+pub record AreYearsOf (c : CalendarList) (w : Window) (first last : ℤ) : Type 0 where
+  pub low : neg_ℤ (pos 1040000) ≤ℤ first
+  pub high : last ≤ℤ pos 1040000
+  pub years : (leaping : Leaping) (m : MonthParts) (d : ℕ) → AreInYears c leaping m d first last (Some w)
+
 -- what an iterator keeps: the years of what is left
 pub record IsListing (c : CalendarList) (asked : YearlyDay) (rest : Option Window) (first last : ℤ) : Type 0 where
   pub accepted : IsAsked c (month_parts asked.month) asked.day

@@ -5,6 +5,7 @@ ghost use Rattle.cal_types.specs.MonthParts.{month_parts};
 ghost use Rattle.cal_anniversary.specs.Asking.{IsAsked};
 ghost use Rattle.cal_anniversary.specs.Listing.{IsListing};
 
+use crate::window_years::years_of;
 use crate::yearly_day::{YearlyDay, first_in_years};
 use cal_base::Calendar;
 use cal_days::RataDie;
@@ -36,16 +37,13 @@ impl<C: Calendar> Anniversaries<C> {
         ensures asked { result.asked ≡ asked }
         ensures rest { result.rest ≡ Some window }
     {
-        let first = calendar.from_rata_die(window.first());
-        let last = calendar.from_rata_die(window.last());
-        let year = calendar.extended_year(&first);
-        let last_year = calendar.extended_year(&last);
+        let years = years_of(&calendar, window);
         Anniversaries {
             calendar,
             asked,
             rest: Some(window),
-            year,
-            last_year,
+            year: years.first,
+            last_year: years.last,
         }
     }
 

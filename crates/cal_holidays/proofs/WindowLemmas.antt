@@ -1,6 +1,6 @@
 -- The first day of a list of the days that pass a test.
-use Rattle.std.proofs.Common.{◌≡◌, ℕ, zero, suc, Bool, true, false, cond, List, [], ◌∷◌, filter, Option, Some, None, sym, ap, ◌∙◌, subst, arith, ℤ, pos, ◌+ℤ◌, ◌-ℤ◌, ◌<ℤ◌, ◌≤ℤ◌}
-use Rattle.std.specs.Prelude.{MatchOption}
+use Rattle.std.proofs.Common.{◌≡◌, ℕ, zero, suc, Bool, true, false, cond, List, [], ◌∷◌, filter, Option, refl, sym, ap, ◌∙◌, subst, arith, ℤ, pos, ◌+ℤ◌, ◌-ℤ◌, ◌<ℤ◌, ◌≤ℤ◌}
+use Rattle.std.specs.Prelude.{slice_get}
 use Rattle.std.proofs.lemmas.Int.{by_lt_z}
 use Rattle.cal_days.specs.Sums.{years_up}
 use Rattle.cal_days.proofs.Signed.{by_bool, signed}
@@ -44,12 +44,13 @@ first-of test n (suc count) l e =
     (λ holds. here test n count (filter test (days_from (n +ℤ pos 1) count)) l holds (sym (filter-step test n count true holds) ∙ e))
     (λ fails. later test n count l fails (first-of test (n +ℤ pos 1) count l (sym (filter-step test n count false fails) ∙ e)))
 
--- what an iterator over the days that pass gives first is the first of them
-pub first-given : (test : ℤ → Bool) (first last : ℤ) → first ≤ℤ last → (before rest : List ℤ) (given : Option ℤ) → before ≡ filter test (days_between first last)
-    → MatchOption given ((before ≡ []) × (rest ≡ [])) (λ x. before ≡ x ∷ rest) → IsFirstDay test first last given
-first-given test first last order before rest None list none =
-    let all = first-of test first (years_up (last -ℤ first +ℤ pos 1)) [] (sym list ∙ none.0) in
-    λ n within. all n within.0 (omega (arith, signed, within.1, order))
-first-given test first last order before rest (Some x) list is =
-    let all = first-of test first (years_up (last -ℤ first +ℤ pos 1)) (x ∷ rest) (sym list ∙ is) in
-    ((all.0, omega (arith, signed, all.1, order)), all.2, all.3)
+at-head : (test : ℤ → Bool) (first last : ℤ) → first ≤ℤ last → (l : List ℤ) → FirstOf test first (years_up (last -ℤ first +ℤ pos 1)) l → IsFirstDay test first last (slice_get l 0)
+at-head test first last order [] none = λ n within. none n within.0 (omega (arith, signed, within.1, order))
+at-head test first last order (x ∷ xs) is = ((is.0, omega (arith, signed, is.1, order)), is.2, is.3)
+
+-- the first of the list of the days that pass is the first of them
+pub first-of_list : (test : ℤ → Bool) (first last : ℤ) → first ≤ℤ last → (found : Option ℤ) → found ≡ slice_get (filter test (days_between first last)) 0 → IsFirstDay test first last found
+first-of_list test first last order found e =
+    let list = filter test (days_between first last) in
+    subst (λ o. IsFirstDay test first last o) (sym e)
+    (at-head test first last order list (first-of test first (years_up (last -ℤ first +ℤ pos 1)) list refl))

@@ -7,20 +7,22 @@ ghost use Rattle.cal_tables.specs.Kinds.{kind_system, table_contents};
 ghost use Rattle.cal_types.specs.MonthParts.{month_parts};
 ghost use Rattle.cal_holidays.specs.KindMonths.{knows_month};
 ghost use Rattle.cal_holidays.specs.Merging.{IsFirstDay};
+ghost use Rattle.cal_holidays.specs.MonthDays.{IsNthNumber};
 ghost use Rattle.cal_holidays.specs.Naming.{is_nth, names_day};
 ghost use Rattle.cal_holidays.specs.Rules.{is_nth_number, is_proper, rule_said};
 
-use crate::anniversary::first_anniversary;
 use crate::book::Book;
 use crate::easter::first_easter;
 use crate::holiday_rule::HolidayRule;
 use crate::nth::{NthWeekday, first_nth};
 use crate::rules::NumberedRules;
-use cal_any::AnyCalendar;
+use cal_anniversary::first_anniversary;
+use cal_base::Calendar;
 use cal_days::RataDie;
 use cal_kinds::AnyCalendarKind;
 use cal_tables::Tables;
 use cal_types::{Leaping, Month, Window};
+use kind_calls::{CalendarTask, run_in_kind};
 
 /// The rules of a book, in calendars over tables.
 #[derive(Clone, Copy)]
@@ -29,9 +31,53 @@ pub struct BookRules<'b, 't> {
     pub(crate) tables: Tables<'t>,
 }
 
+/// The task of finding the first day of a window on which a month and a day fall.
+#[derive(Clone, Copy)]
+struct FirstFixed {
+    month: Month,
+    day: u8,
+    leaping: Leaping,
+    window: Window,
+}
+
+impl CalendarTask<()> for FirstFixed {
+    type Answer = Option<RataDie>;
+
+    ghost asks = { λ t s _. (s.list.is_of_kind (month_parts t.month) ≡ true)
+        × ((nat_le 1 t.day && nat_le t.day 31) ≡ true) };
+
+    ghost done = { λ t s _ _ day.
+        IsFirstDay (is_anniversary s.list t.leaping (month_parts t.month) t.day) t.window.first t.window.last day };
+
+    fn run<C: Calendar + Copy>(&self, _nothing: &mut (), calendar: C) -> Option<RataDie> {
+        first_anniversary(&calendar, self.month, self.day, self.leaping, self.window)
+    }
+}
+
+/// The task of finding the first day from `first` to `last` that is the nth weekday of a month.
+#[derive(Clone, Copy)]
+struct FirstWeekday {
+    asked: NthWeekday,
+    first: RataDie,
+    last: RataDie,
+}
+
+impl CalendarTask<()> for FirstWeekday {
+    type Answer = Option<RataDie>;
+
+    ghost asks = { λ t _ _. (IsNthNumber t.asked.nth) × (IsValidDay t.first) × (IsValidDay t.last) };
+
+    ghost done = { λ t s _ _ day. let asked = t.asked in
+        IsFirstDay (is_nth s.list (month_parts asked.month) asked.nth asked.weekday) t.first t.last day };
+
+    fn run<C: Calendar + Copy>(&self, _nothing: &mut (), calendar: C) -> Option<RataDie> {
+        first_nth(&calendar, self.asked, self.first, self.last)
+    }
+}
+
 /// Returns the first day from `first` to `last` on which a month and a day of the calendar of a kind fall.
-fn first_fixed<'t>(
-    tables: Tables<'t>,
+fn first_fixed(
+    tables: &Tables<'_>,
     calendar: AnyCalendarKind,
     month: Month,
     day: u8,
@@ -43,22 +89,22 @@ fn first_fixed<'t>(
     requires day { (nat_le 1 day && nat_le day 31) ≡ true }
     requires from { IsValidDay first }
     requires to { IsValidDay last }
-    ensures { let list = (kind_system (table_contents tables.entry) calendar).list in
+    ensures { let list = (kind_system (table_contents tables.now) calendar).list in
         IsFirstDay (is_anniversary list leaping (month_parts month) day) first last result }
 {
     let window = Window::try_new(first, last)?;
-    first_anniversary(
-        AnyCalendar::new(calendar, tables),
+    let task = FirstFixed {
         month,
         day,
         leaping,
         window,
-    )
+    };
+    run_in_kind(&task, &mut (), calendar, tables)
 }
 
 /// Returns the first day from `first` to `last` that is the nth weekday of a month of the calendar of a kind.
-fn first_weekday<'t>(
-    tables: Tables<'t>,
+fn first_weekday(
+    tables: &Tables<'_>,
     calendar: AnyCalendarKind,
     asked: NthWeekday,
     first: RataDie,
@@ -67,16 +113,16 @@ fn first_weekday<'t>(
     requires nth { is_nth_number asked.nth ≡ true }
     requires from { IsValidDay first }
     requires to { IsValidDay last }
-    ensures { let list = (kind_system (table_contents tables.entry) calendar).list in
+    ensures { let list = (kind_system (table_contents tables.now) calendar).list in
         IsFirstDay (is_nth list (month_parts asked.month) asked.nth asked.weekday) first last result }
 {
-    let calendar = AnyCalendar::new(calendar, tables);
-    first_nth(&calendar, asked, first, last)
+    let task = FirstWeekday { asked, first, last };
+    run_in_kind(&task, &mut (), calendar, tables)
 }
 
 /// Returns the first day from `first` to `last` that a rule names.
-fn first_named<'t>(
-    tables: Tables<'t>,
+fn first_named(
+    tables: &Tables<'_>,
     rule: HolidayRule,
     first: RataDie,
     last: RataDie,
@@ -84,7 +130,7 @@ fn first_named<'t>(
     requires rule { is_proper (rule_said rule) ≡ true }
     requires from { IsValidDay first }
     requires to { IsValidDay last }
-    ensures { IsFirstDay (names_day (table_contents tables.entry) (rule_said rule)) first last result }
+    ensures { IsFirstDay (names_day (table_contents tables.now) (rule_said rule)) first last result }
 {
     match rule {
         HolidayRule::Fixed {
@@ -124,6 +170,6 @@ impl<'b, 't> NumberedRules for BookRules<'b, 't> {
     }
 
     fn first_day(&self, rule: usize, first: RataDie, last: RataDie) -> Option<RataDie> {
-        first_named(self.tables, self.book.rule(rule), first, last)
+        first_named(&self.tables, self.book.rule(rule), first, last)
     }
 }

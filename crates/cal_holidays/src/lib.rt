@@ -24,7 +24,6 @@
 //! ```
 #![tactic(auto)]
 
-mod anniversary;
 mod book;
 mod book_holidays;
 mod book_rules;

@@ -68,7 +68,8 @@ impl<'t> Tables<'t> {
     ///     PersianCorrections::none(),
     ///     JapaneseEras::up_to_reiwa(),
     /// )?;
-    /// let date = Date::from_rata_die(RataDie::new(738946), tables.japanese());
+    /// let japanese = tables.japanese();
+    /// let date = Date::from_rata_die(RataDie::new(738946), japanese);
     /// assert!(rt; date.era_year().year == 6); // of Reiwa
     /// ```
     pub fn try_new(
@@ -150,7 +151,8 @@ impl<'t> Tables<'t> {
     /// # Examples
     ///
     /// ```
-    /// let date = Date::from_rata_die(RataDie::new(738946), Tables::none().simulated_mecca());
+    /// let computed = Tables::none().simulated_mecca();
+    /// let date = Date::from_rata_die(RataDie::new(738946), computed);
     /// assert!(rt; date.year().extended_year() == 1445);
     /// ```
     pub fn simulated_mecca(&self) -> Hijri<AstronomicalSimulation<'t>>
@@ -182,7 +184,8 @@ impl<'t> Tables<'t> {
     /// # Examples
     ///
     /// ```
-    /// let date = Date::from_rata_die(RataDie::new(738946), tables.japanese());
+    /// let japanese = tables.japanese();
+    /// let date = Date::from_rata_die(RataDie::new(738946), japanese);
     /// assert!(rt; date.era_year().year == 6); // of Reiwa
     /// ```
     pub fn japanese(&self) -> Japanese

@@ -66,7 +66,8 @@ impl MonthInfo {
     /// # Examples
     ///
     /// ```
-    /// let month = Date::from_rata_die(RataDie::new(738946), Hebrew).month();
+    /// let date = Date::from_rata_die(RataDie::new(738946), Hebrew);
+    /// let month = date.month();
     /// assert!(rt; month.number() == 5); // in the place 6
     /// ```
     pub fn number(self) -> u8
@@ -80,7 +81,8 @@ impl MonthInfo {
     /// # Examples
     ///
     /// ```
-    /// let month = Date::from_rata_die(RataDie::new(738946), Hebrew).month();
+    /// let date = Date::from_rata_die(RataDie::new(738946), Hebrew);
+    /// let month = date.month();
     /// assert!(rt; month.leap_status() == LeapStatus::Leap);
     /// ```
     pub fn leap_status(self) -> LeapStatus
@@ -94,7 +96,8 @@ impl MonthInfo {
     /// # Examples
     ///
     /// ```
-    /// let month = Date::from_rata_die(RataDie::new(738946), Hebrew).month();
+    /// let date = Date::from_rata_die(RataDie::new(738946), Hebrew);
+    /// let month = date.month();
     /// assert!(rt; month.to_input() == Month::leap(5)); // Adar I
     /// ```
     pub fn to_input(&self) -> Month
@@ -108,7 +111,8 @@ impl MonthInfo {
     /// # Examples
     ///
     /// ```
-    /// let month = Date::from_rata_die(RataDie::new(738946), Hebrew).month();
+    /// let date = Date::from_rata_die(RataDie::new(738946), Hebrew);
+    /// let month = date.month();
     /// assert!(rt; month.is_leap()); // Adar I
     /// ```
     pub fn is_leap(self) -> bool

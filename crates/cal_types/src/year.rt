@@ -78,7 +78,7 @@ impl YearInfo {
     /// # Examples
     ///
     /// ```
-    /// let date = Date::from_rata_die(RataDie::new(738946), Buddhist);
+    /// let date = Date::try_new_buddhist(2567, 3, 1)?;
     /// assert!(rt; date.year().era_year_or_related_iso() == 2567);
     /// ```
     pub fn era_year_or_related_iso(self) -> i32
@@ -112,7 +112,8 @@ impl YearInfo {
     /// # Examples
     ///
     /// ```
-    /// let year = Date::from_rata_die(RataDie::new(738946), Buddhist).year();
+    /// let date = Date::try_new_buddhist(2567, 3, 1)?;
+    /// let year = date.year();
     /// assert!(rt; year.era()?.year == 2567);
     /// ```
     pub fn era(self) -> Option<EraYear>
@@ -129,7 +130,9 @@ impl YearInfo {
     /// # Examples
     ///
     /// ```
-    /// let year = Date::from_rata_die(RataDie::new(738946), published::chinese()).year();
+    /// let chinese = published::chinese();
+    /// let date = Date::from_rata_die(RataDie::new(738946), chinese);
+    /// let year = date.year();
     /// assert!(rt; year.cyclic()?.year == 41); // of 2024
     /// ```
     pub fn cyclic(self) -> Option<CyclicYear>

@@ -1,5 +1,5 @@
 -- Laws of what commands write.
-use Rattle.std.specs.Prelude.{◌≡◌, ℕ, ◌≤ℤ◌, Bool, true, false, List, ◌++◌}
+use Rattle.std.specs.Prelude.{◌≡◌, ℕ, ◌≤ℤ◌, Bool, true, false, List, ◌++◌, Ok}
 use Rattle.byte_io.specs.Bytes.{IsPrefix}
 use Rattle.cal_anniversary.specs.FallingOn.{AreAnniversaries}
 use Rattle.cal_holidays.specs.BookNames.{holidays_in}

@@ -1,10 +1,11 @@
 //! The examples, as the docs have them.
 
-mod dates;
-mod inner;
+mod counted;
+mod east_asian;
+mod hebrew;
+mod hijri;
+mod iso;
 mod lists;
-mod lunar;
-mod published;
 mod rows;
 mod solar;
 mod spans;

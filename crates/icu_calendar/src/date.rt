@@ -289,7 +289,7 @@ where
     /// # Examples
     ///
     /// ```
-    /// let date = Date::from_rata_die(RataDie::new(738946), Buddhist);
+    /// let date = Date::try_new_buddhist(2567, 3, 1)?;
     /// assert!(rt; date.year().era_year_or_related_iso() == 2567);
     /// ```
     pub fn year(&self) -> YearInfo
@@ -307,7 +307,7 @@ where
     /// # Examples
     ///
     /// ```
-    /// let date = Date::from_rata_die(RataDie::new(738946), Gregorian);
+    /// let date = Date::try_new_gregorian(2024, 3, 1)?;
     /// assert!(rt; date.is_in_leap_year());
     /// ```
     pub fn is_in_leap_year(&self) -> bool
@@ -337,7 +337,7 @@ where
     /// # Examples
     ///
     /// ```
-    /// let date = Date::from_rata_die(RataDie::new(738946), Gregorian);
+    /// let date = Date::try_new_gregorian(2024, 3, 1)?;
     /// assert!(rt; date.days_in_year() == 366);
     /// ```
     pub fn days_in_year(&self) -> u16
@@ -368,7 +368,8 @@ where
     /// # Examples
     ///
     /// ```
-    /// let month = Date::from_rata_die(RataDie::new(738946), Hebrew).month();
+    /// let date = Date::from_rata_die(RataDie::new(738946), Hebrew);
+    /// let month = date.month();
     /// assert!(rt; month.to_input() == Month::leap(5)); // Adar I
     /// ```
     pub fn month(&self) -> MonthInfo
@@ -468,9 +469,9 @@ where
     /// # Examples
     ///
     /// ```
-    /// let date = Date::try_new_iso(2024, 3, 1)?;
-    /// let hebrew = date.to_calendar(Hebrew);
-    /// assert!(rt; hebrew.era_year().year == 5784);
+    /// let iso = Date::try_new_iso(2024, 3, 1)?;
+    /// let date = iso.to_calendar(Hebrew);
+    /// assert!(rt; date.era_year().year == 5784);
     /// ```
     pub fn to_calendar<A2: AsCalendar>(&self, calendar: A2) -> Date<A2>
     where
@@ -635,8 +636,8 @@ where
     ///
     /// ```
     /// let mut steps = Steps::<L>::new(blank);
-    /// let first = Date::from_rata_die(RataDie::new(738946), Iso);
-    /// let second = Date::from_rata_die(RataDie::new(738953), Iso);
+    /// let first = Date::try_new_iso(2024, 3, 1)?;
+    /// let second = Date::try_new_iso(2024, 3, 8)?;
     /// let Ok(difference) = first.until_counted(&second, DateDifferenceOptions::default(), &mut steps);
     /// assert!(rt; difference.days == 7);
     /// ```
@@ -691,7 +692,8 @@ where
     /// # Examples
     ///
     /// ```
-    /// let year = Date::from_rata_die(RataDie::new(738946), Buddhist).era_year();
+    /// let date = Date::try_new_buddhist(2567, 3, 1)?;
+    /// let year = date.era_year();
     /// assert!(rt; year.year == 2567 && year.era.as_str() == "be");
     /// ```
     pub fn era_year(&self) -> EraYear
@@ -711,7 +713,8 @@ where
     /// # Examples
     ///
     /// ```
-    /// let date = Date::from_rata_die(RataDie::new(738946), published::chinese());
+    /// let chinese = published::chinese();
+    /// let date = Date::from_rata_die(RataDie::new(738946), chinese);
     /// assert!(rt; date.cyclic_year().year == 41); // of 2024
     /// ```
     pub fn cyclic_year(&self) -> CyclicYear

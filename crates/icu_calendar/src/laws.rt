@@ -34,8 +34,8 @@ use cal_types::{
 /// # Examples
 ///
 /// ```
-/// let first = Date::from_rata_die(RataDie::new(738946), Iso);
-/// let second = Date::from_rata_die(RataDie::new(738953), Iso);
+/// let first = Date::try_new_iso(2024, 3, 1)?;
+/// let second = Date::try_new_iso(2024, 3, 8)?;
 /// let Ok(sum) = laws::sum_with_difference(first, &second, DateDifferenceOptions::default());
 /// assert!(rt; sum.same_date(&second));
 /// ```
@@ -151,7 +151,7 @@ where
 /// # Examples
 ///
 /// ```
-/// let date = Date::from_rata_die(RataDie::new(738946), Gregorian);
+/// let date = Date::try_new_gregorian(2024, 3, 1)?;
 /// assert!(rt; !laws::rebased_in_a_shared_year(&date, Iso).moved);
 /// ```
 pub fn rebased_in_a_shared_year<A: AsCalendar, B: AsCalendar>(
@@ -242,7 +242,8 @@ pub fn hijri_date_kept<'u, P: TablePurpose>(
 ///
 /// ```
 /// let none = EastAsianTable::none(Side::China);
-/// let stored = Date::try_new(1911.into(), Month::new(9), 1, ChineseTraditional::new(none))?;
+/// let before = ChineseTraditional::new(none);
+/// let stored = Date::try_new(1911.into(), Month::new(9), 1, before)?;
 /// let longer = ChineseTraditional::new(none.lengthened(published::china_table().rows())?);
 /// assert!(rt; !laws::east_asian_date_kept(&stored, longer).moved);
 /// ```

@@ -6,7 +6,8 @@
 //! # Examples
 //!
 //! ```
-//! let new_year = Date::try_new(2023.into(), Month::new(1), 1, published::chinese())?;
+//! let chinese = published::chinese();
+//! let new_year = Date::try_new(2023.into(), Month::new(1), 1, chinese)?;
 //! assert!(rt; new_year.to_rata_die().to_i64_date() == 738542); // 2023-01-22
 //! ```
 

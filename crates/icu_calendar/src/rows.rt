@@ -8,8 +8,8 @@
 //!
 //! ```
 //! let rows = TableRows::try_read(alloc, b"row china 1912 698026 lslslslslsls 0\n")?;
-//! let tables = rows.tables()?;
-//! let date = Date::try_new(1912.into(), Month::new(1), 30, tables.chinese())?;
+//! let chinese = rows.tables()?.chinese();
+//! let date = Date::try_new(1912.into(), Month::new(1), 30, chinese)?;
 //! assert!(rt; date.to_rata_die().to_i64_date() == 698055); // 1912-03-18
 //! ```
 //!

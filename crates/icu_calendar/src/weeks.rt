@@ -44,7 +44,7 @@ impl Date<Iso> {
     /// # Examples
     ///
     /// ```
-    /// let week = Date::from_rata_die(RataDie::new(739250), Iso).week_of_year(); // 2024-12-30
+    /// let week = Date::try_new_iso(2024, 12, 30)?.week_of_year();
     /// assert!(rt; week.week_number == 1 && week.iso_year == 2025);
     /// ```
     pub fn week_of_year(&self) -> IsoWeekOfYear

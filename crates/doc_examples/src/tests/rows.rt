@@ -1,5 +1,6 @@
 //! The examples of the docs: rows of tables as constant data.
 
+use icu_calendar::rows::TableRows;
 use icu_calendar::{
     EastAsianRow, EastAsianTable, EastAsianTraditionalYear, HijriRow, HijriTable, HijriYear,
     RataDie, Side, published, qing_year,
@@ -96,4 +97,18 @@ fn years_of_month_starts(rt: HostRuntime) {
 
     let starts = [RataDie::new(738926); 14]; // no month has a day
     assert!(rt; EastAsianTraditionalYear::try_new(2024, starts, None).is_none());
+}
+
+#[test]
+fn rows_of_lines(rt: HostRuntime) -> Result<(), Fail> {
+    let alloc = rt.alloc();
+    let rows = TableRows::new(alloc);
+    assert!(rt; rows.china().is_empty());
+
+    let mut rows = TableRows::new(alloc);
+    rows.take_line(b"row persian 1502")?;
+
+    let rows = TableRows::try_read(alloc, b"# corrected\nrow persian 1502\nrow persian 1601\n")?;
+    assert!(rt; rows.tables().is_ok());
+    Ok(())
 }

@@ -22,7 +22,8 @@ where
     ///
     /// ```
     /// let date = Date::try_new_iso(2024, 3, 1)?;
-    /// assert!(rt; date.same_date(&Date::from_rata_die(RataDie::new(738946), Iso)));
+    /// let again = Date::from_rata_die(RataDie::new(738946), Iso);
+    /// assert!(rt; date.same_date(&again));
     /// ```
     pub fn same_date<B: AsCalendar<Calendar = A::Calendar>>(&self, other: &Date<B>) -> bool
         ensures equal { let c = A.cal_of self.now.calendar in
@@ -41,7 +42,7 @@ where
     ///
     /// ```
     /// let date = Date::try_new_iso(2024, 3, 1)?;
-    /// let earlier = Date::from_rata_die(RataDie::new(738945), Iso);
+    /// let earlier = Date::try_new_iso(2024, 2, 29)?;
     /// assert!(rt; earlier.date_cmp(&date) == Some(Ordering::Less));
     /// ```
     pub fn date_cmp<B: AsCalendar<Calendar = A::Calendar>>(

@@ -1,7 +1,7 @@
 use Rattle.std.proofs.Common.{subst}
 use Rattle.cal_hijri.specs.TabularRules.{tabular_system}
 use Rattle.cal_hijri.specs.declared.tabular_algorithm.TabularAlgorithm.{TabularAlgorithm}
-use Rattle.calspan_run.proofs.kinds.run_in_tabular.Goals as goal
+use Rattle.kind_calls.proofs.dispatch.run_in_tabular.Goals as goal
 
 pub returns : goal.returns
 returns g c =

@@ -1,0 +1,56 @@
+//! The examples of the docs: calls whose steps are counted, and tables of one's own.
+
+ghost use Rattle.std.specs.Prelude.{◌≡◌, ◌<◌};
+
+use icu_calendar::{
+    Calendar, Date, DateDifferenceOptions, DateDurationUnit, EastAsianTable, HijriTable, Iso,
+    JapaneseEras, Missing, PersianCorrections, RataDie, Rule, Side, Steps, Tables,
+    first_index_counted, occurrence_counted,
+};
+use std::marker::Brand;
+use std::process::Abort;
+use std::sync::ledger::{Blank, Ledger};
+
+/// The examples of [`counted_calls`].
+fn show_counted_calls<L: Ledger>(rt: &impl Abort, blank: Blank) -> Option<()>
+    requires name { blank.name ≡ L.name }
+    requires parts { blank.parts ≡ L.parts }
+    requires some { 0 < blank.parts }
+{
+    let mut steps = Steps::<L>::new(blank);
+    let monthly = Rule::try_new(DateDurationUnit::Months, 1, Missing::Constrain)?;
+    let start = Iso.from_rata_die(RataDie::new(737821)); // 2021-01-31
+    let second = occurrence_counted(&Iso, &start, monthly, 1, &mut steps)?;
+    assert!(rt; second.to_i64_date() == 737849); // 2021-02-28
+    let march = RataDie::new(737850);
+    assert!(rt; first_index_counted(&Iso, &start, monthly, march, &mut steps) == Some(2));
+
+    let first = Date::try_new_iso(2024, 3, 1).ok()?;
+    let second = Date::try_new_iso(2024, 3, 8).ok()?;
+    let Ok(difference) = first.until_counted(&second, DateDifferenceOptions::default(), &mut steps);
+    assert!(rt; difference.days == 7);
+    Some(())
+}
+
+#[test]
+fn counted_calls(rt: HostRuntime) {
+    assert!(rt; show_counted_calls::<Brand>(&rt, Blank::new(1)).is_some());
+}
+
+/// The examples of [`tables_of_ones_own`].
+fn show_tables_of_ones_own() -> Option<()> {
+    let tables = Tables::try_new(
+        EastAsianTable::none(Side::China),
+        EastAsianTable::none(Side::Korea),
+        HijriTable::none(),
+        PersianCorrections::none(),
+        JapaneseEras::up_to_reiwa(),
+    )?;
+    let japanese = tables.japanese();
+    Some(())
+}
+
+#[test]
+fn tables_of_ones_own(rt: HostRuntime) {
+    assert!(rt; show_tables_of_ones_own().is_some());
+}
