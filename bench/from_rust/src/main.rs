@@ -3,7 +3,8 @@
 
 use icu_calendar::cal::hijri::{TabularAlgorithmEpoch, TabularAlgorithmLeapYears};
 use icu_calendar::cal::{
-    Buddhist, ChineseTraditional, Computed, Coptic, Ethiopian, Hebrew, Hijri, Indian, Japanese, Julian, KoreanTraditional, Persian, Roc,
+    Buddhist, ChineseTraditional, Computed, Coptic, Ethiopian, Hebrew, Hijri, Indian, Japanese,
+    Julian, KoreanTraditional, Persian, Roc,
 };
 use icu_calendar::options::{DateAddOptions, DateDifferenceOptions};
 use icu_calendar::types::{DateDuration, DateDurationUnit, RataDie};
@@ -18,7 +19,11 @@ fn days(turns: u32) -> impl Iterator<Item = i64> {
 /// Returns the day number of a date, of which the extended year, the month and the day are read.
 fn day_and_back<A: AsCalendar + Copy>(day: i64, calendar: A) -> i64 {
     let date = Date::from_rata_die(RataDie::new(day), calendar);
-    black_box((date.extended_year(), date.month().ordinal, date.day_of_month().0));
+    black_box((
+        date.extended_year(),
+        date.month().ordinal,
+        date.day_of_month().0,
+    ));
     date.to_rata_die().to_i64_date()
 }
 
@@ -38,9 +43,13 @@ fn day_of_sum<A: AsCalendar + Copy>(day: i64, calendar: A) -> i64 {
 }
 
 fn parts_between<A: AsCalendar + Copy>(from: i64, to: i64, calendar: A) -> i64 {
-    let (from, to) = (Date::from_rata_die(RataDie::new(from), calendar), Date::from_rata_die(RataDie::new(to), calendar));
-    let mut options = DateDifferenceOptions::default();
-    options.largest_unit = Some(DateDurationUnit::Years);
+    let (from, to) = (
+        Date::from_rata_die(RataDie::new(from), calendar),
+        Date::from_rata_die(RataDie::new(to), calendar),
+    );
+    let options = DateDifferenceOptions {
+        largest_unit: Some(DateDurationUnit::Years),
+    };
     match from.try_until_with_options(&to, options) {
         Ok(it) => i64::from(it.years) + i64::from(it.months) + i64::from(it.days),
         Err(_) => 0,
@@ -53,7 +62,9 @@ fn measure<C: Calendar + Copy>(operation: &str, turns: u32, calendar: C) -> i64 
         "day" => days(turns).map(|day| day_and_back(day, calendar)).sum(),
         "names" => days(turns).map(|day| day_and_names(day, calendar)).sum(),
         "year" => days(turns).map(|day| day_of_sum(day, calendar)).sum(),
-        "difference" => days(turns).map(|day| parts_between(day * 2 / 3, day, calendar)).sum(),
+        "difference" => days(turns)
+            .map(|day| parts_between(day * 2 / 3, day, calendar))
+            .sum(),
         other => panic!("no operation {other}"),
     }
 }
@@ -80,7 +91,9 @@ fn main() {
         "hebrew" => measure(operation, turns, Hebrew),
         "islamic-umalqura" => measure(operation, turns, Hijri::new_umm_al_qura()),
         "islamic-civil" => measure(operation, turns, tabular(TabularAlgorithmLeapYears::TypeII)),
-        "islamic-type1-friday" => measure(operation, turns, tabular(TabularAlgorithmLeapYears::TypeI)),
+        "islamic-type1-friday" => {
+            measure(operation, turns, tabular(TabularAlgorithmLeapYears::TypeI))
+        }
         "persian" => measure(operation, turns, Persian),
         "indian" => measure(operation, turns, Indian),
         "coptic" => measure(operation, turns, Coptic),

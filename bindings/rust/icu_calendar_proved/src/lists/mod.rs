@@ -29,6 +29,7 @@ mod anniversaries;
 mod recurrences;
 mod window;
 
+#[cfg(feature = "alloc")]
 pub(crate) use anniversaries::knows_month;
 pub use anniversaries::{anniversaries, Anniversaries, AnniversaryError, Leaping};
 pub use recurrences::{Missing, Occurrence, Recurrence, Rule};
