@@ -32,7 +32,7 @@ else
 fi
 if command -v valgrind >/dev/null; then
   # Each test is a program of its own, whose path cargo prints.
-  for name in dates cases lists program; do
+  for name in dates cases program; do
     program=$(cargo test --test "$name" --no-run 2>&1 | sed -n 's/.*Executable.*(\(.*\))$/\1/p')
     valgrind --quiet --error-exitcode=1 "$program" --quiet --test-threads=1 >/dev/null
   done

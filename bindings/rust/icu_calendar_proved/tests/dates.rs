@@ -517,6 +517,7 @@ fn types_cross_threads() {
     sent(&iso(2024, 3, 1));
     sent(&iso(2024, 3, 1).to_any());
     sent(&AnyCalendar::from(Hebrew));
+    assert_eq!(std::mem::size_of::<Date<Iso>>(), 20);
     fn by_pointer<A: AsCalendar>(date: &Date<A>) -> u8 {
         date.day_of_month().0
     }

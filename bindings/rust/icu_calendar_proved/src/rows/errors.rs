@@ -10,7 +10,7 @@ use core::fmt;
 /// ```
 /// use icu_calendar::rows::{LineFault, Rows, RowsError};
 ///
-/// let rows = Rows::try_read(b"\nrow era 2025 1 1 next 7\n");
+/// let rows = Rows::try_read(b"\nrow era 2030 1 1 next 9\n");
 /// assert_eq!(rows.unwrap_err(), RowsError::Line { number: 2, fault: LineFault::Range });
 /// ```
 #[derive(Clone, Copy, Debug, PartialEq, Eq, Hash)]
