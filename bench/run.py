@@ -6,6 +6,7 @@
 - `lists`: items a second of long lists of days.
 - `holidays`: a book of a hundred rules over a century.
 - `from_c`: a conversion from C beside the same in Rattle (build first: the above, and bindings/c/build.sh).
+- `from_rust`: a conversion, a sum and a difference from Rust beside the same in Rattle (build first: the same).
 
 Nothing else should run beside it.
 """
@@ -14,7 +15,7 @@ import importlib
 import sys
 from pathlib import Path
 
-NAMES = ["operations", "requests", "lists", "holidays", "from_c"]
+NAMES = ["operations", "requests", "lists", "holidays", "from_c", "from_rust"]
 
 
 def main() -> int:

@@ -100,6 +100,14 @@ def python_codes() -> str:
     return "".join(f"    {it.constant} = {it.code}\n" for it in CODED)
 
 
+def rust_codes() -> str:
+    return "".join(f"    pub(crate) const {it.constant}: u8 = {it.code};\n" for it in CODED)
+
+
+def rust_names() -> str:
+    return "".join(f'    ("{it.name}", AnyCalendarKind::{it.variant}),\n' for it in NAMED)
+
+
 def web_type() -> str:
     words = quoted(CODED)
     lines = wrapped([words[0], *(f"| {it}" for it in words[1:])], "/** @typedef {", " *   ", " ")
@@ -168,6 +176,8 @@ LISTS = [
     List("bindings/c/include/icu_calendar.h", "codes", c_codes),
     List("bindings/c/examples/dates.c", "names", c_names),
     List("bindings/python/icu_calendar/codes.py", "codes", python_codes),
+    List("bindings/rust/icu_calendar_proved/src/engine.rs", "codes", rust_codes),
+    List("bindings/rust/icu_calendar_proved/src/any_calendar.rs", "names", rust_names),
     List("bindings/web/icu_calendar.mjs", "type", web_type),
     List("bindings/web/icu_calendar.mjs", "codes", web_codes),
     List("bindings/web/names.mjs", "names", web_names),

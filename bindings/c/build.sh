@@ -1,6 +1,7 @@
 #!/usr/bin/env bash
 # Builds the calls from C: the archive crates/icu_calendar_c/out/libicu_calendar_c.a, which is proved first, and by the system's C compiler
-# ($CC or cc) the shared object libicu_calendar.so beside it, which wants the C library alone.
+# ($CC or cc) the shared object libicu_calendar.so beside it, which wants the C library alone. The toolchain's functions over malloc are copied
+# beside the archive, so that the two can be linked without the toolchain.
 set -eu
 top=$(cd "$(dirname "${BASH_SOURCE[0]}")/../.." && pwd)
 crate=$top/crates/icu_calendar_c
@@ -14,5 +15,6 @@ if [ ! -f "$archive" ] || [ -n "$(find "$top/crates.txt" "$top"/crates/*/src "$t
   python3 "$top/build/program.py" icu_calendar_c
   touch "$archive"
 fi
+cp "$heap" "$crate/out/"
 "${CC:-cc}" -shared -o "$shared" -Wl,--whole-archive "$archive" -Wl,--no-whole-archive "$heap" -Wl,--exclude-libs,liblibc_c.a
 echo "$shared"

@@ -1,0 +1,79 @@
+#!/usr/bin/env python3
+"""Compares dates from Rust with those in Rattle: nanoseconds for a conversion (`day`), for one of which the era and the month codes are read,
+too (`names`), for a sum of a date and a year (`year`), and for a difference in years (`difference`), each from day numbers, by the crate of
+bindings/rust and by the same operation of `dates_bench`; `names` stands beside `day` there.
+
+A date from Rust has its day number and all its parts from one call. A sum and a difference begin with day numbers again within the call. Both
+programs are run in turns with two counts, as bench/operations.py has it, and the least time of each counts. Build first: `rt run -- day iso 1000`
+in crates/dates_bench, and bindings/c/build.sh. `--only-rust` measures without dates_bench.
+"""
+
+import argparse
+import os
+import subprocess
+import sys
+import tempfile
+from pathlib import Path
+
+from from_c import CODES
+from operations import FEW, MANY, PROGRAM, ROUNDS, seconds
+
+TOP = Path(__file__).resolve().parent.parent
+ARCHIVE = TOP / "crates/icu_calendar_c/out/libicu_calendar_c.a"
+# Each operation, and the one of dates_bench that stands beside it.
+OPERATIONS = {"day": "day", "names": "day", "year": "year", "difference": "difference"}
+# What a conversion from Rust may take more; a Japanese year asks for its era.
+MOST = 15.0
+MOST_JAPANESE = 30.0
+
+
+def compiled(archive: Path, folder: Path) -> Path:
+    env = {**os.environ, "ICU_CALENDAR_LIB": str(archive.resolve()), "CARGO_TARGET_DIR": str(folder)}
+    words = ["cargo", "build", "--quiet", "--release", "--offline", "--manifest-path", TOP / "bench/from_rust/Cargo.toml"]
+    subprocess.run(words, check=True, env=env)
+    return folder / "release/from_rust"
+
+
+def measured(programs: list[Path], operation: str, calendar: str, given: argparse.Namespace) -> list[float]:
+    """Nanoseconds of an operation in each program, all measured in turns."""
+    words = (operation, OPERATIONS[operation])
+    least: list[dict[int, float]] = [{} for _ in programs]
+    for _ in range(given.rounds):
+        for count in (given.few, given.many):
+            sums = set()
+            for program, word, best in zip(programs, words, least):
+                taken, checksum = seconds(program, word, calendar, count)
+                best[count] = min(taken, best.get(count, taken))
+                sums.add(checksum)
+            if len(sums) != 1:
+                sys.exit(f"{operation} {calendar} {count}: the checksums differ")
+    return [(it[given.many] - it[given.few]) / (given.many - given.few) * 1e9 for it in least]
+
+
+def main() -> int:
+    arguments = argparse.ArgumentParser(description=__doc__, formatter_class=argparse.RawDescriptionHelpFormatter)
+    arguments.add_argument("--program", type=Path, default=PROGRAM, help="the built dates_bench (default: %(default)s)")
+    arguments.add_argument("--archive", type=Path, default=ARCHIVE, help="the library (default: %(default)s)")
+    arguments.add_argument("--few", type=int, default=FEW, help="the smaller count (default: %(default)s)")
+    arguments.add_argument("--many", type=int, default=MANY, help="the larger count (default: %(default)s)")
+    arguments.add_argument("--rounds", type=int, default=ROUNDS, help="of how many runs the best counts (default: %(default)s)")
+    arguments.add_argument("--only-rust", action="store_true", help="don't compare")
+    given = arguments.parse_args()
+    worst, is_over = 0.0, False
+    with tempfile.TemporaryDirectory() as room:
+        programs = [compiled(given.archive, Path(room)), *([] if given.only_rust else [given.program])]
+        heads = [f"{it}, {where}" for it in OPERATIONS for where in ("Rust", "Rattle")[: len(programs)]]
+        print("| Calendar | " + " | ".join(heads) + " |\n|---" + "|---:" * len(heads) + "|")
+        for calendar in CODES:
+            times = {it: measured(programs, it, calendar, given) for it in OPERATIONS}
+            print(f"| `{calendar}` | " + " | ".join(f"{it:.1f}" for each in times.values() for it in each) + " |", flush=True)
+            more = times["day"][0] - times["day"][-1]
+            worst = max(worst, more)
+            is_over |= more > (MOST_JAPANESE if calendar == "japanese" else MOST)
+    if not given.only_rust:
+        print(f"\nA conversion takes at most {worst:.1f} ns more from Rust; the aim is {MOST:.0f}, and {MOST_JAPANESE:.0f} in the Japanese calendar.")
+    return int(is_over)
+
+
+if __name__ == "__main__":
+    sys.exit(main())

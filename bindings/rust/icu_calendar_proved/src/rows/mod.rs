@@ -1,0 +1,243 @@
+//! Rows of a caller's own: years of the Chinese, Korean, Umm al-Qura and Persian calendars in place of computed ones, and
+//! a Japanese era after Reiwa.
+//!
+//! The calls of this module run the program `calspan` over memory, with the rows before the request, so each reads the
+//! rows again: the 753 published ones take some 0.3 ms. `rows/README.md` describes the lines, and the rules that they
+//! have to keep.
+//!
+//! # Examples
+//!
+//! ```
+//! use icu_calendar::rows::Rows;
+//! use icu_calendar::types::{Month, RataDie};
+//! use icu_calendar::AnyCalendarKind;
+//!
+//! # fn main() -> Result<(), Box<dyn std::error::Error>> {
+//! let rows = Rows::try_read(b"row china 1912 698026 lslslslslsls 0\n")?;
+//! let date = rows.date_of_day(RataDie::new(698055), AnyCalendarKind::Chinese);
+//! assert_eq!((date.extended_year, date.month, date.day), (1912, Month::new(1), 30));
+//! # Ok(())
+//! # }
+//! ```
+
+mod answers;
+mod errors;
+mod requests;
+
+pub use answers::{RowDate, Span};
+pub use errors::{LineFault, RowsError, Side, SpanError, TableName, TablePart};
+pub use requests::Request;
+
+use crate::any_calendar::AnyCalendarKind;
+use crate::cal::Iso;
+use crate::date::Date;
+use crate::lists::{AnniversaryError, Leaping, Window};
+use crate::options::{DateDifferenceOptions, DateFromFieldsOptions};
+use crate::program::{calspan, Status};
+use crate::types::{DateFields, Month, RataDie};
+use alloc::format;
+use alloc::string::String;
+use alloc::vec::Vec;
+
+/// A request that any rows answer.
+const ANY_REQUEST: &str =
+    "span iso iso none none none from year=1 month=M01 day=1 to year=1 month=M01 day=1\n";
+
+/// Rows of years and of an era that form tables.
+///
+/// # Examples
+///
+/// ```
+/// use icu_calendar::rows::Rows;
+///
+/// assert!(Rows::try_read(b"# a note\n\nrow persian 1502\n").is_ok());
+/// ```
+#[derive(Clone, Debug, PartialEq, Eq, Default)]
+pub struct Rows {
+    lines: Vec<u8>,
+}
+
+/// Returns whether a line is a row, a note or empty.
+fn is_of_rows(line: &[u8]) -> bool {
+    let line = line.strip_suffix(b"\r").unwrap_or(line);
+    line.is_empty() || line.starts_with(b"#") || line == b"row" || line.starts_with(b"row ")
+}
+
+impl Rows {
+    /// Reads rows: lines that begin with `row`, empty ones, and notes that begin with `#`.
+    ///
+    /// # Errors
+    ///
+    /// - [`RowsError::Line`] for the first line that isn't a row or a note, or is out of its range.
+    /// - [`RowsError::Table`] for the first table whose rows don't fit together, and the first row that breaks a rule.
+    /// - [`RowsError::TooLong`] if there are more than 16777216 bytes.
+    ///
+    /// # Examples
+    ///
+    /// ```
+    /// use icu_calendar::rows::{LineFault, Rows, RowsError};
+    ///
+    /// let rows = Rows::try_read(b"row china 2024\n");
+    /// assert_eq!(rows.unwrap_err(), RowsError::Line { number: 1, fault: LineFault::Syntax });
+    /// ```
+    pub fn try_read(bytes: &[u8]) -> Result<Rows, RowsError> {
+        if let Some(place) = bytes
+            .split(|byte| *byte == b'\n')
+            .position(|line| !is_of_rows(line))
+        {
+            return Err(RowsError::Line {
+                number: place + 1,
+                fault: LineFault::Syntax,
+            });
+        }
+        let mut lines = bytes.to_vec();
+        if !lines.is_empty() && !lines.ends_with(b"\n") {
+            lines.push(b'\n');
+        }
+        let rows = Rows { lines };
+        let (status, output) = rows.run("span", ANY_REQUEST);
+        match status {
+            Status::Done => Ok(rows),
+            Status::TableRefused => Err(errors::rows_error(&output)),
+            _ => Err(RowsError::TooLong),
+        }
+    }
+
+    /// Runs a command over the rows and what stands behind them.
+    fn run(&self, words: &str, behind: &str) -> (Status, String) {
+        let input = [self.lines.as_slice(), behind.as_bytes()].concat();
+        let run = calspan(words, &input);
+        assert!(run.status != Status::NoMemory, "no memory for rows");
+        (
+            run.status,
+            String::from_utf8_lossy(&run.output).into_owned(),
+        )
+    }
+
+    /// Answers a request: two dates, both in a second calendar, and their difference.
+    ///
+    /// # Errors
+    ///
+    /// - [`SpanError`] for the first of the two bags of fields that names no date, with its first invalid field.
+    ///
+    /// # Panics
+    ///
+    /// Panics if there is no memory, or if the rows have nearly as many bytes as the program reads.
+    ///
+    /// # Examples
+    ///
+    /// ```
+    /// use icu_calendar::rows::{Request, Rows};
+    /// use icu_calendar::types::{DateFields, Month};
+    /// use icu_calendar::AnyCalendarKind;
+    ///
+    /// # fn main() -> Result<(), Box<dyn std::error::Error>> {
+    /// let rows = Rows::try_read(b"row china 1912 698026 lslslslslsls 0\n")?;
+    /// let from = DateFields::from_year_month_day(1912, Month::new(1), 1);
+    /// let to = DateFields::from_year_month_day(1912, Month::new(12), 29);
+    /// let span = rows.span(&Request::new(AnyCalendarKind::Chinese, AnyCalendarKind::Iso, from, to))?;
+    /// assert_eq!(span.duration.days, 353);
+    /// # Ok(())
+    /// # }
+    /// ```
+    pub fn span(&self, request: &Request<'_>) -> Result<Span, SpanError> {
+        let (status, output) = self.run("span", &request.line());
+        match status {
+            Status::Done => Ok(answers::span(&output).expect("an answer has its form")),
+            _ => Err(errors::span_error(&output).expect("an error has its form")),
+        }
+    }
+
+    /// Returns the date of a day number in a calendar over the rows. The day number is clamped to the valid range.
+    ///
+    /// # Panics
+    ///
+    /// Panics if there is no memory, or if the rows have nearly as many bytes as the program reads.
+    ///
+    /// # Examples
+    ///
+    /// ```
+    /// use icu_calendar::rows::Rows;
+    /// use icu_calendar::types::RataDie;
+    /// use icu_calendar::AnyCalendarKind;
+    ///
+    /// # fn main() -> Result<(), Box<dyn std::error::Error>> {
+    /// let rows = Rows::try_read(b"row era 2030 1 1 next 7\n")?;
+    /// let date = rows.date_of_day(RataDie::new(741078), AnyCalendarKind::Japanese);
+    /// assert_eq!((date.era.unwrap().as_str(), date.era_year), ("next", 1)); // 2030-01-01
+    /// # Ok(())
+    /// # }
+    /// ```
+    pub fn date_of_day(&self, day: RataDie, calendar: AnyCalendarKind) -> RowDate {
+        let date = Date::from_rata_die(day, Iso);
+        let month = date.month().to_input();
+        let fields =
+            DateFields::from_year_month_day(date.extended_year(), month, date.day_of_month().0);
+        let request = Request {
+            calendar: AnyCalendarKind::Iso,
+            shown: calendar,
+            from: fields,
+            to: fields,
+            fields_options: DateFromFieldsOptions::default(),
+            difference_options: DateDifferenceOptions::default(),
+        };
+        self.span(&request)
+            .expect("an ISO date is valid")
+            .from_shown
+    }
+
+    /// Lists the dates of a window that have a month and a day of a calendar over the rows, year after year.
+    ///
+    /// # Errors
+    ///
+    /// The first of these that applies:
+    ///
+    /// - [`AnniversaryError::MonthNotInCalendar`] if no year of the calendar has the month.
+    /// - [`AnniversaryError::InvalidDay`] if the day isn't from 1 to 31.
+    ///
+    /// # Panics
+    ///
+    /// Panics if there is no memory.
+    ///
+    /// # Examples
+    ///
+    /// ```
+    /// use icu_calendar::lists::{Leaping, Window};
+    /// use icu_calendar::rows::Rows;
+    /// use icu_calendar::types::{Month, RataDie};
+    /// use icu_calendar::AnyCalendarKind;
+    ///
+    /// # fn main() -> Result<(), Box<dyn std::error::Error>> {
+    /// let rows = Rows::try_read(b"row china 1912 698026 lslslslslsls 0\n")?;
+    /// let window = Window::try_new(RataDie::new(698000), RataDie::new(698300)).unwrap();
+    /// let days = rows.anniversaries(AnyCalendarKind::Chinese, Month::new(1), 1, Leaping::Exact, window)?;
+    /// assert_eq!(days[0].day_number, RataDie::new(698026));
+    /// # Ok(())
+    /// # }
+    /// ```
+    pub fn anniversaries(
+        &self,
+        calendar: AnyCalendarKind,
+        month: Month,
+        day: u8,
+        leaping: Leaping,
+        window: Window,
+    ) -> Result<Vec<RowDate>, AnniversaryError> {
+        let name = calendar.program_name();
+        let leaping = match leaping {
+            Leaping::Exact => "exact",
+            Leaping::Constrain => "constrain",
+        };
+        let (first, last) = (window.first().to_i64_date(), window.last().to_i64_date());
+        let words = format!(
+            "anniversary {name} iso {leaping} {} {day} {first} {last}",
+            month.code()
+        );
+        let (status, output) = self.run(&words, "");
+        match (status, output.as_str()) {
+            (Status::Done, lines) => Ok(lines.lines().filter_map(answers::first_date).collect()),
+            (_, "err InvalidDay\n") => Err(AnniversaryError::InvalidDay),
+            _ => Err(AnniversaryError::MonthNotInCalendar),
+        }
+    }
+}
