@@ -1,6 +1,6 @@
 -- A run over an input in memory: what it leaves, and the codes that a call may return.
 use Rattle.std.proofs.Common.{◌≡◌, ◌≢◌, ◌≤◌, ◌<◌, ℕ, Bool, true, false, List, [], ◌++◌, ◌⊎◌, inl, inr, length, drop, Option, Some, None, refl, arith, ap, subst, sym, ◌∙◌}
-use Rattle.calspan_run.specs.Command.{Asked}
+use Rattle.calspan_run.specs.Command.{Asked, Span, Generate, Anniversary, Recur, Holidays, Convert}
 use Rattle.calspan_run.specs.CommandRuns.{Ends}
 use Rattle.calspan_run.specs.Run.{outside}
 use Rattle.calspan_run.specs.Status.{code_of}
@@ -25,7 +25,12 @@ runs_in asked status input given before kept text left w w2 faults e f g h k end
 -- no read of an input in memory fails
 not_read : (asked : Option Asked) (input text : List ℕ) (faults : ℕ) → RunsInMemory asked input ReadFault text faults → ⊥
 not_read None input text faults r = let other : ReadFault ≡ Words = r.ends.0 in cc
-not_read (Some asked) input text faults r = let rose = r.ends.serves.rose in omega (arith, rose)
+not_read (Some Span) input text faults r = let rose = r.ends.serves.rose in omega (arith, rose)
+not_read (Some (Generate count)) input text faults r = let rose = r.ends.serves.rose in omega (arith, rose)
+not_read (Some (Anniversary asked)) input text faults r = let rose = r.ends.serves.rose in omega (arith, rose)
+not_read (Some (Recur asked)) input text faults r = let rose = r.ends.serves.rose in omega (arith, rose)
+not_read (Some (Holidays asked)) input text faults r = let rose = r.ends.serves.rose in omega (arith, rose)
+not_read (Some (Convert asked)) input text faults r = let rose = r.ends.streams.rose in omega (arith, rose)
 
 code_small : (status : Status) → code_of status ≤ 8
 code_small Done = omega arith
