@@ -1,11 +1,14 @@
 #!/usr/bin/env python3
-"""Compares dates from Rust with those in Rattle: nanoseconds for a conversion (`day`), for one of which the era and the month codes are read,
-too (`names`), for a sum of a date and a year (`year`), and for a difference in years (`difference`), each from day numbers, by the crate of
-bindings/rust and by the same operation of `dates_bench`; `names` stands beside `day` there.
+"""Compares the crate of bindings/rust with the same operations in Rattle (`dates_bench`), in nanoseconds. Each operation begins with a day number:
 
-A date from Rust has its day number and all its parts from one call. A sum and a difference begin with day numbers again within the call. Both
-programs are run in turns with two counts, as bench/operations.py has it, and the least time of each counts. Build first: `rt run -- day iso 1000`
-in crates/dates_bench, and bindings/c/build.sh. `--only-rust` measures without dates_bench.
+- `day`: a conversion.
+- `names`: a conversion that also reads the era and the month codes. It stands beside `day` of Rattle.
+- `year`: the sum of a date and a year.
+- `difference`: a difference in years.
+
+One call returns a date with its day number and all its parts. Sums and differences convert their day numbers once more within the call. Both
+programs run in turns with two counts, as in bench/operations.py, and the least time of each counts. Build first: `rt run -- day iso 1000` in
+crates/dates_bench, and bindings/c/build.sh. `--only-rust` measures without dates_bench.
 """
 
 import argparse

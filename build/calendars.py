@@ -124,7 +124,7 @@ def web_names() -> str:
 
 
 def launcher_words() -> str:
-    """The pattern of a name, in lines each of which adds to it."""
+    """Writes the pattern of a name. Each line adds to it."""
     lines = wrapped([it.name for it in CODED], "", "|", "|").splitlines()
     lines[1:] = [f"|{it.lstrip('|')}" for it in lines[1:]]
     lines = [it.rstrip("|") for it in lines]

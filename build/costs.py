@@ -155,7 +155,7 @@ def steps_of_functions(kept: Path) -> dict[str, tuple[int, int]]:
 
 
 def proved_work(kept: store.Store, room: Path, name: str) -> Path:
-    """Proves a crate with one job, and answers the folder of the work that the prover keeps."""
+    """Proves a crate with one job, and returns the folder in which the prover keeps its work."""
     below = [it for it in program.crates_below([name]) if it != name]
     if below and (status := program.Build(kept, room, below, False).whole()):
         sys.exit(status)

@@ -3,7 +3,7 @@
 
 With words, only the lines that have all of them: `python3 build/definitions.py leap`. With `--chain` it prints the longest chain of crates in
 `crates.txt` and the number of crates, and writes both into docs/ARCHITECTURE.md. With `--check` it writes nothing, and says where that
-document is stale: the chain and the number, crates that its table lacks, definitions and code of its second table that aren't there, files that
+document is stale: the chain and the number, crates that its table lacks, definitions and code of its second table that don't exist, files that
 the list for a new calendar names wrongly, and files of definitions that have no first comment. The status is 1 if there is anything.
 """
 
@@ -104,7 +104,7 @@ def is_defined(name: str, crate: str) -> bool:
 
 
 def stale_definitions() -> Iterator[str]:
-    """Definitions and code in the second table that aren't there. In a cell, the names behind a crate are of that crate; behind `a calendar's`
+    """Definitions and code in the second table that don't exist. In a cell, the names behind a crate are of that crate; behind `a calendar's`
     they are of any."""
     declared = {name for it in TOP.glob("crates/*/src/**/*.rt") for name in [it.stem, *DECLARED.findall(it.read_text())]}
     for rule, definitions, code in rows("| Rule | Definition | Code |"):

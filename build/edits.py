@@ -37,7 +37,7 @@ def is_stale(edit: Path) -> bool:
 
 
 def check() -> int:
-    """The status: whether an edit that stands apart replaces lines that aren't there."""
+    """The status: whether an edit that stands apart replaces lines that don't exist."""
     stale = [it for it in sorted(TOP.glob("crates/*/edits-apart/*.edit")) if is_stale(it)]
     for edit in stale:
         print(f"{edit.relative_to(TOP)}: its file lacks the lines that it replaces")
