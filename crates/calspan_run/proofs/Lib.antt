@@ -1,5 +1,6 @@
 mod AnswerLemmas
 mod BehindRowsLemmas
+mod BookRowLemmas
 mod CommandLemmas
 mod ConvertAnswerLemmas
 mod ConvertCommandLemmas

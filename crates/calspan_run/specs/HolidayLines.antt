@@ -6,7 +6,7 @@ use Rattle.cal_holidays.specs.BookNames.{holidays_in}
 use Rattle.cal_holidays.specs.Books.{book_records}
 use Rattle.cal_holidays.specs.Rules.{NamedRule, record_read}
 use Rattle.cal_types.specs.DayDates.{date_on}
-use Rattle.cal_tables.specs.Kinds.{no_contents}
+use Rattle.cal_tables.specs.Kinds.{TableContents}
 use Rattle.reply_texts.specs.DateTexts.{date_text}
 use Rattle.calspan_run.specs.Asked.{HolidaysAsked}
 use Rattle.calspan_run.specs.DayLines.{is_window}
@@ -35,14 +35,14 @@ holiday_line rules (n, r) = date_text iso_system (date_on iso_system.list n) ++ 
 abbrev pub record_fault : ℕ → ℕ → List ℕ
 record_fault number field = codes "record " ++ decimal number ++ codes " field " ++ decimal field
 
--- a line for each holiday of a book in a window, in their order, over tables without rows
-abbrev pub holidays_by : HolidaysAsked → Result (List NamedRule) (ℕ × ℕ) → Result (List ℕ) (List ℕ)
-holidays_by asked (Ok rules) =
-    Ok (lines_text (holiday_line rules) (holidays_in no_contents rules asked.first asked.last 0))
-holidays_by asked (Err (number, field)) = Err (record_fault number field)
+-- a line for each holiday of a book in a window, in their order, over some tables
+abbrev pub holidays_by : HolidaysAsked → TableContents → Result (List NamedRule) (ℕ × ℕ) → Result (List ℕ) (List ℕ)
+holidays_by asked tables (Ok rules) =
+    Ok (lines_text (holiday_line rules) (holidays_in tables rules asked.first asked.last 0))
+holidays_by asked tables (Err (number, field)) = Err (record_fault number field)
 
--- the answer over the text of a book: first the window is tested
-abbrev pub holidays_answer : HolidaysAsked → List ℕ → Result (List ℕ) (List ℕ)
-holidays_answer asked bytes =
-    if is_window asked.first asked.last then holidays_by asked (book_read 1 (book_records bytes))
+-- the answer over the text of a book and some tables: first the window is tested
+abbrev pub holidays_answer : HolidaysAsked → TableContents → List ℕ → Result (List ℕ) (List ℕ)
+holidays_answer asked tables book =
+    if is_window asked.first asked.last then holidays_by asked tables (book_read 1 (book_records book))
     else Err (codes "InvalidWindow")

@@ -7,7 +7,7 @@ use Rattle.cal_holidays.specs.NamedDays.{AreHolidays}
 use Rattle.cal_holidays.specs.Rules.{NamedRule}
 use Rattle.cal_recur.specs.Listing.{AreOccurrences, occurrences}
 use Rattle.cal_recur.specs.declared.rule.Rule.{Rule}
-use Rattle.cal_tables.specs.Kinds.{TableContents, kind_system, no_contents}
+use Rattle.cal_tables.specs.Kinds.{TableContents, kind_system}
 use Rattle.cal_types.specs.Anniversary.{anniversaries_between}
 use Rattle.cal_types.specs.CalendarList.{Date}
 use Rattle.cal_types.specs.CalendarSystem.{resolve_fields}
@@ -89,12 +89,12 @@ OccurrencesAreMeant =
     resolve_fields s a.start no_options ≡ Ok start
     → AreOccurrences s start rule first last (occurrences s start rule first last)
 
--- the items of `holidays` are all days of the window that a rule of the book names, with its number, each once and in
--- order
+-- over any tables the items of `holidays` are all days of the window that a rule of the book names, with its number,
+-- each once and in order
 abbrev pub HolidaysAreMeant : Type 0
 HolidaysAreMeant =
-    (a : HolidaysAsked) (rules : List NamedRule) → a.first ≤ℤ a.last
-    → AreHolidays no_contents rules a.first a.last 0 (holidays_in no_contents rules a.first a.last 0)
+    (a : HolidaysAsked) (tables : TableContents) (rules : List NamedRule) → a.first ≤ℤ a.last
+    → AreHolidays tables rules a.first a.last 0 (holidays_in tables rules a.first a.last 0)
 
 -- to every number of requests there is a line, and only one
 abbrev pub EveryNumberHasOneLine : Type 0

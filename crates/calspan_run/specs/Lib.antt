@@ -2,6 +2,8 @@ pub mod Anniversaries
 pub mod Answers
 pub mod Asked
 pub mod BehindRows
+pub mod BookRows
+pub mod BooksRead
 pub mod Command
 pub mod CommandRuns
 pub mod CommandSaid

@@ -1,9 +1,10 @@
 -- What the runs of the commands are held to.
-use Rattle.std.specs.Prelude.{◌≡◌, ℕ, ◌<◌, Bool, true, false, List, [], ◌⊎◌, length}
+use Rattle.std.specs.Prelude.{◌≡◌, ℕ, ◌-◌, ◌<◌, Bool, true, false, List, [], ◌⊎◌, length}
 use Rattle.cal_tables.specs.Kinds.{TableContents}
 use Rattle.byte_io.specs.Lines.{lines_in}
 use Rattle.calspan_run.specs.Asked.{HolidaysAsked}
-use Rattle.calspan_run.specs.BehindRows.{SaysBehindRows}
+use Rattle.calspan_run.specs.BehindRows.{Behind, OverTables, SaysBehindRows}
+use Rattle.calspan_run.specs.BookRows.{behind_lines}
 use Rattle.calspan_run.specs.DayLines.{is_refused, list_text}
 use Rattle.calspan_run.specs.Generator.{IsGenerated}
 use Rattle.calspan_run.specs.HolidayLines.{holidays_answer}
@@ -42,13 +43,26 @@ generator_rules count = record {
   KeepsInput = ⊥;
 }
 
--- the text of `holidays`: nothing before the whole input was read, and then the list or the line that refuses it
+-- over some tables the list of a book is written, or the line that refuses it
+abbrev pub book_end : HolidaysAsked → List ℕ → TableContents → List ℕ → Status → Type 0
+book_end asked book tables text status =
+    (text ≡ list_text (holidays_answer asked tables book))
+    × (status ≡ status_of (is_refused (holidays_answer asked tables book)))
+
+-- the book of an input begins with the first line that is neither ignored nor a row line, and is read over the tables
+abbrev pub holiday_behind : HolidaysAsked → List ℕ → Behind
+holiday_behind asked bytes = record {
+  AtEnd = book_end asked [];
+  AtLine = λ rows n request others text status. OverTables (book_end asked (behind_lines (n - 1) bytes)) rows text status;
+}
+
+-- the text of `holidays`: nothing before the whole input was read, and then the list or the line that refuses it, a row
+-- or a table
 abbrev pub SaysHolidays : HolidaysAsked → List ℕ → Bool → List ℕ → Status → Type 0
 SaysHolidays asked bytes false text status = (text ≡ []) × (status ≡ Done)
-SaysHolidays asked bytes true text status =
-    (text ≡ list_text (holidays_answer asked bytes)) × (status ≡ status_of (is_refused (holidays_answer asked bytes)))
+SaysHolidays asked bytes true text status = SaysBehindRows (holiday_behind asked bytes) bytes true text status
 
--- `holidays`: the input is a book as a whole, and no line ends the run
+-- `holidays`: the input is rows and a book as a whole, and no line ends the run
 abbrev pub holiday_rules : HolidaysAsked → Rules
 holiday_rules asked = record {
   Says = SaysHolidays asked;

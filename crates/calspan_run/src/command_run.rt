@@ -72,7 +72,7 @@ fn run_read<S: Source, K: Sink>(
 /// | `gen COUNT` | nothing | one line of counts and sums | `Done` |
 /// | `anniversary ..` | row lines | a line for each anniversary | `Done`, `Refused`, `TableRefused` |
 /// | `recur ..` | row lines | a line for each occurrence | `Done`, `Refused`, `TableRefused` |
-/// | `holidays FIRST LAST` | a book | a line for each holiday | `Done`, `Refused` |
+/// | `holidays FIRST LAST` | row lines, then a book | a line for each holiday | `Done`, `Refused`, `TableRefused` |
 /// | `convert ..` | row lines, then dates | a line for each date | `Done`, `Refused`, `TableRefused` |
 ///
 /// - `span` answers the request lines. Its tables are the row lines before the first request line.
@@ -82,11 +82,12 @@ fn run_read<S: Source, K: Sink>(
 /// - `recur CAL SHOWN UNIT EVERY skip|constrain FIRST LAST FIELDS` lists the occurrences of a rule: the date of the
 ///   fields with 0, 1, 2, .. times `EVERY` `years`, `months`, `weeks` or `days` added. A line has the index, the date
 ///   in `CAL` and the date in `SHOWN`.
-/// - `holidays` reads a book (see [`cal_holidays`]). A line has the date in the ISO calendar and the holiday's name.
-///   The lines are in order of their days, and on one day in the order of the book.
+/// - `holidays` reads a book (see [`cal_holidays`]): the input from its first line on that is neither ignored nor a row
+///   line. A line has the date in the ISO calendar and the holiday's name. The lines are in order of their days, and on
+///   one day in the order of the book.
 ///
-/// - `convert CAL SHOWN constrain|reject` writes the date of each line in the calendar `SHOWN`, or `!` and why the line is
-///   bad, and after it the bytes from the line's first tab on. It reads any number of bytes. A bad line doesn't end the
+/// - `convert CAL SHOWN constrain|reject` writes the date of each line in the calendar `SHOWN`, or `!` and why the line
+///   is bad, and after it the bytes from the line's first tab on. It reads any number of bytes. A bad line doesn't end the
 ///   run: the status is `Refused`. There is one answer for each line after the rows and comments at the start.
 ///
 /// A list covers the day numbers from `FIRST` to `LAST` (rata die). If its arguments or its book are invalid, one
@@ -107,13 +108,14 @@ fn run_read<S: Source, K: Sink>(
 /// - `Words`: the words name no command. Nothing was read or written.
 /// - `TableRefused`: a row line is invalid (`table line N syntax`, `range` or `late`), or a table
 ///   (`table NAME ROW PART`). The answers before it and the line about it are written.
-/// - `ReadFault`: the source counted a fault. With `span` and `convert`, the answers to all lines whose LF was read are written;
-///   otherwise nothing.
+/// - `ReadFault`: the source counted a fault. With `span` and `convert`, the answers to all lines whose LF was read are
+///   written; otherwise nothing.
 /// - `WriteFault`: the sink counted a fault. A prefix of the text is written; its length isn't specified.
 /// - `TooLong`: the source has more than 16777216 bytes. With `span`, the answers to all lines whose LF is among the
 ///   first 16777216 bytes are written; otherwise nothing. With `convert`, 18446744073709551615 reads were made.
-/// - `NoMemory`: there was no memory for a row of a year, with `holidays` for the book, or with `convert` for a line. Nothing is written. A row
-///   line that is invalid or names an era needs no memory. A book of more than 16777216 bytes is `TooLong`.
+/// - `NoMemory`: there was no memory for a row of a year, with `holidays` for the input, or with `convert` for a line.
+///   Nothing is written. A row line that is invalid or names an era needs no memory. Rows and a book of more than
+///   16777216 bytes are `TooLong`.
 pub fn run<S: Source, K: Sink>(
     alloc: Global,
     words: &[String],

@@ -1,5 +1,6 @@
 use Rattle.std.proofs.Common.{◌≡◌, FitsSigned, w32, to_z, of_z, [], Ok, inl, refl, sym, ap₂, ◌∙◌, rules, arith}
 use Rattle.cal_days.proofs.Signed.{signed}
+use Rattle.cal_tables.specs.Kinds.{table_contents}
 use Rattle.calspan_run.specs.CommandSaid.{holidays_said}
 use Rattle.calspan_run.specs.DayLines.{is_window}
 use Rattle.calspan_run.specs.declared.status.Status.TheVariants.{Done}
@@ -15,5 +16,5 @@ returns-then-is_empty g c =
     let first : to_z w32 (of_z w32 words.first) ≡ words.first = omega (arith, signed, fits) in
     let last : to_z w32 (of_z w32 words.last) ≡ words.last = omega (arith, signed, fits_last) in
     let window = sym (ap₂ is_window first last) ∙ c.in-Some.ensures.none.0 in
-    ends_with_answer (holidays_said words) c.args.bytes.now Done _ _ _ _ (Ok [])
-    (empty_answer (holidays_said words) c.args.bytes.now (empty_bytes c.args.bytes.now c.if-is_empty.ensures) window) (inl (refl, appends_none _))
+    ends_with_answer (holidays_said words) (table_contents c.args.tables.now) c.args.bytes.now Done _ _ _ _ (Ok [])
+    (empty_answer (holidays_said words) (table_contents c.args.tables.now) c.args.bytes.now (empty_bytes c.args.bytes.now c.if-is_empty.ensures) window) (inl (refl, appends_none _))
