@@ -3,9 +3,9 @@
 
 None of them is of this repository. They are packages of Debian 12, and the gate does without them: the files they made are kept.
 
-    apt-get install gcal calendar hebcal python3-holidays python3-workalendar python3-convertdate python3-dateutil locales
+    apt-get install gcal calendar hebcal python3-holidays python3-workalendar python3-convertdate python3-dateutil python3-icu python3-lunardate locales
     localedef -i ru_RU -f UTF-8 ru_RU.UTF-8
-    /usr/bin/python3 books/expected.py
+    /usr/bin/python3 books/expected.py [BOOK ..]
 
 `books/README.md` says what each book has from which of them, and where they are wrong or differ.
 """
@@ -19,8 +19,10 @@ from functools import cache
 from pathlib import Path
 
 import holidays
+import icu
 from convertdate import persian
 from dateutil.easter import EASTER_ORTHODOX, easter
+from lunardate import LunarDate
 from workalendar.usa import UnitedStates
 
 HERE = Path(__file__).resolve().parent / "expected"
@@ -412,6 +414,98 @@ def orthodox_sources(offsets: dict[str, int]) -> list[str]:
     ]
 
 
+# The days of the books in lunar calendars, by month and day; 30 is the last day of the last month.
+CHINESE = {
+    "Spring Festival": (1, 1),
+    "Lantern Festival": (1, 15),
+    "Longtaitou": (2, 2),
+    "Shangsi Festival": (3, 3),
+    "Buddha's Birthday": (4, 8),
+    "Dragon Boat Festival": (5, 5),
+    "Qixi Festival": (7, 7),
+    "Zhongyuan Festival": (7, 15),
+    "Mid-Autumn Festival": (8, 15),
+    "Double Ninth Festival": (9, 9),
+    "Xiayuan Festival": (10, 15),
+    "Laba Festival": (12, 8),
+    "New Year's Eve": (12, 30),
+}
+KOREAN = {
+    "Eve of Seollal": (12, 30),
+    "Seollal": (1, 1),
+    "Day after Seollal": (1, 2),
+    "Jeongwol Daeboreum": (1, 15),
+    "Samjinnal": (3, 3),
+    "Buddha's Birthday": (4, 8),
+    "Dano": (5, 5),
+    "Yudu": (6, 15),
+    "Chilseok": (7, 7),
+    "Baekjung": (7, 15),
+    "Day before Chuseok": (8, 14),
+    "Chuseok": (8, 15),
+    "Day after Chuseok": (8, 16),
+    "Jungyangjeol": (9, 9),
+}
+UMM_AL_QURA = {
+    "Islamic New Year": (1, 1),
+    "Tasua": (1, 9),
+    "Ashura": (1, 10),
+    "Mawlid": (3, 12),
+    "Laylat al-Mi'raj": (7, 27),
+    "Mid-Sha'ban": (8, 15),
+    "First day of Ramadan": (9, 1),
+    "Eid al-Fitr, first day": (10, 1),
+    "Eid al-Fitr, second day": (10, 2),
+    "Eid al-Fitr, third day": (10, 3),
+    "Day of Arafah": (12, 9),
+    "Eid al-Adha, first day": (12, 10),
+    "Eid al-Adha, second day": (12, 11),
+    "Eid al-Adha, third day": (12, 12),
+}
+
+
+# UCAL_IS_LEAP_MONTH, which python3-icu doesn't name.
+IS_LEAP_MONTH = 22
+
+
+def by_icu(locale: str, zone: str, names: dict[str, tuple[int, int]]) -> list[Day]:
+    """The days of the years on which a calendar of ICU has one of the months, no leap month, and days."""
+    calendar = icu.Calendar.createInstance(icu.TimeZone.createTimeZone(zone), icu.Locale(locale))
+    found = []
+    day = date(YEARS.start, 1, 1)
+    while day.year < YEARS.stop:
+        # Noon of the day there.
+        calendar.setTime((day.toordinal() - date(1970, 1, 1).toordinal()) * 86400.0 + 43200 - calendar.getTimeZone().getRawOffset() / 1000)
+        month, number = calendar.get(icu.UCalendarDateFields.MONTH) + 1, calendar.get(icu.UCalendarDateFields.DATE)
+        is_leap = calendar.get(IS_LEAP_MONTH) if "islamic" not in locale else 0
+        last = calendar.getActualMaximum(icu.UCalendarDateFields.DATE)
+        for name, (of_month, of_day) in names.items():
+            if not is_leap and month == of_month and number == min(of_day, last):
+                found.append((day, name))
+        day += ONE_DAY
+    return found
+
+
+def chinese() -> list[Day]:
+    """The days of lunardate, whose table is that of the Hong Kong Observatory."""
+    found = []
+    for day in (date(YEARS.start, 1, 1) + n * ONE_DAY for n in range(366 * len(YEARS))):
+        of_lunar, next_day = (LunarDate.fromSolarDate(it.year, it.month, it.day) for it in (day, day + ONE_DAY))
+        is_last = of_lunar.month != next_day.month
+        for name, (month, number) in CHINESE.items():
+            if not of_lunar.isLeapMonth and of_lunar.month == month and (of_lunar.day == number or (number == 30 and is_last)):
+                found.append((day, name))
+    return found
+
+
+def korean() -> list[Day]:
+    return by_icu("ko@calendar=dangi", "Asia/Seoul", KOREAN)
+
+
+def umm_al_qura() -> list[Day]:
+    return by_icu("ar_SA@calendar=islamic-umalqura", "Asia/Riyadh", UMM_AL_QURA)
+
+
 HEBCAL_WORDS = "hebcal 4.31 (Debian 4.31-1): hebcal -g"
 BOOKS = {
     "us-federal": (us_federal, US_YEARS, [
@@ -446,6 +540,11 @@ BOOKS = {
         f"{GCAL_WORDS} --cc-holidays=ET YEAR: Genna",
         "python3-dateutil 2.8.2: dateutil.easter.easter(YEAR, EASTER_ORTHODOX), with the offsets of the Bahire Hasab",
     ]),
+    "chinese": (chinese, YEARS, [
+        "python3-lunardate 0.2.0: LunarDate.fromSolarDate(YEAR, MONTH, DAY)",
+    ]),
+    "korean": (korean, YEARS, ["ICU 72.1 (python3-icu 2.10.2): the calendar `dangi` at Seoul, day by day"]),
+    "umm-al-qura": (umm_al_qura, YEARS, ["ICU 72.1 (python3-icu 2.10.2): the calendar `islamic-umalqura`, day by day"]),
 }
 
 
@@ -457,11 +556,11 @@ def write(book: str) -> int:
     return len(days)
 
 
-def main() -> int:
-    for book in BOOKS:
+def main(names: list[str]) -> int:
+    for book in names or BOOKS:
         print(f"{book}: {write(book)} days")
     return 0
 
 
 if __name__ == "__main__":
-    sys.exit(main())
+    sys.exit(main(sys.argv[1:]))

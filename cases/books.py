@@ -1,7 +1,8 @@
 #!/usr/bin/env python3
 """Lists the holidays of the books in `books/` by the built program, and compares them with the days that other programs have.
 
-The days are in `books/expected/`, a file for each book. A day that one side has alone is a fault, and so is another name for it.
+The days are in `books/expected/`, a file for each book. A day that one side has alone is a fault, and so is another name for it. The rows of
+published years stand before each book: without a rule in their calendars they change nothing.
 """
 
 import re
@@ -13,6 +14,9 @@ from pathlib import Path
 
 TOP = Path(__file__).resolve().parent.parent
 BOOKS = TOP / "books"
+ROWS = b"".join(it.read_bytes() for it in sorted((TOP / "rows").glob("*.rows")))
+# The books whose calendars have rows, and whose days are others without them.
+WITH_ROWS = {"chinese", "korean", "umm-al-qura"}
 # The script builds the program where a source is newer.
 PROGRAM = [str(TOP / "calspan"), "holidays"]
 HEAD = re.compile(r"# Days of (\d{4}) to (\d{4}), ")
@@ -40,9 +44,9 @@ def holiday_of(line: str) -> Holiday:
     return found, name
 
 
-def listed(book: Path, first: date, last: date) -> list[Holiday]:
+def listed(book: Path, first: date, last: date, rows: bytes) -> list[Holiday]:
     words = [*PROGRAM, str(first.toordinal()), str(last.toordinal())]
-    run = subprocess.run(words, input=book.read_bytes(), capture_output=True, check=False)
+    run = subprocess.run(words, input=rows + book.read_bytes(), capture_output=True, check=False)
     if run.returncode or run.stderr:
         raise SystemExit(f"{book.name}: status {run.returncode}, {run.stdout[:80]!r} and {run.stderr[-200:]!r}")
     return [holiday_of(line) for line in run.stdout.decode("ascii").splitlines()]
@@ -51,7 +55,9 @@ def listed(book: Path, first: date, last: date) -> list[Holiday]:
 def compare(book: Path) -> int:
     """How many holidays of the book agree."""
     first, last, wanted = expected_of(BOOKS / "expected" / f"{book.stem}.txt")
-    got = listed(book, first, last)
+    got = listed(book, first, last, ROWS)
+    if (listed(book, first, last, b"") == got) == (book.stem in WITH_ROWS):
+        raise SystemExit(f"{book.name}: what the rows change is something else")
     lacking, more = Counter(wanted) - Counter(got), Counter(got) - Counter(wanted)
     faults = [f"  lacking {day} {name}" for day, name in sorted(lacking)] + [f"  no such {day} {name}" for day, name in sorted(more)]
     if faults:

@@ -60,6 +60,45 @@ fn quotes_part_no_field_and_rules_of_one_day_stand_as_in_the_book(
     assert_holidays(&rt, rt.alloc(), words, Status::Done, &[(book, days)])
 }
 
+/// Rows of Umm al-Qura whose first month of 1446 has 29 days, where the computed one has 30.
+const ROWS_AND_BOOK: &[u8] = b"# published\n\nrow hijri 1445 738720 sllslslslsll
+row hijri 1446 739075 sllslslslsls
+\nfixed,Safar,islamic-umalqura,M02,1,exact
+";
+
+#[test]
+fn rows_before_a_book_replace_computed_years(rt: HostRuntime) -> Result<(), Fail> {
+    let words = &["holidays", "739100", "739110"];
+    let without = b"fixed,Safar,islamic-umalqura,M02,1,exact".as_slice();
+    let books = [
+        (ROWS_AND_BOOK, b"2024/default.2024/M08/06@739104 Safar\n".as_slice()),
+        (without, b"2024/default.2024/M08/07@739105 Safar\n".as_slice()),
+    ];
+    assert_holidays(&rt, rt.alloc(), words, Status::Done, &books)
+}
+
+/// Rows that aren't accepted before a book with a bad record, with what is written for them.
+const BAD_ROWS: [(&[u8], &[u8]); 3] = [
+    (b"row hijri 1446\nfixed,X", b"table line 1 syntax\n"),
+    (b"# a\n\nrow hijri 1446 738000 sllslslslsls\nfixed,X", b"table hijri 1 join\n"),
+    (b"row era 2040 13 1 later 7\n", b"table line 1 range\n"),
+];
+
+#[test]
+fn bad_rows_are_refused_before_the_window_and_the_book(rt: HostRuntime) -> Result<(), Fail> {
+    let words = &["holidays", "2", "1"];
+    assert_holidays(&rt, rt.alloc(), words, Status::TableRefused, &BAD_ROWS)
+}
+
+#[test]
+fn a_row_behind_a_record_is_a_record(rt: HostRuntime) -> Result<(), Fail> {
+    let books = [(
+        b"easter,X,julian,,0,\nrow hijri 1446 739075 sllslslslsls\n".as_slice(),
+        b"err record 2 field 0\n".as_slice(),
+    )];
+    assert_holidays(&rt, rt.alloc(), YEAR_2024, Status::Refused, &books)
+}
+
 /// A window that goes backwards and one past the last day, and books with a bad record, with what is written for them.
 const BAD: [(&[&str], &[u8], &[u8]); 5] = [
     (
