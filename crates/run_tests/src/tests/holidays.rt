@@ -71,8 +71,14 @@ fn rows_before_a_book_replace_computed_years(rt: HostRuntime) -> Result<(), Fail
     let words = &["holidays", "739100", "739110"];
     let without = b"fixed,Safar,islamic-umalqura,M02,1,exact".as_slice();
     let books = [
-        (ROWS_AND_BOOK, b"2024/default.2024/M08/06@739104 Safar\n".as_slice()),
-        (without, b"2024/default.2024/M08/07@739105 Safar\n".as_slice()),
+        (
+            ROWS_AND_BOOK,
+            b"2024/default.2024/M08/06@739104 Safar\n".as_slice(),
+        ),
+        (
+            without,
+            b"2024/default.2024/M08/07@739105 Safar\n".as_slice(),
+        ),
     ];
     assert_holidays(&rt, rt.alloc(), words, Status::Done, &books)
 }
@@ -80,7 +86,10 @@ fn rows_before_a_book_replace_computed_years(rt: HostRuntime) -> Result<(), Fail
 /// Rows that aren't accepted before a book with a bad record, with what is written for them.
 const BAD_ROWS: [(&[u8], &[u8]); 3] = [
     (b"row hijri 1446\nfixed,X", b"table line 1 syntax\n"),
-    (b"# a\n\nrow hijri 1446 738000 sllslslslsls\nfixed,X", b"table hijri 1 join\n"),
+    (
+        b"# a\n\nrow hijri 1446 738000 sllslslslsls\nfixed,X",
+        b"table hijri 1 join\n",
+    ),
     (b"row era 2040 13 1 later 7\n", b"table line 1 range\n"),
 ];
 
