@@ -1,6 +1,6 @@
 -- The rows before a book, line by line.
-use Rattle.std.proofs.Common.{◌≡◌, Option, cond, ℕ, zero, suc, ◌+◌, ◌-◌, ◌<◌, ◌≤◌, ◌==◌, ◌&&◌, ◌⊎◌, Bool, true, false, nat_lt, List, [], ◌∷◌, ◌++◌, length, take, drop, Some, None, position, option_map, unwrap_or, Ok, Err, inl, inr, refl, sym, ap, ◌∙◌, subst, arith, ltb}
-use Rattle.std.specs.List.{slice_split, position_or_len}
+use Rattle.std.proofs.Common.{◌≡◌, Option, cond, ℕ, zero, suc, ◌+◌, ◌-◌, ◌<◌, ◌==◌, ◌&&◌, ◌⊎◌, Bool, true, false, nat_lt, List, [], ◌∷◌, ◌++◌, length, take, drop, Some, None, position, Ok, Err, inl, inr, refl, sym, ap, ◌∙◌, subst, arith, ltb}
+use Rattle.std.specs.List.{position_or_len}
 use Rattle.std.proofs.lemmas.Bool.{lt-ltb}
 use Rattle.std.proofs.lemmas.List.{append_assoc, append-nil, length-append}
 use Rattle.std.proofs.lemmas.List.Splits.{slice_split_first, slice_split_none}
@@ -10,7 +10,7 @@ use borrow.Author.Tests.{ltb-true, ltb-false}
 use Rattle.byte_io.specs.Lines.{closed_lines, last_of, lines_in, open_line, parts_of, prefix_of}
 use Rattle.byte_io.proofs.PartLemmas.{length-parts_of}
 use Rattle.table_rows.specs.Reading.{IsLineTaken, IsOtherLine}
-use Rattle.table_rows.specs.RowLines.{AddRows, AreRows, AtFaultyRow, AtRequest, KeepsLine, WithLines}
+use Rattle.table_rows.specs.RowLines.{AddRows, AreRows, AtRequest, KeepsLine, WithLines}
 use Rattle.table_rows.specs.TableRows.{TableRows, no_rows}
 use Rattle.table_rows.specs.declared.errors.RowError.{RowError}
 use Rattle.table_rows.specs.declared.errors.RowError.TheVariants as error

@@ -1,5 +1,5 @@
 -- A run of any command: what it says lasts, so that all of its text is written.
-use Rattle.std.proofs.Common.{◌≡◌, ℕ, List, Option, Some, None, ◌↔◌, refl, sym, ap, subst, ◌∙◌}
+use Rattle.std.proofs.Common.{◌≡◌, ℕ, List, Option, Some, None, ◌↔◌, refl, subst, ◌∙◌}
 use Rattle.calspan_run.specs.Command.{Asked, Span, Generate, Anniversary, Recur, Holidays, Convert}
 use Rattle.calspan_run.specs.CommandRuns.{Ends, Runs, RunsAs, ServesAs}
 use Rattle.calspan_run.specs.Laws.{AreLasting}

@@ -10,8 +10,7 @@ use Rattle.table_rows.proofs.InputLemmas.{lines_in-prefix}
 use Rattle.calspan_run.specs.BehindRows.{OverTables}
 use Rattle.calspan_run.specs.ConvertAsked.{ConvertAsked}
 use Rattle.calspan_run.specs.ConvertTexts.{AtLine, Behind, Comment, Converts, Dated, HeadLine, RowLine, SaysConvert, SaysFrom, any_bad, head_line}
-use Rattle.calspan_run.specs.Refusals.{status_of}
-use Rattle.calspan_run.specs.Run.{Outside, NoFault, outside}
+use Rattle.calspan_run.specs.Run.{NoFault, outside}
 use Rattle.calspan_run.specs.Serving.{IsAnswered}
 use Rattle.calspan_run.specs.Streaming.{StreamAnswered, Streams, convert_rules, most_reads}
 use Rattle.calspan_run.specs.declared.status.Status.{Status}

@@ -1,13 +1,12 @@
 -- The head of an input of `convert`, line by line.
-use Rattle.std.proofs.Common.{◌≡◌, ℕ, ◌+◌, ◌<◌, ◌≤◌, ◌==◌, Bool, true, false, cond, not, nat_lt, List, [], ◌∷◌, ◌++◌, length, take, Option, Some, None, ◌⊎◌, inl, inr, ⊎_elim, Result, Ok, Err, refl, arith, ◌∙◌, sym, ap, subst}
+use Rattle.std.proofs.Common.{◌≡◌, ℕ, ◌+◌, ◌<◌, ◌≤◌, ◌==◌, Bool, true, false, cond, not, nat_lt, List, [], ◌∷◌, ◌++◌, length, take, Option, inl, inr, ⊎_elim, Result, Ok, Err, refl, arith, ◌∙◌, sym, ap, subst}
 use Rattle.std.proofs.lemmas.Bool.{lt-ltb}
 use Rattle.std.proofs.lemmas.Bool.Decides.{eqb_tells, nat_tests}
 use Rattle.std.specs.Prelude.{slice_index}
 use Rattle.std.proofs.lemmas.List.{append-nil, append_assoc, length-append}
-use borrow.Author.Tests.{ltb-true}
 use Rattle.std.specs.Io.KnownBytes.{Consumes, IsAtEnd, Keeps}
 use Rattle.std.proofs.KnownBytes.{Consumes-kept, Consumes-trans}
-use Rattle.byte_io.specs.Faults.{Rose, counted_on}
+use Rattle.byte_io.specs.Faults.{counted_on}
 use Rattle.byte_io.specs.Lines.{closed_lines, lines_in, open_line}
 use Rattle.byte_io.specs.Reader.{unseen}
 use Rattle.byte_io.proofs.PartLemmas.{closed_lines-prefix}
@@ -15,7 +14,7 @@ use Rattle.long_lines.specs.Buffer.{Holds}
 use Rattle.long_lines.specs.Reader.{GivesAll, GivesLine, IsAt, IsSpent}
 use Rattle.long_lines.specs.declared.buffer.LongLine.{LongLine}
 use Rattle.long_lines.specs.declared.reader.LineReader.{LineReader}
-use Rattle.request_lines.specs.Lines.{Line, Nothing, GivesRow, Requests, RequestLine, Long, IsLine, is_silent, line_of, said_by}
+use Rattle.request_lines.specs.Lines.{Line, Nothing, GivesRow, Requests, Long, IsLine, is_silent, line_of, said_by}
 use Rattle.std.specs.Str.Lines.{strip_carriage_return}
 use Rattle.request_lines.specs.Rows.{Row}
 use Rattle.request_lines.proofs.LineLemmas.{line_is}

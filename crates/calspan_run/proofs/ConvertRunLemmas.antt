@@ -1,8 +1,8 @@
 -- A run of `convert` behind the head of its input.
-use Rattle.std.proofs.Common.{◌≡◌, ℕ, ◌+◌, ◌<◌, ◌≤◌, ◌||◌, Bool, true, false, List, [], ◌∷◌, ◌++◌, length, Option, ◌⊎◌, inl, inr, Result, Ok, Err, true≢false, refl, arith, ◌∙◌, sym, ap, subst}
+use Rattle.std.proofs.Common.{◌≡◌, ℕ, ◌+◌, ◌<◌, ◌≤◌, ◌||◌, Bool, true, false, List, [], ◌∷◌, ◌++◌, length, Option, inl, inr, Result, Ok, Err, true≢false, refl, arith, ◌∙◌, sym, ap, subst}
 use Rattle.std.proofs.lemmas.List.{append-nil, append_assoc, length-append}
 use Rattle.std.specs.Io.KnownBytes.{Appends, Consumes, IsAtEnd, Keeps}
-use Rattle.std.proofs.KnownBytes.{Consumes-kept, Consumes-nil, Consumes-trans}
+use Rattle.std.proofs.KnownBytes.{Consumes-kept, Consumes-trans}
 use Rattle.std.specs.Result.{IsErr}
 use Rattle.byte_io.specs.declared.Failed.{Failed}
 use Rattle.byte_io.specs.Faults.{Rose, counted_on}
@@ -31,11 +31,11 @@ use Rattle.calspan_run.specs.TableTexts.{table_refusal}
 use Rattle.calspan_run.specs.TextSoFar.{TextSoFar, lines_text}
 use Rattle.calspan_run.specs.Written.{WrotePrefix}
 use Rattle.calspan_run.specs.declared.status.Status.{Status}
-use Rattle.calspan_run.specs.declared.status.Status.TheVariants.{Done, Refused, TableRefused, WriteFault}
+use Rattle.calspan_run.specs.declared.status.Status.TheVariants.{Done, TableRefused, WriteFault}
 use Rattle.calspan_run.proofs.ConvertHeadLemmas.{RefusedAt, all_lines, given_all, open_one}
 use Rattle.calspan_run.proofs.EndLemmas.{IsEnd}
 use Rattle.calspan_run.proofs.KnownLemmas.{appends_none}
-use Rattle.calspan_run.proofs.WriterLemmas.{lines_text-append, short_more, text_all}
+use Rattle.calspan_run.proofs.WriterLemmas.{short_more, text_all}
 
 -- these bytes were taken, and a run may end with this text and status
 pub record MayStream (c : Rules) (left now : Option (List ℕ)) (text : List ℕ) (status : Status) : Type 0 where

@@ -14,10 +14,7 @@ use Rattle.calspan_run.specs.Endings.{MayEnd}
 use Rattle.calspan_run.specs.Laws.{AreLasting}
 use Rattle.calspan_run.specs.Replies.{options_of}
 use Rattle.calspan_run.specs.Rules.{generator_rules}
-use Rattle.calspan_run.specs.Run.{Outside}
-use Rattle.calspan_run.specs.Serving.{Serves}
-use Rattle.calspan_run.specs.declared.status.Status.{Status}
-use Rattle.calspan_run.specs.declared.status.Status.TheVariants.{Done, Words}
+use Rattle.calspan_run.specs.declared.status.Status.TheVariants.{Done}
 use Rattle.std.proofs.KnownBytes.{Consumes-nil}
 use Rattle.request_lines.specs.Requests.{Request}
 use Rattle.calspan_run.specs.declared.generated.totals.Totals.{Totals}

@@ -1,17 +1,12 @@
 -- The line of a holiday as it is pushed.
-use Rattle.std.proofs.Common.{◌≡◌, ℕ, ◌≤◌, ℤ, pos, Bool, true, ◌&&◌, nat_le, List, [], ◌∷◌, ◌++◌, length, Option, Some, Err, codes, ⊎_elim, sym, ap, ◌∙◌, arith}
+use Rattle.std.proofs.Common.{◌≡◌, ℕ, ℤ, pos, List, [], ◌∷◌, ◌++◌, Err, codes, ap, ◌∙◌}
 use Rattle.std.specs.Fmt.{decimal}
-use Rattle.std.specs.List.{list_all}
-use Rattle.std.specs.Prelude.{option_map, slice_get, unwrap_or}
-use Rattle.std.proofs.lemmas.Bool.{leb-true}
 use Rattle.std.proofs.lemmas.List.{append_assoc}
-use Rattle.std.proofs.lemmas.Option.{slice_get_cases}
 use Rattle.cal_base.specs.IsoSystem.{iso_list, iso_system}
 use Rattle.cal_base.specs.laws.OffsetListLaws.{offset_list-lawful}
-use Rattle.cal_holidays.specs.Rules.{NamedRule, is_name}
+use Rattle.cal_holidays.specs.Rules.{NamedRule}
 use Rattle.cal_types.specs.CalendarList.{Date, IsOn}
 use Rattle.cal_types.specs.DayDates.{date_on}
-use Rattle.cal_types.proofs.DateTests.{and-left, and-right}
 use Rattle.cal_types.proofs.DayDateLemmas.{date_on-on}
 use Rattle.cal_types.proofs.ListLemmas.{on-unique}
 use Rattle.reply_texts.specs.DateTexts.{date_text}

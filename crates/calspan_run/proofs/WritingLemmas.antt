@@ -1,9 +1,8 @@
 -- The texts of lists as they are written.
-use Rattle.std.proofs.Common.{◌≡◌, ◌≢◌, ℕ, ◌<◌, ◌==◌, Bool, true, false, cond, List, ◌∷◌, Option, Some, None, Result, Ok, Err, MatchBool, ⊎_elim, codes, refl, sym, ap, subst, ◌∙◌, arith}
+use Rattle.std.proofs.Common.{◌≡◌, ◌≢◌, ℕ, ◌<◌, ◌==◌, Bool, true, false, cond, List, Option, Some, None, Result, Ok, Err, MatchBool, ⊎_elim, codes, refl, sym, ap, subst, arith}
 use Rattle.std.proofs.lemmas.Bool.Decides.{eqb_tells}
 use Rattle.byte_io.specs.declared.Failed.{Failed}
 use Rattle.cal_errors.specs.declared.errors.DateFromFieldsError.{DateFromFieldsError}
-use Rattle.cal_types.specs.Bag.{Bag}
 use Rattle.cal_types.specs.CalendarList.{Date}
 use Rattle.cal_types.specs.CalendarSystem.{CalendarSystem}
 use Rattle.cal_anniversary.specs.declared.errors.AnniversaryError.{AnniversaryError}
@@ -11,9 +10,8 @@ use Rattle.cal_recur.specs.Listing.{occurrences}
 use Rattle.cal_recur.specs.Rule.{IsRule}
 use Rattle.cal_recur.specs.declared.rule.Rule.{Rule}
 use Rattle.cal_tables.specs.Kinds.{TableContents}
-use Rattle.request_lines.specs.Bags.{with_whole_word}
 use Rattle.calspan_run.specs.Anniversaries.{unless_fault}
-use Rattle.calspan_run.specs.Asked.{RecurAsked, fields_of}
+use Rattle.calspan_run.specs.Asked.{RecurAsked}
 use Rattle.calspan_run.specs.DayLines.{IsListText, is_window, occurrence_line}
 use Rattle.calspan_run.specs.Endings.{Listed}
 use Rattle.calspan_run.specs.ListTexts.{ListsOccurrences}

@@ -1,7 +1,6 @@
 -- Where a run of `convert` stands behind the head of its input.
-use Rattle.std.specs.Prelude.{◌≡◌, ℕ, ◌≤◌, Bool, List, [], ◌∷◌, ◌++◌, length, Option, Result, Ok, Err, ◌||◌}
+use Rattle.std.specs.Prelude.{◌≡◌, ℕ, ◌≤◌, Bool, List, [], ◌∷◌, ◌++◌, length, Option, Result, Ok, Err}
 use Rattle.std.specs.Io.KnownBytes.{Consumes}
-use Rattle.byte_io.specs.Faults.{Rose}
 use Rattle.byte_io.specs.Lines.{closed_lines, open_line}
 use Rattle.byte_io.specs.declared.Failed.{Failed}
 use Rattle.long_lines.specs.Buffer.{Holds}

@@ -1,4 +1,4 @@
-use Rattle.std.proofs.Common.{◌≡◌, [], ◌∷◌, ℕ, List, Some, None, arith, ap, sym, ◌∙◌}
+use Rattle.std.proofs.Common.{[], ◌∷◌, ℕ, List, Some, None, arith, ap, sym, ◌∙◌}
 use Rattle.std.proofs.lemmas.Str.Pattern.{split_parts}
 use Rattle.calspan_run.specs.SpacedWords.{words_in}
 use Rattle.calspan_run.proofs.WordLemmas.{words-cut, words-one}

@@ -1,4 +1,4 @@
-use Rattle.std.proofs.Common.{◌≡◌, sym, ap, ◌∙◌}
+use Rattle.std.proofs.Common.{sym, ap, ◌∙◌}
 use Rattle.std.specs.Option.{option_map}
 use Rattle.calspan_run.specs.CommandWordsLeft.{words_behind}
 use Rattle.calspan_run.proofs.WordLemmas.{words-some}

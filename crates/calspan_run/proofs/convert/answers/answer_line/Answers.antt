@@ -1,7 +1,7 @@
 use Rattle.std.proofs.Common.{◌++◌, ◌∷◌, [], true, false, codes, refl, sym, subst, ◌∙◌}
 use Rattle.cal_tables.specs.Kinds.{table_contents}
 use Rattle.calspan_run.specs.ConvertSaid.{convert_said}
-use Rattle.calspan_run.specs.Converted.{Answer, line_answer}
+use Rattle.calspan_run.specs.Converted.{Answer}
 use Rattle.calspan_run.specs.Converting.{AnsweredLine}
 use Rattle.calspan_run.proofs.ConvertAnswerLemmas.{answered_as, answered_err, empty_answer, long_answer, short_answer}
 use Rattle.calspan_run.proofs.WriterLemmas.{short_more, text_more}

@@ -1,7 +1,7 @@
-use Rattle.std.proofs.Common.{◌≡◌, List, ℕ, refl, sym, ap, subst, ◌∙◌, true}
+use Rattle.std.proofs.Common.{List, ℕ, refl, sym, subst, ◌∙◌}
 use Rattle.table_rows.specs.Reading.{IsLineTaken}
 use Rattle.table_rows.specs.RowsSaid.{rows_said}
-use Rattle.calspan_run.specs.Heading.{TakesLine, is_plain}
+use Rattle.calspan_run.specs.Heading.{TakesLine}
 use Rattle.calspan_run.specs.declared.convert.head.HeadLine.{HeadLine}
 use Rattle.calspan_run.proofs.ConvertAnswerLemmas.{whole_of}
 use Rattle.calspan_run.proofs.ConvertHeadLemmas.{line_taken, long_dated}

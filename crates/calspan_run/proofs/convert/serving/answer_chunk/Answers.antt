@@ -1,9 +1,8 @@
-use Rattle.std.proofs.Common.{◌≡◌, ◌++◌, ◌||◌, Bool, refl, subst, sym, ap, ◌∙◌}
-use Rattle.cal_tables.specs.Kinds.{TableContents, table_contents}
-use Rattle.table_rows.specs.TableRows.{contents_of}
+use Rattle.std.proofs.Common.{◌≡◌, ◌++◌, Bool, refl, subst, sym}
+use Rattle.cal_tables.specs.Kinds.{TableContents}
 use Rattle.calspan_run.specs.ConvertSaid.{convert_said}
-use Rattle.calspan_run.specs.Converted.{is_bad, line_answer}
-use Rattle.calspan_run.specs.Converting.{AnsweredLine, IsConverting}
+use Rattle.calspan_run.specs.Converted.{line_answer}
+use Rattle.calspan_run.specs.Converting.{IsConverting}
 use Rattle.calspan_run.specs.Run.{outside}
 use Rattle.calspan_run.specs.TextSoFar.{TextSoFar}
 use Rattle.calspan_run.specs.Written.{WrotePrefix}

@@ -1,4 +1,4 @@
-use Rattle.std.specs.Prelude.{◌≡◌, ◌≤◌, ℕ, List, Option}
+use Rattle.std.specs.Prelude.{◌≡◌, ℕ, List, Option}
 use Rattle.cal_tables.specs.Kinds.{table_contents}
 use Rattle.long_lines.specs.Reader.{bytes_left}
 use Rattle.table_rows.specs.TableRows.{TableRows, contents_of}

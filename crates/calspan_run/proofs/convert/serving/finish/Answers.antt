@@ -1,5 +1,4 @@
-use Rattle.std.proofs.Common.{◌≡◌, ◌||◌, ◌++◌, List, ℕ, Bool, inl, inr, refl, subst, sym, ap, ◌∙◌}
-use Rattle.std.proofs.lemmas.List.{append-nil}
+use Rattle.std.proofs.Common.{◌||◌, Bool, sym, ap, ◌∙◌}
 use Rattle.calspan_run.proofs.ConvertRunLemmas.{ends_none, ends_one, one_short}
 use Rattle.calspan_run.proofs.ConvertAnswerLemmas.{empty_of}
 use Rattle.calspan_run.proofs.ConvertHeadLemmas.{some_of}

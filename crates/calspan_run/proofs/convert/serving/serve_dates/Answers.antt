@@ -1,9 +1,8 @@
 use Rattle.std.proofs.Common.{◌≡◌, ◌++◌, [], inr, refl, arith, subst}
-use Rattle.cal_tables.specs.Kinds.{TableContents, table_contents}
+use Rattle.cal_tables.specs.Kinds.{TableContents}
 use Rattle.table_rows.specs.RowsSaid.{rows_said}
 use Rattle.calspan_run.specs.ConvertSaid.{convert_said}
 use Rattle.calspan_run.specs.Converted.{line_answer}
-use Rattle.calspan_run.specs.Converting.{AnsweredLine}
 use Rattle.calspan_run.specs.Run.{outside}
 use Rattle.calspan_run.specs.TextSoFar.{TextSoFar}
 use Rattle.calspan_run.specs.Written.{WrotePrefix}

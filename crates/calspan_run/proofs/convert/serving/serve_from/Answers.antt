@@ -1,5 +1,5 @@
 use Rattle.std.proofs.Common.{refl, arith, subst}
-use Rattle.cal_tables.specs.Kinds.{TableContents, table_contents}
+use Rattle.cal_tables.specs.Kinds.{TableContents}
 use Rattle.calspan_run.specs.ConvertSaid.{convert_said}
 use Rattle.calspan_run.specs.Streaming.{convert_rules}
 use Rattle.calspan_run.proofs.ConvertRunLemmas.{Ends, chunk_on, ends_stream, flush_stopped, input_ends, is_end, read_stopped, too_long}

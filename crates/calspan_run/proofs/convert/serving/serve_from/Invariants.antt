@@ -1,4 +1,4 @@
-use Rattle.std.specs.Prelude.{◌≡◌, ◌-◌, ℕ, List, Option}
+use Rattle.std.specs.Prelude.{◌≡◌, ◌-◌}
 use Rattle.cal_tables.specs.Kinds.{table_contents}
 use Rattle.table_rows.specs.TableRows.{TableRows, contents_of}
 use Rattle.calspan_run.specs.ConvertSaid.{convert_said}

@@ -1,6 +1,5 @@
-use Rattle.std.proofs.Common.{◌∷◌, ◌+◌, arith, ap, drop, length, sym, true, ◌∙◌}
+use Rattle.std.proofs.Common.{◌+◌, arith, drop, length, sym}
 use Rattle.std.proofs.lemmas.List.{drop_all, take_rest}
-use Rattle.byte_io.specs.Lines.{lines_in}
 use Rattle.calspan_run.proofs.BookRowLemmas.{lines_more, one_line, one_part, parts_at}
 use Rattle.calspan_run.proofs.holidays.book_rows.first_line.Goals as goal
 
