@@ -53,7 +53,8 @@ book_end asked book tables text status =
 abbrev pub holiday_behind : HolidaysAsked → List ℕ → Behind
 holiday_behind asked bytes = record {
   AtEnd = book_end asked [];
-  AtLine = λ rows n request others text status. OverTables (book_end asked (behind_lines (n - 1) bytes)) rows text status;
+  AtLine = λ rows n request others text status.
+      OverTables (book_end asked (behind_lines (n - 1) bytes)) rows text status;
 }
 
 -- the text of `holidays`: nothing before the whole input was read, and then the list or the line that refuses it, a row
