@@ -119,8 +119,7 @@ head_ends bytes rest rows number h none =
 head_met : (bytes rest line behind : List ℕ) (rows : TableRows) (long : Bool) (number : ℕ) → HasHead bytes rows rest number → IsOtherLine line long
     → lines_in rest true ≡ line ∷ lines_in behind true → HasBook bytes rows rest
 head_met bytes rest line behind rows long number h (request, is, e) lines =
-    let before : number - 1 ≡ length h.lines = omega (arith, h.number_is) in
-    (
+    let before : number - 1 ≡ length h.lines = omega (arith, h.number_is) in (
       AtRequest number request (line ∷ lines_in behind true),
       (
         line,
