@@ -1,9 +1,9 @@
 //! The examples of the docs: dates of the ISO calendar.
 
+use super::lists::show_last_days;
 use icu_calendar::{
-    AnyCalendar, AnyCalendarKind, AsCalendar, Calendar, Date, DateAddError, DateAddOptions,
-    DateDifferenceOptions, DateDuration, DateDurationUnit, Hebrew, Iso, Missing, RataDie, Rule,
-    Weekday, Window, laws,
+    AnyCalendar, AsCalendar, Calendar, Date, DateAddError, DateAddOptions, DateDifferenceOptions,
+    DateDuration, DateDurationUnit, Hebrew, Iso, Missing, RataDie, Rule, Weekday, Window, laws,
 };
 use std::cmp::Ordering;
 use std::process::Abort;
@@ -30,24 +30,37 @@ where
     assert!(rt; laws::date_of_its_fields(&date).same_date(&date));
 }
 
+/// The examples of a date and of an earlier one, after four dates of the same day.
+fn show_all<A: AsCalendar>(
+    rt: &impl Abort,
+    copies: (Date<A>, Date<A>, Date<A>, Date<A>),
+    date: Date<A>,
+    earlier: Date<A>,
+)
+where
+    A::Calendar: Calendar,
+{
+    let (cloned, tried, of_day, of_text) = copies;
+    assert!(rt; cloned.same_date(&tried));
+    assert!(rt; of_day.same_date(&of_text));
+    show_dates(rt, date, cloned, earlier);
+}
+
 #[test]
 fn a_date_and_its_copies(rt: HostRuntime) -> Result<(), Fail> {
+    let date = Date::try_from_utf8(b"2024-03-01", Iso)?;
+    let of_text = date;
+    let again = Date::from_rata_die(RataDie::new(738946), Iso);
+    let of_day = again;
+    let date = Date::from_rata_die(RataDie::new(738946), Iso);
+    let again = date.clone();
+    let cloned = again;
+    let again = date.try_clone()?;
     let date = Date::try_new_iso(2024, 3, 1)?;
     assert!(rt; *date.calendar() == Iso);
     assert!(rt; *date.calendar_wrapper() == Iso);
     let earlier = Date::try_new_iso(2024, 2, 29)?;
-    let again = Date::from_rata_die(RataDie::new(738946), Iso);
-    show_dates(&rt, date, again, earlier);
-
-    let date = Date::from_rata_die(RataDie::new(738946), Iso);
-    let earlier = Date::try_new_iso(2024, 2, 29)?;
-    let again = date.clone();
-    show_dates(&rt, date, again, earlier);
-
-    let date = Date::try_from_utf8(b"2024-03-01", Iso)?;
-    let earlier = Date::try_new_iso(2024, 2, 29)?;
-    let again = date.try_clone()?;
-    show_dates(&rt, date, again, earlier);
+    show_all(&rt, (cloned, again, of_day, of_text), date, earlier);
     Ok(())
 }
 
@@ -133,9 +146,7 @@ fn show_occurrences(rt: &impl Abort) -> Option<()> {
     let rule = Rule::try_new(DateDurationUnit::Months, 1, Missing::Constrain)?;
     let window = Window::try_new(RataDie::new(737821), RataDie::new(737910))?;
     let mut items = Date::from_rata_die(RataDie::new(737821), Iso).recur(rule, window);
-    assert!(rt; items.next()?.day.to_i64_date() == 737821); // 2021-01-31
-    assert!(rt; items.next()?.day.to_i64_date() == 737849); // 2021-02-28
-    Some(())
+    show_last_days(rt, items)
 }
 
 #[test]
@@ -146,8 +157,8 @@ fn occurrences(rt: HostRuntime) {
 #[test]
 fn dates_of_any_calendar(rt: HostRuntime) -> Result<(), Fail> {
     let date = Date::try_new_iso(2024, 3, 1)?.to_any();
-    assert!(rt; date.calendar().kind() == AnyCalendarKind::Iso);
     let hebrew = AnyCalendar::Hebrew(Hebrew);
-    assert!(rt; date.convert_any(&hebrew).day_of_month().0 == 21); // of Adar I
+    let converted = date.convert_any(&hebrew);
+    assert!(rt; converted.day_of_month().0 == 21); // of Adar I
     Ok(())
 }

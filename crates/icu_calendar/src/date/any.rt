@@ -16,7 +16,6 @@ impl<'t, C: IntoAnyCalendar<'t>> Date<C> {
     ///
     /// ```
     /// let date = Date::try_new_iso(2024, 3, 1)?.to_any();
-    /// assert!(rt; date.calendar().kind() == AnyCalendarKind::Iso);
     /// ```
     pub fn to_any(self) -> Date<AnyCalendar<'t>>
         ensures calendar { result.calendar ≡ C.in_any self.calendar }
@@ -69,7 +68,8 @@ impl<'t, A: AsCalendar<Calendar = AnyCalendar<'t>>> Date<A> {
     /// ```
     /// let date = Date::try_new_iso(2024, 3, 1)?.to_any();
     /// let hebrew = AnyCalendar::Hebrew(Hebrew);
-    /// assert!(rt; date.convert_any(&hebrew).day_of_month().0 == 21); // of Adar I
+    /// let converted = date.convert_any(&hebrew);
+    /// assert!(rt; converted.day_of_month().0 == 21); // of Adar I
     /// ```
     pub fn convert_any<'a>(&self, calendar: &'a AnyCalendar<'t>) -> Date<Ref<'a, AnyCalendar<'t>>>
         ensures on { let c = A.cal_of self.now.calendar in
