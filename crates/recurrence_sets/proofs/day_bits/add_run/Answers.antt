@@ -1,7 +1,7 @@
 use Rattle.std.proofs.Common.{rules, get_or, ◌∙◌, ◌||◌, ap}
 use Rattle.cal_rule.specs.Sets.{has_bit}
-use Rattle.cal_rrule.proofs.DayBitLemmas.{bit-or, run-more}
-use Rattle.cal_rrule.proofs.day_bits.add_run.Goals as goal
+use Rattle.recurrence_sets.proofs.DayBitLemmas.{bit-or, run-more}
+use Rattle.recurrence_sets.proofs.day_bits.add_run.Goals as goal
 
 pub loop-place-preserved : goal.loop-place-preserved
 loop-place-preserved c =

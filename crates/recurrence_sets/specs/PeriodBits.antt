@@ -1,7 +1,7 @@
 -- The days of a period as bits.
 use Rattle.std.specs.Prelude.{ℕ, Bool, false, List, ℤ, pos, negsuc, ◌-ℤ◌}
 use Rattle.cal_rule.specs.Sets.{has_number}
-use Rattle.cal_rrule.specs.declared.period_days.PeriodDays.{PeriodDays}
+use Rattle.recurrence_sets.specs.declared.period_days.PeriodDays.{PeriodDays}
 
 -- whether words have a number, which may be negative
 abbrev pub has_offset : List ℕ → ℤ → Bool

@@ -1,6 +1,6 @@
 use Rattle.std.proofs.Common.{◌≡◌, ℕ, ◌*◌, ◌&&◌, ◌||◌, nat_le, nat_lt, length}
 use Rattle.cal_rule.specs.Sets.{has_number}
-use Rattle.cal_rrule.proofs.day_bits.add_run.Given as goal
+use Rattle.recurrence_sets.proofs.day_bits.add_run.Given as goal
 
 abbrev pub invariant-loop-place : goal.invariant-loop-place
 invariant-loop-place l = record {

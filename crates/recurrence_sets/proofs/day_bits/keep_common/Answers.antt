@@ -1,6 +1,6 @@
 use Rattle.std.proofs.Common.{rules, get_or}
-use Rattle.cal_rrule.proofs.DayBitLemmas.{bit-and, keep-more}
-use Rattle.cal_rrule.proofs.day_bits.keep_common.Goals as goal
+use Rattle.recurrence_sets.proofs.DayBitLemmas.{bit-and, keep-more}
+use Rattle.recurrence_sets.proofs.day_bits.keep_common.Goals as goal
 
 pub loop-place-preserved : goal.loop-place-preserved
 loop-place-preserved c =

@@ -1,7 +1,7 @@
 //! The days of a period, as bits.
 
 ghost use Rattle.std.specs.Prelude.{◌≡◌, ◌||◌, ◌&&◌, false, int_le, int_lt, pos, ℤ, ◌+ℤ◌, ◌≤ℤ◌, ◌<ℤ◌};
-ghost use Rattle.cal_rrule.specs.PeriodBits.{has_day};
+ghost use Rattle.recurrence_sets.specs.PeriodBits.{has_day};
 
 use crate::day_bits::{add_run, keep_common};
 use cal_days::RataDie;
@@ -11,7 +11,7 @@ use cal_rule::bits::number_in;
 ///
 /// The longest period is a year of 385 days, with one day before it, and a month of 31 days and one day behind it.
 #[derive(Clone, Copy, Debug, PartialEq)]
-pub(crate) struct PeriodDays {
+pub struct PeriodDays {
     /// The first of the days in a row.
     pub first: RataDie,
     /// A bit for each day, from the first on.

@@ -1,6 +1,6 @@
 use Rattle.std.proofs.Common.{◌≡◌, ℕ, ◌*◌, ◌&&◌, ◌||◌, nat_le, length}
 use Rattle.cal_rule.specs.Sets.{has_number}
-use Rattle.cal_rrule.proofs.day_bits.keep_common.Given as goal
+use Rattle.recurrence_sets.proofs.day_bits.keep_common.Given as goal
 
 abbrev pub invariant-loop-place : goal.invariant-loop-place
 invariant-loop-place l = record {
