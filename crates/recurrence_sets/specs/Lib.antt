@@ -1,1 +1,7 @@
+pub mod Bounds
+pub mod Days
+pub mod Listing
+pub mod Numbers
+pub mod Occurrences
 pub mod PeriodBits
+pub mod Periods

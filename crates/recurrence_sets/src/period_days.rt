@@ -1,9 +1,10 @@
 //! The days of a period, as bits.
 
-ghost use Rattle.std.specs.Prelude.{◌≡◌, ◌||◌, ◌&&◌, false, int_le, int_lt, pos, ℤ, ◌+ℤ◌, ◌≤ℤ◌, ◌<ℤ◌};
+ghost use Rattle.std.specs.Prelude.{◌≡◌, ◌||◌, ◌&&◌, false, int_le, int_lt, pos, ℕ, ◌<◌, ◌≤◌, IsTrue, ℤ, ◌+ℤ◌, ◌≤ℤ◌, ◌<ℤ◌};
+ghost use Rattle.recurrence_sets.specs.Days.{HasCount, IsFirstBetween};
 ghost use Rattle.recurrence_sets.specs.PeriodBits.{has_day};
 
-use crate::day_bits::{add_run, keep_common};
+use crate::day_bits::{add_run, first_number, keep_common, numbers_below};
 use cal_days::RataDie;
 use cal_rule::bits::number_in;
 
@@ -66,5 +67,40 @@ impl PeriodDays {
             has_day self.new n ≡ (has_day self.old n && has_day other.now n) }
     {
         keep_common(&mut self.words, &other.words);
+    }
+
+    /// Returns the first day of the set from one day to another.
+    pub fn first_between(&self, first: RataDie, last: RataDie) -> Option<RataDie>
+        ensures { IsFirstBetween (λ n. IsTrue (has_day self.now n)) first last result }
+    {
+        let offset = first_number(&self.words, self.offset_of(first))?;
+        let day = self.first.checked_add(i64::from(offset))?;
+        if day > last {
+            return None;
+        }
+        Some(day)
+    }
+
+    /// Returns how many days of the set are before a day.
+    pub fn count_before(&self, day: RataDie) -> u32
+        ensures { HasCount (λ n. IsTrue (has_day self.now n) × (n <ℤ day)) result }
+    {
+        numbers_below(&self.words, self.offset_of(day))
+    }
+
+    /// Returns how many of the 448 days are before a day.
+    fn offset_of(&self, day: RataDie) -> u32
+        ensures most { result ≤ 448 }
+        ensures before { (i : ℕ) → i < result → (self.now.first +ℤ pos i) <ℤ day }
+        ensures from { (i : ℕ) → i < 448 → result ≤ i → day ≤ℤ (self.now.first +ℤ pos i) }
+    {
+        let offset = day.since(self.first);
+        if offset < 0 {
+            return 0;
+        }
+        if offset > DAYS {
+            return DAYS as u32;
+        }
+        offset as u32
     }
 }
