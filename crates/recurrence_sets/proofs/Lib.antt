@@ -1,1 +1,4 @@
 mod DayBitLemmas
+mod DayLemmas
+mod NumberLemmas
+mod WordLemmas

@@ -1,7 +1,7 @@
 //! What bounds a recurrence set.
 
-ghost use Rattle.std.specs.Prelude.{◌≡◌, ◌≤ℤ◌};
-ghost use Rattle.std.specs.Option.{ForSome};
+ghost use Rattle.std.specs.Prelude.{◌≡◌, negsuc};
+ghost use Rattle.recurrence_sets.specs.Bounds.{IsWithin, has_all, later};
 
 use cal_days::RataDie;
 use cal_days::ranges::FIRST_VALID_DAY;
@@ -19,8 +19,6 @@ pub struct Bounds {
 }
 
 impl Bounds {
-    ghost use Rattle.recurrence_sets.specs.Bounds.{IsWithin, has_all, later};
-
     /// Returns whether the set has no more occurrences, if so many lie before.
     pub(crate) fn has_all(&self, index: u32) -> bool
         ensures { result ≡ has_all self.now.count index }
