@@ -5,8 +5,9 @@ use Rattle.std.specs.Int.RustNames.{bit_and, count_ones}
 use Rattle.std.proofs.lemmas.Bool.{cases_lt}
 use Rattle.std.proofs.lemmas.Bool.Decides.{nat_tests}
 use Rattle.std.proofs.lemmas.List.{get_or_past}
-use Rattle.std.proofs.lemmas.Nat.{mod-pow-add, ones_cat, ones_le_self, zero_from_ones, and_mask, pow_pos, mod_below}
+use Rattle.std.proofs.lemmas.Nat.{mod-pow-add, ones_cat, ones_le_self, zero_from_ones, and_le_l, and_mask, pow_pos, mod_below}
 use Rattle.std.proofs.lemmas.Nat.Bits.{bit_at-lt, bit_at-trailing_zeros, bit_at-zero, bit_at_and, bit_at_mask_below, bit_at_mask_inside, ones_shl, ones_shr}
+use Rattle.cal_days.proofs.Signed.{by_lt}
 use Rattle.cal_rule.specs.Sets.{has_bit, has_number}
 use Rattle.recurrence_sets.specs.Numbers.{IsFirstPassing, count_below}
 use Rattle.recurrence_sets.proofs.NumberLemmas.{count-none, count-same, count-split, count-suc, count-zero}
@@ -61,10 +62,11 @@ module _ (word from : ℕ) (most : from ≤ 64) where
       let bit : bit_at word i ≡ 0 = sym (masked-high i high low) ∙ ap (λ w. bit_at w i) empty ∙ bit_at-zero i in
       ap (λ b. b == 1) bit
 
-  pub first-some : (rest : ℕ) → rest ≡ bit_and word ((2 ^ 64 - 1) * 2 ^ from % 2 ^ 64) → 0 < rest → rest < 2 ^ 64 →
+  pub first-some : (rest : ℕ) → rest ≡ bit_and word ((2 ^ 64 - 1) * 2 ^ from % 2 ^ 64) → 0 < rest → word < 2 ^ 64 →
       IsFirstPassing (has_bit word) from 64 (trailing_zeros w64 rest)
   first-some rest is some fits =
-      let found = bit_at-trailing_zeros w64 rest some fits in
+      let less : rest ≤ word = omega (arith, is, and_le_l word ((2 ^ 64 - 1) * 2 ^ from % 2 ^ 64)) in
+      let found = bit_at-trailing_zeros w64 rest some (omega (arith, less, fits)) in
       let n = trailing_zeros w64 rest in
       let low : n < 64 = found.0 in
       let same : rest ≡ bit_and word (2 ^ 64 - 2 ^ from) = is ∙ ap (bit_and word) (ones_shl 64 from most) in
@@ -103,3 +105,52 @@ count-word words place k most =
     count-split (has_number words) (64 * place) k
     ∙ ap (λ c. count_below (has_number words) (64 * place) + c)
     (count-same (λ i. has_number words (64 * place + i)) (has_bit (get_or words place 0)) k (λ i low. number-at words place i (omega (arith, low, most))))
+
+-- a number at or behind a word's first
+behind : (words : List ℕ) (place i : ℕ) → 64 * place ≤ i → i < 64 * (place + 1) →
+    (b : Bool) → has_bit (get_or words place 0) (i - 64 * place) ≡ b → has_number words i ≡ b
+behind words place i high low b is =
+    let whole : 64 * place + (i - 64 * place) ≡ i = omega (arith, high) in
+    ap (has_number words) (sym whole) ∙ number-at words place (i - 64 * place) (omega (arith, high, low)) ∙ is
+
+-- the first number lies in a word
+pub first-word : (words : List ℕ) (place from low bit : ℕ) → place < length words → low ≡ min (from - 64 * place) 64 →
+    ((i : ℕ) → from ≤ i → i < 64 * place → has_number words i ≡ false) → IsFirstPassing (has_bit (get_or words place 0)) low 64 bit →
+    IsFirstPassing (has_number words) from (64 * length words) (64 * place + bit)
+first-word words place from low bit within is none first = record {
+  passes = number-at words place bit first.within ∙ first.passes;
+  reached = omega (arith, is, first.reached, first.within);
+  within = omega (arith, within, first.within);
+  least = λ i high before.
+      by_lt {P = has_number words i ≡ false} i (64 * place) (λ lt. none i high lt)
+      (λ ge. behind words place i ge (omega (arith, before, first.within)) false
+      (first.least (i - 64 * place) (omega (arith, is, high, ge)) (omega (arith, ge, before))));
+}
+
+-- or none does
+pub none-word : (words : List ℕ) (place from low : ℕ) → low ≡ min (from - 64 * place) 64 →
+    ((i : ℕ) → from ≤ i → i < 64 * place → has_number words i ≡ false) →
+    ((k : ℕ) → low ≤ k → k < 64 → has_bit (get_or words place 0) k ≡ false) →
+    (i : ℕ) → from ≤ i → i < 64 * (place + 1) → has_number words i ≡ false
+none-word words place from low is none word i high before =
+    by_lt {P = has_number words i ≡ false} i (64 * place) (λ lt. none i high lt)
+    (λ ge. behind words place i ge before false (word (i - 64 * place) (omega (arith, is, high, ge)) (omega (arith, ge, before))))
+
+-- a count up to a number, one word further
+pub count-further : (words : List ℕ) (place to low count more : ℕ) → low ≡ min (to - 64 * place) 64 →
+    count ≡ count_below (has_number words) (min to (64 * place)) → more ≡ count_below (has_bit (get_or words place 0)) low →
+    count + more ≡ count_below (has_number words) (min to (64 * (place + 1)))
+count-further words place to low count more is so_far here =
+    by_lt {P = count + more ≡ count_below (has_number words) (min to (64 * (place + 1)))} to (64 * place)
+    (λ lt.
+    let none : low ≡ 0 = omega (arith, is, lt) in
+    let nothing = ap (count_below (has_bit (get_or words place 0))) none ∙ count-zero (has_bit (get_or words place 0)) in
+    let same : min to (64 * place) ≡ min to (64 * (place + 1)) = omega (arith, lt) in
+    let equal = ap (count_below (has_number words)) same in
+    omega (arith, so_far, here, nothing, equal))
+    (λ ge.
+    let before : min to (64 * place) ≡ 64 * place = omega (arith, ge) in
+    let after : 64 * place + low ≡ min to (64 * (place + 1)) = omega (arith, is, ge) in
+    let one = ap (count_below (has_number words)) before in
+    let two = ap (count_below (has_number words)) after in
+    omega (arith, so_far, here, one, two, count-word words place low (omega (arith, is))))
