@@ -1,4 +1,6 @@
 mod DayBitLemmas
 mod DayLemmas
+mod LookLemmas
 mod NumberLemmas
+mod SetLemmas
 mod WordLemmas

@@ -74,11 +74,11 @@ impl PeriodDays {
         ensures { IsFirstBetween (λ n. IsTrue (has_day self.now n)) first last result }
     {
         let offset = first_number(&self.words, self.offset_of(first))?;
-        let day = self.first.checked_add(i64::from(offset))?;
-        if day > last {
+        let day = self.first.to_i64_date() + i64::from(offset);
+        if day > last.to_i64_date() {
             return None;
         }
-        Some(day)
+        Some(RataDie::new(day))
     }
 
     /// Returns how many days of the set are before a day.
