@@ -2,5 +2,6 @@ mod DayBitLemmas
 mod DayLemmas
 mod LookLemmas
 mod NumberLemmas
+mod PassingLemmas
 mod SetLemmas
 mod WordLemmas

@@ -1,7 +1,7 @@
 -- The first day of any period, from looks at two of them.
 use Rattle.std.proofs.Common.{◌≡◌, ◌∙◌, ℕ, ◌+◌, ◌<◌, ◌≤◌, ◌⊎◌, inl, inr, Bool, true, false, Option, Some, None, MatchOption, refl, sym, ap, subst, arith, ℤ, pos, ◌+ℤ◌, ◌≤ℤ◌, ◌<ℤ◌}
-use Rattle.std.specs.Prelude.{IsTrue}
-use Rattle.std.specs.Option.{ForSome}
+use Rattle.std.specs.Prelude.{IfSome, IsTrue}
+use Rattle.std.specs.Option.{ForSome, is_some}
 use mathlib.Core.Bool.{Bool-set}
 use mathlib.Core.HLevel.{⊥_prop}
 use mathlib.Core.Logic.{∥∥₁_elim, ∥∥₁_map}
@@ -42,12 +42,12 @@ pub record IsEarlier (day : ℤ) (other : Option ℤ) (n : ℤ) : Type 0 where
 module _ (Has : ℕ → ℤ → Type 0) where
   -- the answer of a look
   pub look-of : (period : ℕ) (last : ℤ) (found : Option PeriodDays) →
-      MatchOption found (HaveEnded Has period last) (Holds (Has period)) → ForSome found (λ _. period < 4294967295) →
+      MatchOption found (HaveEnded Has period last) (Holds (Has period)) → IfSome found (λ _. period < 4294967295) →
       IsLook Has last period found
   look-of period last None ended few = record {
     none = λ _. ended;
     some = λ d e. none-some e;
-    few = few;
+    few = λ d e. none-some e;
   }
   look-of period last (Some days) holds few = record {
     none = λ e. none-some (sym e);
@@ -55,7 +55,7 @@ module _ (Has : ℕ → ℤ → Type 0) where
       λ has. ∣ (holds n valid).0 has ∣₁,
       λ has. ∥∥₁_elim has (true-prop (has_day days n)) (λ h. (holds n valid).1 h),
     ));
-    few = few;
+    few = λ _ _. few;
   }
 
   -- where a period has ended, the next one has
@@ -144,3 +144,22 @@ module _ (Has : ℕ → ℤ → Type 0) where
             let same : k ≡ period + 1 = omega (arith, lt, near) in
             none-next following look other finds earlier.second m high late end (subst (λ (i : ℕ). Has i m) same has)))
             (λ le. at k has (omega (arith, ge, le))))
+
+    -- the same of looks
+    pub looks-first : ((i j : ℕ) (m n : ℤ) → i + 2 ≤ j → IsValidDay m → IsValidDay n → Has i m → Has j n → m <ℤ n) →
+        (current : Option PeriodDays) → IsLook Has last period current → (day : ℤ) → Finds first last current (Some day) →
+        (following : Option PeriodDays) → IsLook Has last (period + 1) following → (other : Option ℤ) → Finds first last following other →
+        (n : ℤ) → IsEarlier day other n → IsFirstOf (IsOfSome Has) first last n
+    looks-first apart None look day finds following next other found n earlier = none-some (sym finds)
+    looks-first apart (Some days) look day one following next other found n earlier =
+        first-of_two apart days (look.some days refl) day one following next other found n earlier
+
+    pub looks-ended : (current : Option PeriodDays) → IsLook Has last period current → is_some current ≡ false →
+        (n : ℤ) → IsBetween first last n → ¬ (IsOfSome Has n)
+    looks-ended None look none = ended-none look
+    looks-ended (Some days) look none = cc
+
+    pub looks-passed : (current : Option PeriodDays) → IsLook Has last period current → Finds first last current None →
+        is_some current ≡ true → ArePassed Has (period + 1) first last
+    looks-passed None look finds some = cc
+    looks-passed (Some days) look none some = passed-next days (look.some days refl) none
