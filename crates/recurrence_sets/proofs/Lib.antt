@@ -1,5 +1,6 @@
 mod DayBitLemmas
 mod DayLemmas
+mod ListingLemmas
 mod LookLemmas
 mod NumberLemmas
 mod PassingLemmas

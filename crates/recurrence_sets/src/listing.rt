@@ -31,7 +31,7 @@ pub struct Listing<S: Periods> {
 }
 
 impl<S: Periods> Listing<S> {
-    ghost use Rattle.std.specs.Prelude.{◌↔◌, List};
+    ghost use Rattle.std.specs.Prelude.{◌↔◌, List, None};
     ghost use Rattle.recurrence_sets.specs.Occurrences.{AreLeft, AreOccurrences, IsOfSome};
     ghost use Rattle.recurrence_sets.specs.Listing.{HasBefore};
     ghost use Rattle.recurrence_sets.specs.declared.occurrence.Occurrence.{Occurrence};
@@ -46,13 +46,15 @@ impl<S: Periods> Listing<S> {
             None => Listing::ended(periods, bounds),
             Some(rest) => {
                 let (first, last) = rest.ends();
-                let (looks, index) = pass_before(&periods, bounds.first_day(), first, last);
-                Listing {
-                    periods,
-                    bounds,
-                    rest: Some(rest),
-                    index,
-                    looks,
+                match pass_before(&periods, &bounds, bounds.first_day(), first, last) {
+                    None => Listing::ended(periods, bounds),
+                    Some(passed) => Listing {
+                        periods,
+                        bounds,
+                        rest: Some(rest),
+                        index: passed.index,
+                        looks: passed.looks,
+                    },
                 }
             }
         }

@@ -1,0 +1,251 @@
+-- The occurrences that are left, from the first one on.
+use Rattle.std.proofs.Common.{◌≡◌, ◌∙◌, ℕ, zero, suc, ◌+◌, ◌<◌, ◌≤◌, ◌⊎◌, inl, inr, Bool, true, false, cond, nat_le, List, [], ◌∷◌, ◌++◌, length, get_or, Option, Some, None, refl, sym, ap, ap₂, subst, subst₂, arith, ℤ, pos, negsuc, ◌+ℤ◌, ◌-ℤ◌, ◌≤ℤ◌, ◌<ℤ◌}
+use Rattle.std.specs.Prelude.{⊤, AllPairs, Contains, IsTrue, ◌↔◌}
+use Rattle.std.specs.Iterator.{MakesProgress, at_most}
+use Rattle.std.specs.Option.{ForSome}
+use Rattle.std.proofs.lemmas.Bool.Decides.{nat_tests}
+use Rattle.std.proofs.lemmas.Int.{by_lt_z, ints}
+use Rattle.std.proofs.lemmas.List.Elements.{Contains-get_or}
+use Rattle.cal_days.specs.Day.{IsBetween, IsValidDay}
+use Rattle.cal_days.proofs.Signed.{signed, by_bool, by_lt}
+use Rattle.cal_types.specs.WindowDays.{IsAfter}
+use Rattle.cal_types.specs.Windows.{IsWindow}
+use Rattle.cal_types.specs.declared.window.Window.{Window}
+use Rattle.recurrence_sets.specs.Bounds.{IsBoundedIn, IsRestOf, has_all, later}
+use Rattle.recurrence_sets.specs.Days.{HasCount, IsFirstOf}
+use Rattle.recurrence_sets.specs.Listing.{AreLooks, ArePassed, HasBefore, IsFirstLeft, IsListing, NoneLeft, days_left}
+use Rattle.recurrence_sets.specs.Occurrences.{AreLeft, AreOccurrences, IsOfSome, Occurs, Recurs}
+use Rattle.recurrence_sets.specs.Passing.{HasPassed}
+use Rattle.recurrence_sets.specs.declared.bounds.Bounds.{Bounds}
+use Rattle.recurrence_sets.specs.declared.looks.Looks.{Looks}
+use Rattle.recurrence_sets.specs.declared.occurrence.Occurrence.{Occurrence}
+use Rattle.recurrence_sets.proofs.DayLemmas.{count-like, count-push, count-unique, count-within}
+
+-- ---- lists with one item more
+
+cons-cases : {A : Type 0} (x : A) (xs : List A) (y : A) → Contains (x ∷ xs) y → (x ≡ y) ⊎ Contains xs y
+cons-cases x xs y (zero, lt, e) = inl e
+cons-cases x xs y (suc k, lt, e) = inr (k, omega (arith, lt), e)
+
+cons-first : {A : Type 0} (x : A) (xs : List A) → Contains (x ∷ xs) x
+cons-first x xs = (0, omega arith, refl)
+
+cons-later : {A : Type 0} (x : A) (xs : List A) (y : A) → Contains xs y → Contains (x ∷ xs) y
+cons-later x xs y (k, lt, e) = (suc k, omega (arith, lt), e)
+
+none-contained : {A : Type 0} (y : A) → ¬ (Contains [] y)
+none-contained y has = absurd (omega (arith, has.1))
+
+pairs-cons : {A : Type 0} (R : A → A → Type 0) (x : A) (xs : List A) → AllPairs R xs → ((y : A) → Contains xs y → R x y) → AllPairs R (x ∷ xs)
+pairs-cons R x xs pairs first zero zero d lt within = absurd (omega (arith, lt))
+pairs-cons R x xs pairs first zero (suc j) d lt within = first (get_or xs j d) (Contains-get_or xs j d (omega (arith, within)))
+pairs-cons R x xs pairs first (suc i) zero d lt within = absurd (omega (arith, lt))
+pairs-cons R x xs pairs first (suc i) (suc j) d lt within = pairs i j d (omega (arith, lt)) (omega (arith, within))
+
+-- ---- bounds
+
+all-few : (most : Option ℕ) (i k : ℕ) → has_all most i ≡ true → i ≤ k → ForSome most (λ c. k < c) → ⊥
+all-few None i k all le few = cc
+all-few (Some c) i k all le few = let more : c ≤ i = grind (arith, nat_tests, all) in absurd (omega (arith, more, le, few c refl))
+
+few-of : (most : Option ℕ) (i : ℕ) → has_all most i ≡ false → ForSome most (λ c. i < c)
+few-of None i all c e = cc
+few-of (Some m) i all c e = let less : i < m = grind (arith, nat_tests, all) in let same : m ≡ c = cc in omega (arith, less, same)
+
+later-both : (m n z : ℤ) → later m n ≤ℤ z → (m ≤ℤ z) × (n ≤ℤ z)
+later-both m n z le = (grind (arith, ints, le), grind (arith, ints, le))
+
+both-later : (m n z : ℤ) → m ≤ℤ z → n ≤ℤ z → later m n ≤ℤ z
+both-later m n z a b = grind (arith, ints, a, b)
+
+module _ (Is : ℤ → Type 0) (b : Bounds) where
+  bounded : (w : Window) (k : ℕ) (n : ℤ) → Occurs Is b k n → IsBetween w.first w.last n → IsBoundedIn b w n
+  bounded w k n occurs within = record { within = within; started = occurs.recurs.started; ended = occurs.recurs.ended }
+
+  -- the occurrences in what is left of a window are those in the window
+  pub items-within : (w rest : Window) → IsRestOf b w rest → (xs : List Occurrence) →
+      AreLeft Is b (Some rest) xs ↔ AreOccurrences Is b w.first w.last xs
+  items-within w rest is xs = (
+    λ are. record {
+      rising = are.rising;
+      exact = λ x. (
+        λ has. let o = (are.exact x).0 has in (o.0, ((is.exact x.day).0 o.1).within),
+        λ o. (are.exact x).1 (o.0, (is.exact x.day).1 (bounded w x.index x.day o.0 o.1)),
+      );
+    },
+    λ are. record {
+      rising = are.rising;
+      exact = λ x. (
+        λ has. let o = (are.exact x).0 has in (o.0, (is.exact x.day).1 (bounded w x.index x.day o.0 o.1)),
+        λ o. (are.exact x).1 (o.0, ((is.exact x.day).0 o.1).within),
+      );
+    },
+  )
+
+  no-items : (first last : ℤ) → ((k : ℕ) (n : ℤ) → IsBetween first last n → ¬ (Occurs Is b k n)) → AreOccurrences Is b first last []
+  no-items first last none = record {
+    rising = λ i j d lt within. absurd (omega (arith, within));
+    exact = λ x. (λ has. absurd (none-contained x has), λ o. absurd (none x.index x.day o.1 o.0));
+  }
+
+  is-empty : (first last : ℤ) → ((k : ℕ) (n : ℤ) → IsBetween first last n → ¬ (Occurs Is b k n)) → (xs : List Occurrence) →
+      AreOccurrences Is b first last xs → xs ≡ []
+  is-empty first last none [] are = refl
+  is-empty first last none (x ∷ xs) are = let o = (are.exact x).0 (cons-first x xs) in absurd (none x.index x.day o.1 o.0)
+
+  -- where no occurrence is, none is left
+  pub items-none : (first last : ℤ) → ((k : ℕ) (n : ℤ) → IsBetween first last n → ¬ (Occurs Is b k n)) → (xs : List Occurrence) →
+      AreLeft Is b None xs ↔ AreOccurrences Is b first last xs
+  items-none first last none xs =
+      (λ e. subst (AreOccurrences Is b first last) (sym e) (no-items first last none), is-empty first last none xs)
+
+  -- none is where no day is within the bounds
+  pub none-bounded : (w : Window) → ((n : ℤ) → ¬ (IsBoundedIn b w n)) → (k : ℕ) (n : ℤ) → IsBetween w.first w.last n → ¬ (Occurs Is b k n)
+  none-bounded w none k n within occurs = none n (bounded w k n occurs within)
+
+  -- what was passed from the start on is all that lies before
+  pub before-of_passed : (day : ℤ) (index : ℕ) → IsValidDay day → ForSome b.until (λ last. day ≤ℤ last) →
+      HasPassed Is (later (negsuc 365242498) b.start) day index → HasBefore Is b day index
+  before-of_passed day index valid ended count =
+      count-like (λ m. Is m × (later (negsuc 365242498) b.start ≤ℤ m) × (m <ℤ day)) (λ m. Recurs Is b m × (m <ℤ day)) index
+      (λ m h. let low = later-both (negsuc 365242498) b.start m h.1 in (
+        record {
+          kept = h.0;
+          started = low.1;
+          valid = (low.0, omega (arith, signed, h.2, valid));
+          ended = λ last e. omega (arith, signed, h.2, ended last e);
+        },
+        h.2,
+      ))
+      (λ m h. (h.0.kept, both-later (negsuc 365242498) b.start m h.0.valid.0 h.0.started, h.1)) count
+
+  -- as many as there may be before a day leave none from it on
+  pub none-full : (next day last : ℤ) (index : ℕ) → next ≤ℤ day → IsValidDay day → ForSome b.until (λ until. day ≤ℤ until) →
+      HasPassed Is (later (negsuc 365242498) b.start) next index → IsTrue (has_all b.count index) →
+      (k : ℕ) (n : ℤ) → IsBetween day last n → ¬ (Occurs Is b k n)
+  none-full next day last index order valid ended count full k n within occurs =
+      let fewer = count-within (λ m. Is m × (later (negsuc 365242498) b.start ≤ℤ m) × (m <ℤ next)) (λ m. Recurs Is b m × (m <ℤ n)) index k
+          (λ m h. let low = later-both (negsuc 365242498) b.start m h.1 in (
+            record {
+              kept = h.0;
+              started = low.1;
+              valid = (low.0, omega (arith, signed, h.2, order, valid));
+              ended = λ until e. omega (arith, signed, h.2, order, ended until e);
+            },
+            omega (arith, signed, h.2, order, within.0),
+          )) count occurs.counted in
+      all-few b.count index k full fewer occurs.few
+
+  -- the count of days before a window's part within the bounds is that before the window
+  pub before-rest : (w rest : Window) (index : ℕ) → IsRestOf b w rest → HasBefore Is b w.first index → HasBefore Is b rest.first index
+  before-rest w rest index is count =
+      count-like (λ m. Recurs Is b m × (m <ℤ w.first)) (λ m. Recurs Is b m × (m <ℤ rest.first)) index
+      (λ m h. (h.0, omega (arith, signed, h.1, is.reached)))
+      (λ m h. (h.0, by_lt_z {P = m <ℤ w.first} m w.first (λ lt. lt) (λ ge. outside m h.0 h.1 ge))) count where
+    outside : (m : ℤ) → Recurs Is b m → m <ℤ rest.first → w.first ≤ℤ m → m <ℤ w.first
+    outside m recurs low high =
+        let end = (is.exact rest.last).0 (rest.days.order, omega (arith, signed)) in
+        let here = (is.exact m).1 (record { within = (high, omega (arith, signed, low, rest.days.order, end.within.1)); started = recurs.started; ended = recurs.ended }) in
+        absurd (omega (arith, signed, here.0, low))
+
+-- ---- the next occurrence
+
+module _ (Is : ℤ → Type 0) (b : Bounds) (w : Window) (index : ℕ) (started : b.start ≤ℤ w.first) (ended : ForSome b.until (λ last. w.last ≤ℤ last))
+    (counted : HasBefore Is b w.first index) where
+  recurs-of : (n : ℤ) → IsBetween w.first w.last n → Is n → Recurs Is b n
+  recurs-of n within is = record {
+    kept = is;
+    started = omega (arith, signed, started, within.0);
+    valid = (omega (arith, signed, w.days.from, within.0), omega (arith, signed, w.days.to, within.1));
+    ended = λ last e. omega (arith, signed, ended last e, within.1);
+  }
+
+  pub none-left : ((n : ℤ) → IsBetween w.first w.last n → ¬ (Is n)) → NoneLeft Is b w
+  none-left none k n within occurs = none n within occurs.recurs.kept
+
+  pub none-more : has_all b.count index ≡ true → NoneLeft Is b w
+  none-more full k n within occurs =
+      let fewer = count-within (λ m. Recurs Is b m × (m <ℤ w.first)) (λ m. Recurs Is b m × (m <ℤ n)) index k
+          (λ m h. (h.0, omega (arith, signed, h.1, within.0))) counted occurs.counted in
+      all-few b.count index k full fewer occurs.few
+
+  module _ (day : ℤ) (first : IsFirstOf Is w.first w.last day) where
+    first-counted : HasBefore Is b day index
+    first-counted =
+        count-like (λ m. Recurs Is b m × (m <ℤ w.first)) (λ m. Recurs Is b m × (m <ℤ day)) index
+        (λ m h. (h.0, omega (arith, signed, h.1, first.within.0)))
+        (λ m h. (h.0, by_lt_z {P = m <ℤ w.first} m w.first (λ lt. lt) (λ ge. absurd (first.least m ge h.1 h.0.kept)))) counted
+
+    first-recurs : Recurs Is b day
+    first-recurs = recurs-of day first.within first.kept
+
+    -- one more lies before the next day
+    pub next-counted : HasBefore Is b (day +ℤ pos 1) (index + 1)
+    next-counted =
+        count-push (λ m. Recurs Is b m × (m <ℤ day)) (λ m. Recurs Is b m × (m <ℤ (day +ℤ pos 1))) index day
+        (λ m h. h.1) (first-recurs, omega (arith, signed)) (λ m h. (h.0, omega (arith, signed, h.1)))
+        (λ m h. split m h.0 h.1) first-counted where
+      split : (m : ℤ) → Recurs Is b m → m <ℤ (day +ℤ pos 1) → (Recurs Is b m × (m <ℤ day)) ⊎ (day ≡ m)
+      split m recurs low =
+          by_lt_z {P = (Recurs Is b m × (m <ℤ day)) ⊎ (day ≡ m)} m day (λ lt. inl (recurs, lt)) (λ ge. inr (omega (arith, signed, low, ge)))
+
+    module _ (few : has_all b.count index ≡ false) where
+      first-occurs : Occurs Is b index day
+      first-occurs = record { recurs = first-recurs; counted = first-counted; few = few-of b.count index few }
+
+      -- it is the first that is left
+      pub first-left : IsFirstLeft Is b w (record { index = index; day = day })
+      first-left = record {
+        occurs = first-occurs;
+        within = first.within;
+        least = λ k n low high occurs. first.least n low high occurs.recurs.kept;
+      }
+
+      -- an occurrence on its day is itself
+      itself : (y : Occurrence) → Occurs Is b y.index y.day → y.day ≡ day → record { index = index; day = day } ≡ y
+      itself y occurs same =
+          let before : HasBefore Is b day y.index = subst (λ (n : ℤ). HasBefore Is b n y.index) same occurs.counted in
+          let equal : index ≡ y.index = count-unique (λ m. Recurs Is b m × (m <ℤ day)) index y.index first-counted before in
+          ap₂ (λ (i : ℕ) (n : ℤ). record { index = i; day = n }) equal (sym same)
+
+      -- a later occurrence has a greater index
+      greater : (y : Occurrence) → Occurs Is b y.index y.day → day <ℤ y.day → index < y.index
+      greater y occurs late =
+          let fewer = count-within (λ m. Recurs Is b m × (m <ℤ (day +ℤ pos 1))) (λ m. Recurs Is b m × (m <ℤ y.day)) (index + 1) y.index
+              (λ m h. (h.0, omega (arith, signed, h.1, late))) next-counted occurs.counted in
+          omega (arith, fewer)
+
+      -- with those behind it, it makes up all that are left
+      whole-of : (xs : List Occurrence) → AllPairs (λ x y. (x.index < y.index) × (x.day <ℤ y.day)) xs →
+          ((y : Occurrence) → Contains xs y → Occurs Is b y.index y.day × IsBetween (day +ℤ pos 1) w.last y.day) →
+          ((y : Occurrence) → Occurs Is b y.index y.day → IsBetween (day +ℤ pos 1) w.last y.day → Contains xs y) →
+          AreOccurrences Is b w.first w.last (record { index = index; day = day } ∷ xs)
+      whole-of xs rising out into = record {
+        rising = pairs-cons (λ x y. (x.index < y.index) × (x.day <ℤ y.day)) (record { index = index; day = day }) xs rising
+            (λ y has. let o = out y has in let late : day <ℤ y.day = omega (arith, signed, o.1.0) in (greater y o.0 late, late));
+        exact = λ y. (λ has. from-list y (cons-cases (record { index = index; day = day }) xs y has), λ o. to-list y o.0 o.1);
+      } where
+        from-list : (y : Occurrence) → (record { index = index; day = day } ≡ y) ⊎ Contains xs y → Occurs Is b y.index y.day × IsBetween w.first w.last y.day
+        from-list y (inl same) =
+            subst (λ (z : Occurrence). Occurs Is b z.index z.day × IsBetween w.first w.last z.day) same (first-occurs, first.within)
+        from-list y (inr has) = let o = out y has in (o.0, (omega (arith, signed, o.1.0, first.within.0), o.1.1))
+
+        to-list : (y : Occurrence) → Occurs Is b y.index y.day → IsBetween w.first w.last y.day → Contains (record { index = index; day = day } ∷ xs) y
+        to-list y occurs within =
+            by_lt_z {P = Contains (record { index = index; day = day } ∷ xs) y} y.day day
+            (λ early. absurd (first.least y.day within.0 early occurs.recurs.kept))
+            (λ ge. by_lt_z {P = Contains (record { index = index; day = day } ∷ xs) y} day y.day
+            (λ late. cons-later (record { index = index; day = day }) xs y (into y occurs (omega (arith, signed, late), within.1)))
+            (λ le. subst (Contains (record { index = index; day = day } ∷ xs)) (itself y occurs (omega (arith, signed, ge, le)))
+            (cons-first (record { index = index; day = day }) xs)))
+
+      pub whole-left : (left : Option Window) → IsAfter w day left → (xs : List Occurrence) → AreLeft Is b left xs →
+          AreOccurrences Is b w.first w.last (record { index = index; day = day } ∷ xs)
+      whole-left None ends xs none =
+          subst (λ ys. AreOccurrences Is b w.first w.last (record { index = index; day = day } ∷ ys)) (sym none)
+          (whole-of [] (λ i j d lt within. absurd (omega (arith, within))) (λ y has. absurd (none-contained y has))
+          (λ y occurs within. absurd (omega (arith, signed, within.0, within.1, ends))))
+      whole-left (Some r) is xs are =
+          whole-of xs are.rising
+          (λ y has. let o = (are.exact y).0 has in (o.0, (omega (arith, signed, o.1.0, is.0), omega (arith, signed, o.1.1, is.1))))
+          (λ y occurs within. (are.exact y).1 (occurs, (omega (arith, signed, within.0, is.0), omega (arith, signed, within.1, is.1))))
