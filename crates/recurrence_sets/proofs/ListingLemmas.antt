@@ -1,6 +1,6 @@
 -- The occurrences that are left, from the first one on.
 use Rattle.std.proofs.Common.{◌≡◌, ◌∙◌, ℕ, zero, suc, ◌+◌, ◌<◌, ◌≤◌, ◌⊎◌, inl, inr, Bool, true, false, cond, nat_le, List, [], ◌∷◌, ◌++◌, length, get_or, Option, Some, None, refl, sym, ap, ap₂, subst, subst₂, arith, ℤ, pos, negsuc, ◌+ℤ◌, ◌-ℤ◌, ◌≤ℤ◌, ◌<ℤ◌}
-use Rattle.std.specs.Prelude.{⊤, AllPairs, Contains, IsTrue, ◌↔◌}
+use Rattle.std.specs.Prelude.{⊤, AllPairs, Contains, IfSome, IsSome, IsTrue, ◌↔◌}
 use Rattle.std.specs.Iterator.{MakesProgress, at_most}
 use Rattle.std.specs.Option.{ForSome}
 use Rattle.std.proofs.lemmas.Bool.Decides.{nat_tests}
@@ -11,7 +11,7 @@ use Rattle.cal_days.proofs.Signed.{signed, by_bool, by_lt}
 use Rattle.cal_types.specs.WindowDays.{IsAfter}
 use Rattle.cal_types.specs.Windows.{IsWindow}
 use Rattle.cal_types.specs.declared.window.Window.{Window}
-use Rattle.recurrence_sets.specs.Bounds.{IsBoundedIn, IsRestOf, has_all, later}
+use Rattle.recurrence_sets.specs.Bounds.{IsBoundedIn, IsRestOf, IsWithin, has_all, later}
 use Rattle.recurrence_sets.specs.Days.{HasCount, IsFirstOf}
 use Rattle.recurrence_sets.specs.Listing.{AreLooks, ArePassed, HasBefore, IsFirstLeft, IsListing, NoneLeft, days_left}
 use Rattle.recurrence_sets.specs.Occurrences.{AreLeft, AreOccurrences, IsOfSome, Occurs, Recurs}
@@ -249,3 +249,74 @@ module _ (Is : ℤ → Type 0) (b : Bounds) (w : Window) (index : ℕ) (started 
           whole-of xs are.rising
           (λ y has. let o = (are.exact y).0 has in (o.0, (omega (arith, signed, o.1.0, is.0), omega (arith, signed, o.1.1, is.1))))
           (λ y occurs within. (are.exact y).1 (occurs, (omega (arith, signed, within.0, is.0), omega (arith, signed, within.1, is.1))))
+
+-- the state behind the next occurrence
+pub next-state : (Has : ℕ → ℤ → Type 0) (b : Bounds) (w : Window) (index : ℕ) (old : Looks) → IsListing Has b index old w → (day : ℤ) →
+    IsFirstOf (IsOfSome Has) w.first w.last day → (looks : Looks) → AreLooks Has w.last looks → ArePassed Has looks.period w.first w.last →
+    (left : Option Window) → IsAfter w day left → ForSome left (λ r. IsListing Has b (index + 1) looks r)
+next-state Has b w index old state day first looks looked passed None ends r e = none-some e where
+  none-some : {A : Type 0} → None ≡ Some r → A
+  none-some e = cc
+next-state Has b w index old state day first looks looked passed (Some r) is v e = subst (IsListing Has b (index + 1) looks) (same e) (record {
+  started = omega (arith, signed, state.started, is.0, first.within.0);
+  ended = λ last f. omega (arith, signed, state.ended last f, is.1);
+  counted = subst (λ (n : ℤ). HasBefore (IsOfSome Has) b n (index + 1)) (sym is.0)
+      (next-counted (IsOfSome Has) b w index state.started state.ended state.counted day first);
+  few = omega (arith, signed, state.few, is.0, first.within.0);
+  looked = subst (λ (n : ℤ). AreLooks Has n looks) (sym is.1) looked;
+  passed = λ i lt n within has. passed i lt n (omega (arith, signed, within.0, is.0, first.within.0), omega (arith, signed, within.1, is.1)) has;
+}) where
+  same : Some r ≡ Some v → r ≡ v
+  same e = cc
+
+-- fewer days are left behind an occurrence
+pub fewer-left : (w : Window) (day : ℤ) → IsBetween w.first w.last day → (left : Option Window) → IsAfter w day left → days_left left < days_left (Some w)
+fewer-left w day within None ends = omega (arith, signed, within.0, within.1)
+fewer-left w day within (Some r) is = omega (arith, signed, within.0, within.1, is.0, is.1)
+
+pub progress : {S A : Type 0} (rest : S → Option Window) (s t : S) (x : A) → days_left (rest t) < days_left (rest s) →
+    MakesProgress (λ _. ⊤) (λ i. at_most (days_left (rest i))) s (Some x) t
+progress rest s t x less = record {
+  on = λ _. (tt, tt, less);
+  keeps = tt;
+  rests = λ _. tt;
+}
+
+-- the days of a window within bounds
+pub within-of : (b : Bounds) (w : Window) (first last : ℤ) → first ≡ later w.first b.start → last ≤ℤ w.last → ForSome b.until (λ u. last ≤ℤ u) →
+    (last ≡ w.last) ⊎ (b.until ≡ Some last) → (found : Option Window) → IsSome found ↔ IsWindow first last →
+    IfSome found (λ r. (r.first ≡ first) × (r.last ≡ last)) → IsWithin b w found
+within-of b w first last is low ends either found exact days = by_found found exact days where
+  lower : (w.first ≤ℤ first) × (b.start ≤ℤ first)
+  lower = later-both w.first b.start first (omega (arith, signed, is))
+
+  higher : (n : ℤ) → IsBoundedIn b w n → first ≤ℤ n
+  higher n h = let le = both-later w.first b.start n h.within.0 h.started in omega (arith, signed, is, le)
+
+  below : (n : ℤ) → IsBoundedIn b w n → (last ≡ w.last) ⊎ (b.until ≡ Some last) → n ≤ℤ last
+  below n h (inl same) = omega (arith, signed, same, h.within.1)
+  below n h (inr until) = h.ended last until
+
+  by_found : (o : Option Window) → IsSome o ↔ IsWindow first last → IfSome o (λ r. (r.first ≡ first) × (r.last ≡ last)) → IsWithin b w o
+  by_found None exact days n h =
+      let high = higher n h in
+      let end = below n h either in
+      let some = exact.1 (record {
+        from = (omega (arith, signed, w.days.from, lower.0), omega (arith, signed, w.days.to, high, h.within.1));
+        to = (omega (arith, signed, w.days.from, h.within.0, end), omega (arith, signed, w.days.to, low));
+        order = omega (arith, signed, high, end);
+      }) in
+      false-true some where
+    false-true : {A : Type 0} → false ≡ true → A
+    false-true e = cc
+  by_found (Some r) exact days = record {
+    exact = λ n. (
+      λ within. record {
+        within = (omega (arith, signed, within.0, days.0, lower.0), omega (arith, signed, within.1, days.1, low));
+        started = omega (arith, signed, within.0, days.0, lower.1);
+        ended = λ u e. omega (arith, signed, within.1, days.1, ends u e);
+      },
+      λ h. (omega (arith, signed, higher n h, days.0), omega (arith, signed, below n h either, days.1)),
+    );
+    reached = omega (arith, signed, days.0, lower.0);
+  }

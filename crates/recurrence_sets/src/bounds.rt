@@ -3,6 +3,7 @@
 ghost use Rattle.std.specs.Prelude.{◌≡◌, negsuc};
 ghost use Rattle.recurrence_sets.specs.Bounds.{IsWithin, has_all, later};
 
+use crate::looks::earlier;
 use cal_days::RataDie;
 use cal_days::ranges::FIRST_VALID_DAY;
 use cal_types::Window;
@@ -41,11 +42,9 @@ impl Bounds {
         ensures { IsWithin self.now window result }
     {
         let (first, last) = window.ends();
-        let last = match self.until {
-            Some(until) if until < last => until,
-            _ => last,
-        };
-        Window::try_new(later(first, self.start), last)
+        let start = later(first, self.start);
+        let end = earlier(last, self.until);
+        Window::try_new(start, end)
     }
 }
 

@@ -85,7 +85,7 @@ fn first_in(days: &Option<PeriodDays>, first: RataDie, last: RataDie) -> Option<
 }
 
 /// Returns the earlier one of a day and another, if there is another.
-fn earlier(day: RataDie, other: Option<RataDie>) -> RataDie
+pub(crate) fn earlier(day: RataDie, other: Option<RataDie>) -> RataDie
     ensures first { result ≤ℤ day }
     ensures second { ForSome other (λ n. result ≤ℤ n) }
     ensures either { (result ≡ day) ⊎ (other ≡ Some result) }

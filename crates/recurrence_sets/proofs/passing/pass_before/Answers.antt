@@ -1,5 +1,6 @@
-use Rattle.std.proofs.Common.{refl, arith}
-use Rattle.cal_days.proofs.Signed.{signed}
+use Rattle.std.proofs.Common.{refl, sym, subst, ℤ}
+use Rattle.recurrence_sets.specs.Occurrences.{IsOfSome}
+use Rattle.recurrence_sets.specs.Passing.{HasPassed}
 use Rattle.recurrence_sets.proofs.PassingLemmas.{pass-first}
 use Rattle.recurrence_sets.proofs.passing.pass_before.Goals as goal
 
@@ -9,3 +10,15 @@ days-init g c = record {
   first = refl;
   most = c.requires.before.order;
 }
+
+pub returns-then-has_all : goal.returns-then-has_all
+returns-then-has_all g c =
+    let Is = IsOfSome (g.S.Periods.has c.args.periods.now) in
+    let p = c.days.passed in
+    record {
+      next = p.next;
+      index = p.index;
+      order = c.days.invariant.most;
+      counted = subst (λ (n : ℤ). HasPassed Is n p.next p.index) c.days.invariant.first c.days.invariant.passed.counted;
+      full = sym c.if-has_all.ensures;
+    }
