@@ -298,17 +298,17 @@ within-of b w first last is low ends either found exact days = by_found found ex
   below n h (inr until) = h.ended last until
 
   by_found : (o : Option Window) → IsSome o ↔ IsWindow first last → IfSome o (λ r. (r.first ≡ first) × (r.last ≡ last)) → IsWithin b w o
-  by_found None exact days n h =
-      let high = higher n h in
-      let end = below n h either in
-      let some = exact.1 (record {
-        from = (omega (arith, signed, w.days.from, lower.0), omega (arith, signed, w.days.to, high, h.within.1));
-        to = (omega (arith, signed, w.days.from, h.within.0, end), omega (arith, signed, w.days.to, low));
-        order = omega (arith, signed, high, end);
-      }) in
-      false-true some where
+  by_found None exact days = λ n h. unfound (higher n h) (below n h either) h exact where
     false-true : {A : Type 0} → false ≡ true → A
     false-true e = cc
+
+    unfound : {n : ℤ} → first ≤ℤ n → n ≤ℤ last → IsBoundedIn b w n → IsSome {T = Window} None ↔ IsWindow first last → ⊥
+    unfound {n} high end h exact =
+        false-true (exact.1 (record {
+          from = (omega (arith, signed, w.days.from, lower.0), omega (arith, signed, w.days.to, high, h.within.1));
+          to = (omega (arith, signed, w.days.from, h.within.0, end), omega (arith, signed, w.days.to, low));
+          order = omega (arith, signed, high, end);
+        }))
   by_found (Some r) exact days = record {
     exact = λ n. (
       λ within. record {
