@@ -13,13 +13,14 @@ use Rattle.cal_types.specs.Windows.{IsWindow}
 use Rattle.cal_types.specs.declared.window.Window.{Window}
 use Rattle.recurrence_sets.specs.Bounds.{IsBoundedIn, IsRestOf, IsWithin, has_all, later}
 use Rattle.recurrence_sets.specs.Days.{HasCount, IsFirstOf}
-use Rattle.recurrence_sets.specs.Listing.{AreLooks, ArePassed, HasBefore, IsFirstLeft, IsListing, NoneLeft, days_left}
+use Rattle.recurrence_sets.specs.Listing.{AreLooks, ArePassed, GoesOn, HasBefore, IsFirstLeft, IsListing, NoneLeft, days_left}
 use Rattle.recurrence_sets.specs.Occurrences.{AreLeft, AreOccurrences, IsOfSome, Occurs, Recurs}
-use Rattle.recurrence_sets.specs.Passing.{HasPassed}
+use Rattle.recurrence_sets.specs.Passing.{HasPassed, IsFullBefore, IsPassing}
 use Rattle.recurrence_sets.specs.declared.bounds.Bounds.{Bounds}
 use Rattle.recurrence_sets.specs.declared.looks.Looks.{Looks}
 use Rattle.recurrence_sets.specs.declared.occurrence.Occurrence.{Occurrence}
-use Rattle.recurrence_sets.proofs.DayLemmas.{count-like, count-push, count-unique, count-within}
+use Rattle.recurrence_sets.specs.declared.passing.Passed.{Passed}
+use Rattle.recurrence_sets.proofs.DayLemmas.{count-like, count-push, count-span, count-unique, count-within}
 
 -- ---- lists with one item more
 
@@ -59,7 +60,7 @@ both-later : (m n z : ℤ) → m ≤ℤ z → n ≤ℤ z → later m n ≤ℤ z
 both-later m n z a b = grind (arith, ints, a, b)
 
 module _ (Is : ℤ → Type 0) (b : Bounds) where
-  bounded : (w : Window) (k : ℕ) (n : ℤ) → Occurs Is b k n → IsBetween w.first w.last n → IsBoundedIn b w n
+  pub bounded : (w : Window) (k : ℕ) (n : ℤ) → Occurs Is b k n → IsBetween w.first w.last n → IsBoundedIn b w n
   bounded w k n occurs within = record { within = within; started = occurs.recurs.started; ended = occurs.recurs.ended }
 
   -- the occurrences in what is left of a window are those in the window
@@ -320,3 +321,85 @@ within-of b w first last is low ends either found exact days = by_found found ex
     );
     reached = omega (arith, signed, days.0, lower.0);
   }
+
+-- ---- what a call says
+
+none-some : {A B : Type 0} {x : A} → None ≡ Some x → B
+none-some e = cc
+
+some-same : {A : Type 0} {x y : A} → Some x ≡ Some y → x ≡ y
+some-same e = cc
+
+module _ (Is : ℤ → Type 0) (b : Bounds) where
+  pub goes-none : (o : Option Window) (answer : Option Occurrence) → o ≡ None → answer ≡ None → GoesOn Is b o answer o
+  goes-none None None e f = record { next = (refl, refl); whole = λ xs left. left }
+  goes-none None (Some x) e f = none-some (sym f)
+  goes-none (Some w) answer e f = none-some (sym e)
+
+  pub goes-ended : (w : Window) → NoneLeft Is b w → (o : Option Window) → o ≡ Some w → GoesOn Is b o None None
+  goes-ended w none None e = none-some e
+  goes-ended w none (Some v) e =
+      subst (λ (u : Window). GoesOn Is b (Some u) None None) (sym (some-same e))
+      (record { next = (none, refl); whole = λ xs left. (items-none Is b w.first w.last none xs).0 left })
+
+  pub goes-some : (w : Window) (x : Occurrence) → IsFirstLeft Is b w x → (left : Option Window) → IsAfter w x.day left →
+      ((xs : List Occurrence) → AreLeft Is b left xs → AreOccurrences Is b w.first w.last (x ∷ xs)) → (o : Option Window) → o ≡ Some w →
+      GoesOn Is b o (Some x) left
+  goes-some w x first left after whole None e = none-some e
+  goes-some w x first left after whole (Some v) e =
+      subst (λ (u : Window). GoesOn Is b (Some u) (Some x) left) (sym (some-same e))
+      (record { next = (first, after); whole = whole })
+
+  -- nothing is left of a window, if as many as there may be lie before its part within the bounds
+  pub items-full : (w rest : Window) → IsRestOf b w rest → (start day : ℤ) → start ≡ later (negsuc 365242498) b.start → day ≡ rest.first →
+      IsFullBefore Is b.count start day → (xs : List Occurrence) → AreLeft Is b None xs ↔ AreOccurrences Is b w.first w.last xs
+  items-full w rest is start day starts here full xs =
+      items-none Is b w.first w.last
+      (λ k n within occurs.
+      none-full Is b full.next rest.first rest.last full.index (omega (arith, signed, full.order, here)) rest.days.from
+      (((is.exact rest.first).0 (omega (arith, signed), rest.days.order)).ended)
+      (subst (λ (m : ℤ). HasPassed Is m full.next full.index) starts full.counted) full.full k n
+      ((is.exact n).1 (bounded Is b w k n occurs within)) occurs) xs
+
+  rest-bounds : (w rest : Window) → IsRestOf b w rest → (b.start ≤ℤ rest.first) × ForSome b.until (λ last. rest.last ≤ℤ last)
+  rest-bounds w rest is =
+      (((is.exact rest.first).0 (omega (arith, signed), rest.days.order)).started, ((is.exact rest.last).0 (rest.days.order, omega (arith, signed))).ended)
+
+pub for-some : {A : Type 0} (P : A → Type 0) (x : A) → P x → ForSome (Some x) P
+for-some P x p y e = subst P (some-same e) p
+
+-- the state of a listing that has passed the days before it
+pub new-state : (Has : ℕ → ℤ → Type 0) (b : Bounds) (w rest : Window) → IsRestOf b w rest → (start first last : ℤ) →
+    start ≡ later (negsuc 365242498) b.start → first ≡ rest.first → last ≡ rest.last →
+    (p : Passed) → IsPassing Has last p × (p.first ≡ start) × (p.next ≡ first) → IsListing Has b p.index p.looks rest
+new-state Has b w rest is start first last starts begins ends p (passing, from, to) =
+    let bounds = rest-bounds (IsOfSome Has) b w rest is in
+    let next : p.next ≡ rest.first = to ∙ begins in
+    let low = later-both (negsuc 365242498) b.start p.first (omega (arith, signed, from, starts)) in
+    record {
+      started = bounds.0;
+      ended = bounds.1;
+      counted = before-of_passed (IsOfSome Has) b rest.first p.index rest.days.from
+          (λ u e. omega (arith, signed, bounds.1 u e, rest.days.order))
+          (subst₂ (λ (a z : ℤ). HasPassed (IsOfSome Has) a z p.index) (from ∙ starts) next passing.counted);
+      few = omega (arith, signed, passing.few, next, low.0);
+      looked = subst (λ (n : ℤ). AreLooks Has n p.looks) ends passing.looked;
+      passed = subst₂ (λ (a z : ℤ). ArePassed Has p.looks.period a z) next ends passing.passed;
+    }
+
+-- and of one that is told how many lie before it
+pub resumed-state : (Has : ℕ → ℤ → Type 0) (b : Bounds) (w rest : Window) → IsRestOf b w rest → (index : ℕ) → HasBefore (IsOfSome Has) b w.first index →
+    (looks : Looks) (last : ℤ) → last ≡ rest.last → AreLooks Has last looks → looks.period ≡ 0 → IsListing Has b index looks rest
+resumed-state Has b w rest is index count looks last ends looked none =
+    let bounds = rest-bounds (IsOfSome Has) b w rest is in
+    let before = before-rest (IsOfSome Has) b w rest index is count in
+    let span = count-span (λ m. Recurs (IsOfSome Has) b m × (m <ℤ rest.first)) index (negsuc 365242498) rest.first (omega (arith, signed, rest.days.from))
+        (λ m h. (h.0.valid.0, h.1)) before in
+    record {
+      started = bounds.0;
+      ended = bounds.1;
+      counted = before;
+      few = omega (arith, signed, span);
+      looked = subst (λ (n : ℤ). AreLooks Has n looks) ends looked;
+      passed = λ i lt. absurd (omega (arith, lt, none));
+    }

@@ -42,21 +42,20 @@ impl<S: Periods> Listing<S> {
             ↔ AreOccurrences (IsOfSome (S.has periods)) bounds window.first window.last xs }
         ensures parts { (result.periods ≡ periods) × (result.bounds ≡ bounds) }
     {
-        match bounds.days_within(window) {
-            None => Listing::ended(periods, bounds),
-            Some(rest) => {
-                let (first, last) = rest.ends();
-                match pass_before(&periods, &bounds, bounds.first_day(), first, last) {
-                    None => Listing::ended(periods, bounds),
-                    Some(passed) => Listing {
-                        periods,
-                        bounds,
-                        rest: Some(rest),
-                        index: passed.index,
-                        looks: passed.looks,
-                    },
-                }
-            }
+        let Some(rest) = bounds.days_within(window) else {
+            return Listing::ended(periods, bounds);
+        };
+        let (first, last) = rest.ends();
+        let start = bounds.first_day();
+        let Some(passed) = pass_before(&periods, &bounds, start, first, last) else {
+            return Listing::ended(periods, bounds);
+        };
+        Listing {
+            periods,
+            bounds,
+            rest: Some(rest),
+            index: passed.index,
+            looks: passed.looks,
         }
     }
 
@@ -68,19 +67,17 @@ impl<S: Periods> Listing<S> {
             ↔ AreOccurrences (IsOfSome (S.has periods)) bounds window.first window.last xs }
         ensures parts { (result.periods ≡ periods) × (result.bounds ≡ bounds) }
     {
-        match bounds.days_within(window) {
-            None => Listing::ended(periods, bounds),
-            Some(rest) => {
-                let (_, last) = rest.ends();
-                let looks = first_looks(&periods, last);
-                Listing {
-                    periods,
-                    bounds,
-                    rest: Some(rest),
-                    index,
-                    looks,
-                }
-            }
+        let Some(rest) = bounds.days_within(window) else {
+            return Listing::ended(periods, bounds);
+        };
+        let (_, last) = rest.ends();
+        let looks = first_looks(&periods, last);
+        Listing {
+            periods,
+            bounds,
+            rest: Some(rest),
+            index,
+            looks,
         }
     }
 
