@@ -4,5 +4,6 @@ mod ListingLemmas
 mod LookLemmas
 mod NumberLemmas
 mod PassingLemmas
+mod PlaceLemmas
 mod SetLemmas
 mod WordLemmas

@@ -65,13 +65,13 @@ count-split f m (suc n) =
 abbrev pub from_on : (ℕ → Bool) → ℕ → ℕ → Bool
 from_on f a i = f i && nat_le a i
 
-from_on-below : (f : ℕ → Bool) (a i : ℕ) → i < a → from_on f a i ≡ false
+pub from_on-below : (f : ℕ → Bool) (a i : ℕ) → i < a → from_on f a i ≡ false
 from_on-below f a i lt = let low : nat_le a i ≡ false = grind (arith, nat_tests, lt) in ap (λ (b : Bool). f i && b) low ∙ none (f i) where
   none : (b : Bool) → (b && false) ≡ false
   none true = refl
   none false = refl
 
-from_on-above : (f : ℕ → Bool) (a i : ℕ) → a ≤ i → from_on f a i ≡ f i
+pub from_on-above : (f : ℕ → Bool) (a i : ℕ) → a ≤ i → from_on f a i ≡ f i
 from_on-above f a i le = let high : nat_le a i ≡ true = grind (arith, nat_tests, le) in ap (λ (b : Bool). f i && b) high ∙ same (f i) where
   same : (b : Bool) → (b && true) ≡ b
   same true = refl

@@ -1,11 +1,11 @@
 //! Places among the days of a period.
 
-ghost use Rattle.std.specs.Prelude.{◌≡◌, ◌<◌, ◌+◌, ◌-◌, ◌↔◌, ◌||◌, ◌&&◌, nat_lt, ℕ, IsTrue, ℤ, false, length};
+ghost use Rattle.std.specs.Prelude.{◌≡◌, ◌<◌, ◌+◌, ◌↔◌, ◌||◌, ◌&&◌, ◌==◌, ℕ, IsTrue, ℤ, false};
 ghost use Rattle.cal_rule.specs.Sets.{has_number, has_place};
 ghost use Rattle.cal_rule.specs.declared.place_set.Place.{Place};
 ghost use Rattle.cal_rule.specs.declared.place_set.Place.TheVariants.{FromFront, FromBack};
 ghost use Rattle.recurrence_sets.specs.Days.{HasPlaceAmong};
-ghost use Rattle.recurrence_sets.specs.Numbers.{count_below, has_position};
+ghost use Rattle.recurrence_sets.specs.Numbers.{has_position};
 ghost use Rattle.recurrence_sets.specs.PeriodBits.{has_day};
 
 use crate::day_bits::{first_number, numbers_below};
@@ -36,11 +36,19 @@ fn keep_numbers(numbers: &[u64; 7], positions: &PlaceSet<7>, kept: &mut [u64; 7]
     let mut before = 0;
     let mut from = 0;
     'numbers: while let Some(number) = first_number(numbers, from) {
-        if is_position(positions, before, total - before) {
-            add_number(kept, number as u16);
-        }
+        add_if(kept, number, is_position(positions, before, total - before));
         before += 1;
         from = number + 1;
+    }
+}
+
+/// Adds a number, if a test holds.
+fn add_if(words: &mut [u64; 7], number: u32, holds: bool)
+    requires { number < 448 }
+    ensures { (i : ℕ) → has_number words.new i ≡ ((i == number && holds) || has_number words.old i) }
+{
+    if holds {
+        add_number(words, number as u16);
     }
 }
 
