@@ -2,6 +2,5 @@
 #![tactic(auto)]
 
 mod named_days;
-mod occurrence;
 
-pub use occurrence::Occurrence;
+pub use recurrence_sets::Occurrence;
