@@ -1,5 +1,5 @@
 -- Runs of bits, in a word and in words in a row.
-use Rattle.std.proofs.Common.{◌≡◌, ◌∙◌, ℕ, ◌+◌, ◌-◌, ◌*◌, ◌/◌, ◌%◌, ◌^◌, ◌<◌, ◌≤◌, ◌&&◌, ◌||◌, ◌==◌, Bool, true, false, nat_eq, ◌≢◌, nat_le, nat_lt, if◌then◌else◌, List, length, get_or, set, min, max, refl, sym, ap, arith}
+use Rattle.std.proofs.Common.{◌≡◌, ◌∙◌, ℕ, ◌+◌, ◌-◌, ◌*◌, ◌/◌, ◌%◌, ◌^◌, ◌<◌, ◌≤◌, ◌&&◌, ◌||◌, ◌==◌, Bool, true, false, nat_eq, ◌≢◌, nat_le, nat_lt, List, length, get_or, set, min, max, refl, sym, ap, arith}
 use Rattle.std.specs.Int.{bit_at}
 use Rattle.std.specs.Int.RustNames.{bit_and, bit_or}
 use mathlib.Core.Logic.{◌⊎◌, inl, inr}

@@ -1,7 +1,6 @@
 -- Days of a kind, and how many there are.
-use Rattle.std.proofs.Common.{◌≡◌, ◌∙◌, ℕ, zero, suc, ◌+◌, ◌<◌, ◌≤◌, ◌⊎◌, inl, inr, List, [], ◌∷◌, ◌++◌, length, get_or, refl, sym, ap, subst, subst₂, arith, ℤ, pos, ◌+ℤ◌, ◌-ℤ◌, ◌≤ℤ◌, ◌<ℤ◌}
-use Rattle.std.specs.Prelude.{AllPairs, Contains, ◌↔◌}
-use Rattle.std.proofs.lemmas.Bool.{cases_lt}
+use Rattle.std.proofs.Common.{◌≡◌, ◌∙◌, ℕ, zero, suc, ◌+◌, ◌<◌, ◌≤◌, ◌⊎◌, inl, inr, List, [], ◌∷◌, ◌++◌, length, get_or, refl, sym, ap, subst, subst₂, arith, ℤ, pos, ◌+ℤ◌, ◌≤ℤ◌, ◌<ℤ◌}
+use Rattle.std.specs.Prelude.{AllPairs, Contains}
 use Rattle.std.proofs.lemmas.List.{get_or_append_left, get_or_default, get_or_push, length_push}
 use Rattle.std.proofs.lemmas.List.Elements.{Contains-append_left, Contains-get_or, Contains-push, Contains-push_cases}
 use native.Mathlib.Bridge.{le_prop}
@@ -27,15 +26,15 @@ behind xs ys rising rises all (suc i) within =
     let at : get_or ys found.0 (pos 0) ≡ get_or xs (suc i) (pos 0) = get_or_default ys found.0 (pos 0) (get_or xs (suc i) (pos 0)) found.1 ∙ found.2 in
     let later : get_or xs i (pos 0) <ℤ get_or xs (suc i) (pos 0) = rising i (suc i) (pos 0) (omega arith) within in
     (found.0, found.1, at, omega (arith, before.3, order found.0 found.1 at before.0 before.1 before.2 later)) where
-  order : (k : ℕ) → k < length ys → get_or ys k (pos 0) ≡ get_or xs (suc i) (pos 0) → (j : ℕ) → j < length ys → get_or ys j (pos 0) ≡ get_or xs i (pos 0) →
-      get_or xs i (pos 0) <ℤ get_or xs (suc i) (pos 0) → j < k
-  order k kin kat j jin jat later =
-      by_lt {P = j < k} j k (λ lt. lt)
-      (λ le. by_lt {P = j < k} k j
-      (λ lt. let turned = rises k j (pos 0) lt jin in absurd (omega (arith, signed, turned, kat, jat, later)))
-      (λ ge. let same : j ≡ k = omega (arith, le, ge) in
-      let equal = ap (λ (p : ℕ). get_or ys p (pos 0)) same in
-      absurd (omega (arith, signed, equal, kat, jat, later))))
+      order : (k : ℕ) → k < length ys → get_or ys k (pos 0) ≡ get_or xs (suc i) (pos 0) → (j : ℕ) → j < length ys → get_or ys j (pos 0) ≡ get_or xs i (pos 0) →
+          get_or xs i (pos 0) <ℤ get_or xs (suc i) (pos 0) → j < k
+      order k kin kat j jin jat later =
+          by_lt {P = j < k} j k (λ lt. lt)
+          (λ le. by_lt {P = j < k} k j
+          (λ lt. let turned = rises k j (pos 0) lt jin in absurd (omega (arith, signed, turned, kat, jat, later)))
+          (λ ge. let same : j ≡ k = omega (arith, le, ge) in
+          let equal = ap (λ (p : ℕ). get_or ys p (pos 0)) same in
+          absurd (omega (arith, signed, equal, kat, jat, later))))
 
 fewer : (xs ys : List ℤ) → AllPairs (λ m n. m <ℤ n) xs → AllPairs (λ m n. m <ℤ n) ys → ((n : ℤ) → Contains xs n → Contains ys n) → length xs ≤ length ys
 fewer xs ys rising rises all =
@@ -88,13 +87,13 @@ count-like P Q i to from count =
 
 pub count-empty : (P : ℤ → Type 0) → ((n : ℤ) → ¬ (P n)) → HasCount P 0
 count-empty P none = ∣ (
-      [],
-      record {
-        rising = λ i j d lt within. absurd (omega (arith, within));
-        exact = λ n. (λ has. absurd (omega (arith, has.1)), λ p. absurd (none n p));
-      },
-      refl,
-    ) ∣₁
+  [],
+  record {
+    rising = λ i j d lt within. absurd (omega (arith, within));
+    exact = λ n. (λ has. absurd (omega (arith, has.1)), λ p. absurd (none n p));
+  },
+  refl,
+) ∣₁
 
 -- each of some items stands in a relation to each later one, where one is put behind those before it
 pub pairs-push : {A : Type 0} (R : A → A → Type 0) (xs : List A) (y : A) → AllPairs R xs → ((x : A) → Contains xs x → R x y) → AllPairs R (xs ++ (y ∷ []))
@@ -120,12 +119,12 @@ count-push P Q i n before here to from count =
       },
       length_push xs n ∙ ap (λ (k : ℕ). k + 1) is,
     )) where
-  out : (xs : List ℤ) → AreDays P xs → (m : ℤ) → Contains (xs ++ (n ∷ [])) m → Q m
-  out xs are m has = by_place (Contains-push_cases xs n m has) where
-    by_place : Contains xs m ⊎ (n ≡ m) → Q m
-    by_place (inl there) = to m ((are.exact m).0 there)
-    by_place (inr same) = subst Q same here
+      out : (xs : List ℤ) → AreDays P xs → (m : ℤ) → Contains (xs ++ (n ∷ [])) m → Q m
+      out xs are m has = by_place (Contains-push_cases xs n m has) where
+        by_place : Contains xs m ⊎ (n ≡ m) → Q m
+        by_place (inl there) = to m ((are.exact m).0 there)
+        by_place (inr same) = subst Q same here
 
-  into : (xs : List ℤ) → AreDays P xs → (m : ℤ) → P m ⊎ (n ≡ m) → Contains (xs ++ (n ∷ [])) m
-  into xs are m (inl p) = Contains-append_left xs (n ∷ []) m ((are.exact m).1 p)
-  into xs are m (inr same) = subst (Contains (xs ++ (n ∷ []))) same (Contains-push xs n)
+      into : (xs : List ℤ) → AreDays P xs → (m : ℤ) → P m ⊎ (n ≡ m) → Contains (xs ++ (n ∷ [])) m
+      into xs are m (inl p) = Contains-append_left xs (n ∷ []) m ((are.exact m).1 p)
+      into xs are m (inr same) = subst (Contains (xs ++ (n ∷ []))) same (Contains-push xs n)

@@ -1,5 +1,5 @@
 -- The occurrences that are left, from the first one on.
-use Rattle.std.proofs.Common.{◌≡◌, ◌∙◌, ℕ, zero, suc, ◌+◌, ◌<◌, ◌≤◌, ◌⊎◌, inl, inr, Bool, true, false, cond, nat_le, List, [], ◌∷◌, ◌++◌, length, get_or, Option, Some, None, refl, sym, ap, ap₂, subst, subst₂, arith, ℤ, pos, negsuc, ◌+ℤ◌, ◌-ℤ◌, ◌≤ℤ◌, ◌<ℤ◌}
+use Rattle.std.proofs.Common.{◌≡◌, ◌∙◌, ℕ, zero, suc, ◌+◌, ◌<◌, ◌≤◌, ◌⊎◌, inl, inr, true, false, List, [], ◌∷◌, get_or, Option, Some, None, refl, sym, ap₂, subst, subst₂, arith, ℤ, pos, negsuc, ◌+ℤ◌, ◌≤ℤ◌, ◌<ℤ◌}
 use Rattle.std.specs.Prelude.{⊤, AllPairs, Contains, IfSome, IsSome, IsTrue, ◌↔◌}
 use Rattle.std.specs.Iterator.{MakesProgress, at_most}
 use Rattle.std.specs.Option.{ForSome}
@@ -7,12 +7,12 @@ use Rattle.std.proofs.lemmas.Bool.Decides.{nat_tests}
 use Rattle.std.proofs.lemmas.Int.{by_lt_z, ints}
 use Rattle.std.proofs.lemmas.List.Elements.{Contains-get_or}
 use Rattle.cal_days.specs.Day.{IsBetween, IsValidDay}
-use Rattle.cal_days.proofs.Signed.{signed, by_bool, by_lt}
+use Rattle.cal_days.proofs.Signed.{signed}
 use Rattle.cal_types.specs.WindowDays.{IsAfter}
 use Rattle.cal_types.specs.Windows.{IsWindow}
 use Rattle.cal_types.specs.declared.window.Window.{Window}
 use Rattle.recurrence_sets.specs.Bounds.{IsBoundedIn, IsRestOf, IsWithin, has_all, later}
-use Rattle.recurrence_sets.specs.Days.{HasCount, IsFirstOf}
+use Rattle.recurrence_sets.specs.Days.{IsFirstOf}
 use Rattle.recurrence_sets.specs.Listing.{AreLooks, ArePassed, GoesOn, HasBefore, IsFirstLeft, IsListing, NoneLeft, days_left}
 use Rattle.recurrence_sets.specs.Occurrences.{AreLeft, AreOccurrences, IsOfSome, Occurs, Recurs}
 use Rattle.recurrence_sets.specs.Passing.{HasPassed, IsFullBefore, IsPassing}
@@ -126,15 +126,15 @@ module _ (Is : ℤ → Type 0) (b : Bounds) where
       (k : ℕ) (n : ℤ) → IsBetween day last n → ¬ (Occurs Is b k n)
   none-full next day last index order valid ended count full k n within occurs =
       let fewer = count-within (λ m. Is m × (later (negsuc 365242498) b.start ≤ℤ m) × (m <ℤ next)) (λ m. Recurs Is b m × (m <ℤ n)) index k
-          (λ m h. let low = later-both (negsuc 365242498) b.start m h.1 in (
-            record {
-              kept = h.0;
-              started = low.1;
-              valid = (low.0, omega (arith, signed, h.2, order, valid));
-              ended = λ until e. omega (arith, signed, h.2, order, ended until e);
-            },
-            omega (arith, signed, h.2, order, within.0),
-          )) count occurs.counted in
+      (λ m h. let low = later-both (negsuc 365242498) b.start m h.1 in (
+        record {
+          kept = h.0;
+          started = low.1;
+          valid = (low.0, omega (arith, signed, h.2, order, valid));
+          ended = λ until e. omega (arith, signed, h.2, order, ended until e);
+        },
+        omega (arith, signed, h.2, order, within.0),
+      )) count occurs.counted in
       all-few b.count index k full fewer occurs.few
 
   -- the count of days before a window's part within the bounds is that before the window
@@ -143,11 +143,11 @@ module _ (Is : ℤ → Type 0) (b : Bounds) where
       count-like (λ m. Recurs Is b m × (m <ℤ w.first)) (λ m. Recurs Is b m × (m <ℤ rest.first)) index
       (λ m h. (h.0, omega (arith, signed, h.1, is.reached)))
       (λ m h. (h.0, by_lt_z {P = m <ℤ w.first} m w.first (λ lt. lt) (λ ge. outside m h.0 h.1 ge))) count where
-    outside : (m : ℤ) → Recurs Is b m → m <ℤ rest.first → w.first ≤ℤ m → m <ℤ w.first
-    outside m recurs low high =
-        let end = (is.exact rest.last).0 (rest.days.order, omega (arith, signed)) in
-        let here = (is.exact m).1 (record { within = (high, omega (arith, signed, low, rest.days.order, end.within.1)); started = recurs.started; ended = recurs.ended }) in
-        absurd (omega (arith, signed, here.0, low))
+        outside : (m : ℤ) → Recurs Is b m → m <ℤ rest.first → w.first ≤ℤ m → m <ℤ w.first
+        outside m recurs low high =
+            let end = (is.exact rest.last).0 (rest.days.order, omega (arith, signed)) in
+            let here = (is.exact m).1 (record { within = (high, omega (arith, signed, low, rest.days.order, end.within.1)); started = recurs.started; ended = recurs.ended }) in
+            absurd (omega (arith, signed, here.0, low))
 
 -- ---- the next occurrence
 
@@ -167,7 +167,7 @@ module _ (Is : ℤ → Type 0) (b : Bounds) (w : Window) (index : ℕ) (started 
   pub none-more : has_all b.count index ≡ true → NoneLeft Is b w
   none-more full k n within occurs =
       let fewer = count-within (λ m. Recurs Is b m × (m <ℤ w.first)) (λ m. Recurs Is b m × (m <ℤ n)) index k
-          (λ m h. (h.0, omega (arith, signed, h.1, within.0))) counted occurs.counted in
+      (λ m h. (h.0, omega (arith, signed, h.1, within.0))) counted occurs.counted in
       all-few b.count index k full fewer occurs.few
 
   module _ (day : ℤ) (first : IsFirstOf Is w.first w.last day) where
@@ -186,9 +186,9 @@ module _ (Is : ℤ → Type 0) (b : Bounds) (w : Window) (index : ℕ) (started 
         count-push (λ m. Recurs Is b m × (m <ℤ day)) (λ m. Recurs Is b m × (m <ℤ (day +ℤ pos 1))) index day
         (λ m h. h.1) (first-recurs, omega (arith, signed)) (λ m h. (h.0, omega (arith, signed, h.1)))
         (λ m h. split m h.0 h.1) first-counted where
-      split : (m : ℤ) → Recurs Is b m → m <ℤ (day +ℤ pos 1) → (Recurs Is b m × (m <ℤ day)) ⊎ (day ≡ m)
-      split m recurs low =
-          by_lt_z {P = (Recurs Is b m × (m <ℤ day)) ⊎ (day ≡ m)} m day (λ lt. inl (recurs, lt)) (λ ge. inr (omega (arith, signed, low, ge)))
+          split : (m : ℤ) → Recurs Is b m → m <ℤ (day +ℤ pos 1) → (Recurs Is b m × (m <ℤ day)) ⊎ (day ≡ m)
+          split m recurs low =
+              by_lt_z {P = (Recurs Is b m × (m <ℤ day)) ⊎ (day ≡ m)} m day (λ lt. inl (recurs, lt)) (λ ge. inr (omega (arith, signed, low, ge)))
 
     module _ (few : has_all b.count index ≡ false) where
       first-occurs : Occurs Is b index day
@@ -213,7 +213,7 @@ module _ (Is : ℤ → Type 0) (b : Bounds) (w : Window) (index : ℕ) (started 
       greater : (y : Occurrence) → Occurs Is b y.index y.day → day <ℤ y.day → index < y.index
       greater y occurs late =
           let fewer = count-within (λ m. Recurs Is b m × (m <ℤ (day +ℤ pos 1))) (λ m. Recurs Is b m × (m <ℤ y.day)) (index + 1) y.index
-              (λ m h. (h.0, omega (arith, signed, h.1, late))) next-counted occurs.counted in
+          (λ m h. (h.0, omega (arith, signed, h.1, late))) next-counted occurs.counted in
           omega (arith, fewer)
 
       -- with those behind it, it makes up all that are left
@@ -394,7 +394,7 @@ resumed-state Has b w rest is index count looks last ends looked none =
     let bounds = rest-bounds (IsOfSome Has) b w rest is in
     let before = before-rest (IsOfSome Has) b w rest index is count in
     let span = count-span (λ m. Recurs (IsOfSome Has) b m × (m <ℤ rest.first)) index (negsuc 365242498) rest.first (omega (arith, signed, rest.days.from))
-        (λ m h. (h.0.valid.0, h.1)) before in
+    (λ m h. (h.0.valid.0, h.1)) before in
     record {
       started = bounds.0;
       ended = bounds.1;

@@ -1,5 +1,5 @@
 -- Days that are passed and counted.
-use Rattle.std.proofs.Common.{◌≡◌, ℕ, ◌+◌, ◌<◌, ◌≤◌, ◌⊎◌, inl, inr, Option, Some, None, refl, sym, subst, arith, ℤ, pos, ◌+ℤ◌, ◌≤ℤ◌, ◌<ℤ◌}
+use Rattle.std.proofs.Common.{◌≡◌, ℕ, ◌+◌, ◌⊎◌, inl, inr, Option, Some, None, refl, sym, subst, arith, ℤ, pos, ◌+ℤ◌, ◌≤ℤ◌, ◌<ℤ◌}
 use Rattle.std.specs.Option.{ForSome}
 use Rattle.std.proofs.lemmas.Int.{by_lt_z}
 use Rattle.cal_days.proofs.Signed.{signed}
@@ -28,13 +28,13 @@ module _ (Is : ℤ → Type 0) (first : ℤ) where
       (found.kept, omega (arith, signed, low, found.within.0), omega (arith, signed))
       (λ m h. (h.0, h.1, omega (arith, signed, h.2, found.within.0)))
       split count where
-    split : (m : ℤ) → IsPassed Is first (day +ℤ pos 1) m → IsPassed Is first next m ⊎ (day ≡ m)
-    split m h =
-        by_lt_z {P = IsPassed Is first next m ⊎ (day ≡ m)} m next
-        (λ lt. inl (h.0, h.1, lt))
-        (λ ge. by_lt_z {P = IsPassed Is first next m ⊎ (day ≡ m)} m day
-        (λ lt. absurd (found.least m ge lt h.0))
-        (λ le. inr (omega (arith, signed, le, h.2))))
+        split : (m : ℤ) → IsPassed Is first (day +ℤ pos 1) m → IsPassed Is first next m ⊎ (day ≡ m)
+        split m h =
+            by_lt_z {P = IsPassed Is first next m ⊎ (day ≡ m)} m next
+            (λ lt. inl (h.0, h.1, lt))
+            (λ ge. by_lt_z {P = IsPassed Is first next m ⊎ (day ≡ m)} m day
+            (λ lt. absurd (found.least m ge lt h.0))
+            (λ le. inr (omega (arith, signed, le, h.2))))
 
   -- days that have none
   pub passed-further : (next day : ℤ) (index : ℕ) → next ≤ℤ day → ((m : ℤ) → next ≤ℤ m → m <ℤ day → ¬ (Is m)) → HasPassed Is first next index →

@@ -1,5 +1,5 @@
 -- Places among the days of a set.
-use Rattle.std.proofs.Common.{◌≡◌, ◌∙◌, ℕ, ◌+◌, ◌-◌, ◌*◌, ◌<◌, ◌≤◌, ◌&&◌, ◌||◌, ◌==◌, ◌⊎◌, inl, inr, Bool, true, false, cond, nat_eq, nat_le, nat_lt, List, length, refl, sym, ap, ap₂, subst, arith, ℤ, pos, ◌+ℤ◌, ◌≤ℤ◌, ◌<ℤ◌}
+use Rattle.std.proofs.Common.{◌≡◌, ◌∙◌, ℕ, ◌+◌, ◌-◌, ◌*◌, ◌<◌, ◌≤◌, ◌&&◌, ◌||◌, ◌==◌, ◌⊎◌, inl, inr, Bool, true, false, cond, nat_eq, nat_le, nat_lt, List, length, refl, sym, ap, ap₂, subst, arith, ℤ, pos, ◌+ℤ◌, ◌<ℤ◌}
 use Rattle.std.specs.Prelude.{IsTrue, ◌↔◌}
 use Rattle.std.proofs.lemmas.Bool.Decides.{nat_tests}
 use Rattle.cal_days.proofs.Signed.{signed, by_lt}
@@ -13,7 +13,7 @@ use Rattle.recurrence_sets.specs.PeriodBits.{has_day}
 use Rattle.recurrence_sets.specs.declared.period_days.PeriodDays.{PeriodDays}
 use Rattle.recurrence_sets.proofs.DayLemmas.{count-like, count-unique}
 use Rattle.recurrence_sets.proofs.NumberLemmas.{count-from, count-next, count-none, from_on, from_on-above}
-use Rattle.recurrence_sets.proofs.SetLemmas.{Offset, Passing, before-count, day-at, day-offset, offset-few, passing-count}
+use Rattle.recurrence_sets.proofs.SetLemmas.{Passing, before-count, day-at, day-offset, offset-few, passing-count}
 use Rattle.recurrence_sets.proofs.WordLemmas.{number-past}
 
 -- ---- tests
@@ -118,21 +118,21 @@ module _ (d : PeriodDays) (long : length d.words ≡ 7) (n : ℤ) (i : ℕ) (at 
   behind-count =
       count-like (Passing (from_on (has_number d.words) (i + 1)) d.first 448) (λ m. IsTrue (has_day d m) × (n <ℤ m))
       (count_below (from_on (has_number d.words) (i + 1)) 448) out into (passing-count (from_on (has_number d.words) (i + 1)) d.first 448) where
-    out : (m : ℤ) → Passing (from_on (has_number d.words) (i + 1)) d.first 448 m → IsTrue (has_day d m) × (n <ℤ m)
-    out m p =
-        let both = and-both (has_number d.words p.offset) (nat_le (i + 1) p.offset) p.has in
-        let late : i < p.offset = grind (arith, nat_tests, both.1) in
-        (ap (has_day d) p.is ∙ day-at d p.offset ∙ both.0, omega (arith, signed, at, p.is, late))
+        out : (m : ℤ) → Passing (from_on (has_number d.words) (i + 1)) d.first 448 m → IsTrue (has_day d m) × (n <ℤ m)
+        out m p =
+            let both = and-both (has_number d.words p.offset) (nat_le (i + 1) p.offset) p.has in
+            let late : i < p.offset = grind (arith, nat_tests, both.1) in
+            (ap (has_day d) p.is ∙ day-at d p.offset ∙ both.0, omega (arith, signed, at, p.is, late))
 
-    into : (m : ℤ) → IsTrue (has_day d m) × (n <ℤ m) → Passing (from_on (has_number d.words) (i + 1)) d.first 448 m
-    into m (has, late) =
-        let o = day-offset d m has in
-        record {
-          offset = o.offset;
-          below = offset-few d long o.offset o.has;
-          is = o.is;
-          has = from_on-above (has_number d.words) (i + 1) o.offset (omega (arith, signed, at, o.is, late)) ∙ o.has;
-        }
+        into : (m : ℤ) → IsTrue (has_day d m) × (n <ℤ m) → Passing (from_on (has_number d.words) (i + 1)) d.first 448 m
+        into m (has, late) =
+            let o = day-offset d m has in
+            record {
+              offset = o.offset;
+              below = offset-few d long o.offset o.has;
+              is = o.is;
+              has = from_on-above (has_number d.words) (i + 1) o.offset (omega (arith, signed, at, o.is, late)) ∙ o.has;
+            }
 
   few : i < 448
   few = offset-few d long i here
@@ -155,10 +155,10 @@ module _ (d : PeriodDays) (long : length d.words ≡ 7) (n : ℤ) (i : ℕ) (at 
         (place : Place) × IsTrue (has_place positions place) × HasPlaceAmong (λ m. IsTrue (has_day d m)) n place
     by_end (inl front) = (FromFront (count_below (has_number d.words) i + 1), front, (count_below (has_number d.words) i, refl, front-count))
     by_end (inr back) = (
-          FromBack (count_below (has_number d.words) 448 - count_below (has_number d.words) i),
-          back,
-          (count_below (from_on (has_number d.words) (i + 1)) 448, behind, behind-count),
-        )
+      FromBack (count_below (has_number d.words) 448 - count_below (has_number d.words) i),
+      back,
+      (count_below (from_on (has_number d.words) (i + 1)) 448, behind, behind-count),
+    )
 
   -- and no other place is it
   pub position-of : (positions : PlaceSet 7) (place : Place) → IsTrue (has_place positions place) → HasPlaceAmong (λ m. IsTrue (has_day d m)) n place →

@@ -1,5 +1,5 @@
 -- Days in a set of bits, by how far they are behind its first day.
-use Rattle.std.proofs.Common.{◌≡◌, ◌∙◌, ℕ, zero, suc, ◌+◌, ◌*◌, ◌<◌, ◌≤◌, ◌⊎◌, inl, inr, Bool, true, false, cond, Option, Some, None, length, refl, sym, ap, subst, arith, ℤ, pos, negsuc, ◌+ℤ◌, ◌-ℤ◌, ◌≤ℤ◌, ◌<ℤ◌}
+use Rattle.std.proofs.Common.{◌≡◌, ◌∙◌, ℕ, zero, suc, ◌+◌, ◌*◌, ◌<◌, ◌≤◌, ◌⊎◌, inl, inr, Bool, true, false, cond, length, refl, sym, ap, subst, arith, ℤ, pos, negsuc, ◌+ℤ◌, ◌-ℤ◌, ◌≤ℤ◌, ◌<ℤ◌}
 use Rattle.std.specs.Prelude.{IsTrue}
 use Rattle.cal_days.specs.Day.{IsBetween}
 use Rattle.cal_days.proofs.Signed.{signed, by_lt, by_bool}
@@ -103,20 +103,20 @@ passing-count f first (suc k) =
     let same : count_below f k ≡ count_below f (suc k) = sym (count-suc f k ∙ ap (λ (b : Bool). count_below f k + cond b 1 0) off ∙ omega arith) in
     subst (HasCount (Passing f first (suc k))) same
     (count-like (Passing f first k) (Passing f first (suc k)) (count_below f k) wider (kept off) before)) where
-  wider : (m : ℤ) → Passing f first k m → Passing f first (suc k) m
-  wider m p = record { offset = p.offset; below = omega (arith, p.below); is = p.is; has = p.has }
+      wider : (m : ℤ) → Passing f first k m → Passing f first (suc k) m
+      wider m p = record { offset = p.offset; below = omega (arith, p.below); is = p.is; has = p.has }
 
-  narrower : f k ≡ true → (m : ℤ) → Passing f first (suc k) m → Passing f first k m ⊎ (first +ℤ pos k ≡ m)
-  narrower on m p =
-      by_lt {P = Passing f first k m ⊎ (first +ℤ pos k ≡ m)} p.offset k
-      (λ lt. inl (record { offset = p.offset; below = lt; is = p.is; has = p.has }))
-      (λ ge. let same : p.offset ≡ k = omega (arith, p.below, ge) in inr (sym (p.is ∙ ap (λ (i : ℕ). first +ℤ pos i) same)))
+      narrower : f k ≡ true → (m : ℤ) → Passing f first (suc k) m → Passing f first k m ⊎ (first +ℤ pos k ≡ m)
+      narrower on m p =
+          by_lt {P = Passing f first k m ⊎ (first +ℤ pos k ≡ m)} p.offset k
+          (λ lt. inl (record { offset = p.offset; below = lt; is = p.is; has = p.has }))
+          (λ ge. let same : p.offset ≡ k = omega (arith, p.below, ge) in inr (sym (p.is ∙ ap (λ (i : ℕ). first +ℤ pos i) same)))
 
-  kept : f k ≡ false → (m : ℤ) → Passing f first (suc k) m → Passing f first k m
-  kept off m p =
-      by_lt {P = Passing f first k m} p.offset k
-      (λ lt. record { offset = p.offset; below = lt; is = p.is; has = p.has })
-      (λ ge. let same : p.offset ≡ k = omega (arith, p.below, ge) in false-true (sym off ∙ ap f (sym same) ∙ p.has))
+      kept : f k ≡ false → (m : ℤ) → Passing f first (suc k) m → Passing f first k m
+      kept off m p =
+          by_lt {P = Passing f first k m} p.offset k
+          (λ lt. record { offset = p.offset; below = lt; is = p.is; has = p.has })
+          (λ ge. let same : p.offset ≡ k = omega (arith, p.below, ge) in false-true (sym off ∙ ap f (sym same) ∙ p.has))
 
 -- the days of a set before another
 pub before-count : (d : PeriodDays) → length d.words ≡ 7 → (day : ℤ) (to : ℕ) →
@@ -125,16 +125,16 @@ pub before-count : (d : PeriodDays) → length d.words ≡ 7 → (day : ℤ) (to
 before-count d long day to before after =
     count-like (Passing (has_number d.words) d.first to) (λ n. IsTrue (has_day d n) × (n <ℤ day)) (count_below (has_number d.words) to) out into
     (passing-count (has_number d.words) d.first to) where
-  out : (n : ℤ) → Passing (has_number d.words) d.first to n → IsTrue (has_day d n) × (n <ℤ day)
-  out n p = (ap (has_day d) p.is ∙ day-at d p.offset ∙ p.has, omega (arith, signed, p.is, before p.offset p.below))
+      out : (n : ℤ) → Passing (has_number d.words) d.first to n → IsTrue (has_day d n) × (n <ℤ day)
+      out n p = (ap (has_day d) p.is ∙ day-at d p.offset ∙ p.has, omega (arith, signed, p.is, before p.offset p.below))
 
-  into : (n : ℤ) → IsTrue (has_day d n) × (n <ℤ day) → Passing (has_number d.words) d.first to n
-  into n (has, low) =
-      let o = day-offset d n has in
-      record {
-        offset = o.offset;
-        below = by_lt {P = o.offset < to} o.offset to (λ lt. lt)
-            (λ ge. let late = after o.offset (offset-few d long o.offset o.has) ge in absurd (omega (arith, signed, late, low, o.is)));
-        is = o.is;
-        has = o.has;
-      }
+      into : (n : ℤ) → IsTrue (has_day d n) × (n <ℤ day) → Passing (has_number d.words) d.first to n
+      into n (has, low) =
+          let o = day-offset d n has in
+          record {
+            offset = o.offset;
+            below = by_lt {P = o.offset < to} o.offset to (λ lt. lt)
+                (λ ge. let late = after o.offset (offset-few d long o.offset o.has) ge in absurd (omega (arith, signed, late, low, o.is)));
+            is = o.is;
+            has = o.has;
+          }

@@ -1,16 +1,15 @@
 -- The first bit of a word from a place on, and how many bits it has below a place; the same of words in a row.
-use Rattle.std.proofs.Common.{◌≡◌, ◌∙◌, ℕ, zero, suc, ◌+◌, ◌-◌, ◌*◌, ◌/◌, ◌%◌, ◌^◌, ◌<◌, ◌≤◌, ◌==◌, ◌⊎◌, inl, inr, Bool, true, false, cond, nat_eq, List, length, get_or, min, refl, sym, ap, arith, w64}
+use Rattle.std.proofs.Common.{◌≡◌, ◌∙◌, ℕ, zero, suc, ◌+◌, ◌-◌, ◌*◌, ◌/◌, ◌%◌, ◌^◌, ◌<◌, ◌≤◌, ◌==◌, ◌⊎◌, inl, inr, Bool, false, cond, List, length, get_or, min, sym, ap, arith, w64}
 use Rattle.std.specs.Int.{bit_at, trailing_zeros}
 use Rattle.std.specs.Int.RustNames.{bit_and, count_ones}
 use Rattle.std.proofs.lemmas.Bool.{cases_lt}
-use Rattle.std.proofs.lemmas.Bool.Decides.{nat_tests}
 use Rattle.std.proofs.lemmas.List.{get_or_past}
 use Rattle.std.proofs.lemmas.Nat.{mod-pow-add, ones_cat, ones_le_self, zero_from_ones, and_le_l, and_mask, pow_pos, mod_below}
 use Rattle.std.proofs.lemmas.Nat.Bits.{bit_at-lt, bit_at-trailing_zeros, bit_at-zero, bit_at_and, bit_at_mask_below, bit_at_mask_inside, ones_shl, ones_shr}
 use Rattle.cal_days.proofs.Signed.{by_lt}
 use Rattle.cal_rule.specs.Sets.{has_bit, has_number}
 use Rattle.recurrence_sets.specs.Numbers.{IsFirstPassing, count_below}
-use Rattle.recurrence_sets.proofs.NumberLemmas.{count-none, count-same, count-split, count-suc, count-zero}
+use Rattle.recurrence_sets.proofs.NumberLemmas.{count-same, count-split, count-suc, count-zero}
 
 -- ---- how many bits
 
@@ -79,9 +78,9 @@ module _ (word from : ℕ) (most : from ≤ 64) where
         least = λ i from' before.
             ap (λ b. b == 1) (sym (masked-high i from' (omega (arith, low, before))) ∙ ap (λ w. bit_at w i) (sym same) ∙ found.2 i before);
       } where
-    by_order : (n : ℕ) → bit_at (bit_and word (2 ^ 64 - 2 ^ from)) n ≡ 1 → (n < from) ⊎ (from ≤ n) → from ≤ n
-    by_order n at (inl low) = absurd (omega (arith, masked-low n low, at))
-    by_order n at (inr high) = high
+        by_order : (n : ℕ) → bit_at (bit_and word (2 ^ 64 - 2 ^ from)) n ≡ 1 → (n < from) ⊎ (from ≤ n) → from ≤ n
+        by_order n at (inl low) = absurd (omega (arith, masked-low n low, at))
+        by_order n at (inr high) = high
 
 -- ---- words in a row
 

@@ -1,5 +1,5 @@
 -- Days that are passed and counted.
-use Rattle.std.specs.Prelude.{◌≡◌, ℕ, IsTrue, Option, ℤ, pos, ◌+ℤ◌, ◌≤ℤ◌, ◌<ℤ◌}
+use Rattle.std.specs.Prelude.{ℕ, IsTrue, Option, ℤ, pos, ◌+ℤ◌, ◌≤ℤ◌, ◌<ℤ◌}
 use Rattle.recurrence_sets.specs.Bounds.{has_all}
 use Rattle.recurrence_sets.specs.Days.{HasCount}
 use Rattle.recurrence_sets.specs.Listing.{AreLooks, ArePassed}

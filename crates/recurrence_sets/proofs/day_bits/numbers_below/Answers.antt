@@ -1,4 +1,4 @@
-use Rattle.std.proofs.Common.{◌≡◌, ◌-◌, ◌*◌, min, ap, sym, ◌∙◌, arith, length}
+use Rattle.std.proofs.Common.{◌≡◌, ◌-◌, ◌*◌, min, ap, sym, ◌∙◌, arith}
 use Rattle.cal_rule.specs.Sets.{has_number}
 use Rattle.recurrence_sets.specs.Numbers.{count_below}
 use Rattle.recurrence_sets.proofs.NumberLemmas.{count-zero}

@@ -1,4 +1,4 @@
-use Rattle.std.proofs.Common.{◌≡◌, ℕ, ◌*◌, ◌<◌, ◌≤◌, min}
+use Rattle.std.proofs.Common.{◌≡◌, ◌*◌, ◌≤◌, min}
 use Rattle.cal_rule.specs.Sets.{has_number}
 use Rattle.recurrence_sets.specs.Numbers.{count_below}
 use Rattle.recurrence_sets.proofs.day_bits.numbers_below.Given as goal

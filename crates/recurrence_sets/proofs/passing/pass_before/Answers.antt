@@ -1,4 +1,5 @@
 use Rattle.std.proofs.Common.{refl, sym, subst, ℤ}
+use Rattle.recurrence_sets.specs.Bounds.{has_all}
 use Rattle.recurrence_sets.specs.Occurrences.{IsOfSome}
 use Rattle.recurrence_sets.specs.Passing.{HasPassed}
 use Rattle.recurrence_sets.proofs.PassingLemmas.{pass-first}
@@ -20,5 +21,5 @@ returns-then-has_all g c =
       index = p.index;
       order = c.days.invariant.most;
       counted = subst (λ (n : ℤ). HasPassed Is n p.next p.index) c.days.invariant.first c.days.invariant.passed.counted;
-      full = sym c.if-has_all.ensures;
+      full = sym {b = has_all c.args.bounds.now.count p.index} c.if-has_all.ensures;
     }

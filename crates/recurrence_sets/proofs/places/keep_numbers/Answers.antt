@@ -1,4 +1,4 @@
-use Rattle.std.proofs.Common.{◌≡◌, ℕ, ◌||◌, ◌&&◌, ◌==◌, Bool, sym, ap, ◌∙◌, arith}
+use Rattle.std.proofs.Common.{◌≡◌, ◌||◌, ◌&&◌, ◌==◌, Bool, sym, ap, ◌∙◌, arith}
 use Rattle.cal_rule.specs.Sets.{has_number}
 use Rattle.recurrence_sets.specs.Numbers.{has_position}
 use Rattle.recurrence_sets.proofs.NumberLemmas.{count-few, count-rises, count-zero}
@@ -36,7 +36,7 @@ numbers-preserved c =
     let first = c.in-Some.ensures in
     let count = count-here f c.numbers.from n c.numbers.before first.reached first.passes first.least c.numbers.invariant.counted in
     let position : c.is_position.result ≡ has_position positions f 448 n =
-        c.is_position.ensures ∙ position-is positions f n c.numbers.before c.numbers_below-total.result count.0 c.numbers.invariant.total in
+    c.is_position.ensures ∙ position-is positions f n c.numbers.before c.numbers_below-total.result count.0 c.numbers.invariant.total in
     record {
       kept = kept-next f (has_position positions f 448) (has_number c.numbers.kept) (has_number c.add_if.new.words) c.numbers.from n first.reached first.passes first.least
           c.numbers.invariant.kept (λ i. c.add_if.ensures i ∙ ap (λ (b : Bool). (i == n && b) || has_number c.numbers.kept i) position);

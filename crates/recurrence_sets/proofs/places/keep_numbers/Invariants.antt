@@ -1,4 +1,4 @@
-use Rattle.std.proofs.Common.{◌≡◌, ℕ, ◌-◌, ◌<◌, ◌≤◌, ◌&&◌, nat_lt, length}
+use Rattle.std.proofs.Common.{◌≡◌, ℕ, ◌-◌, ◌≤◌, ◌&&◌, nat_lt}
 use Rattle.cal_rule.specs.Sets.{has_number}
 use Rattle.recurrence_sets.specs.Numbers.{count_below, has_position}
 use Rattle.recurrence_sets.proofs.places.keep_numbers.Given as goal

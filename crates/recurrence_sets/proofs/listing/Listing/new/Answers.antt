@@ -1,9 +1,8 @@
-use Rattle.std.proofs.Common.{Option, sym, subst, List}
+use Rattle.std.proofs.Common.{Option, sym, subst}
 use Rattle.std.specs.Prelude.{◌↔◌}
 use Rattle.cal_types.specs.declared.window.Window.{Window}
 use Rattle.recurrence_sets.specs.Listing.{IsListing}
 use Rattle.recurrence_sets.specs.Occurrences.{AreLeft, AreOccurrences, IsOfSome}
-use Rattle.recurrence_sets.specs.declared.occurrence.Occurrence.{Occurrence}
 use Rattle.recurrence_sets.proofs.ListingLemmas.{for-some, items-full, items-none, items-within, new-state, none-bounded}
 use Rattle.recurrence_sets.proofs.listing.Listing.new.Goals as goal
 

@@ -1,4 +1,4 @@
-use Rattle.std.proofs.Common.{Option, sym, subst, List}
+use Rattle.std.proofs.Common.{Option, sym, subst}
 use Rattle.std.specs.Prelude.{◌↔◌}
 use Rattle.cal_types.specs.declared.window.Window.{Window}
 use Rattle.recurrence_sets.specs.Listing.{IsListing}

@@ -1,4 +1,4 @@
-use Rattle.std.proofs.Common.{◌≡◌, ℕ, ◌<◌, Option, refl, sym, ap, subst, subst₂, arith, ℤ}
+use Rattle.std.proofs.Common.{◌<◌, Option, refl, sym, subst, subst₂, arith, ℤ}
 use Rattle.cal_days.proofs.Signed.{signed}
 use Rattle.cal_types.specs.declared.window.Window.{Window}
 use Rattle.recurrence_sets.specs.Days.{IsFirstBetween}
@@ -45,7 +45,7 @@ returns-in-None-clause-steps g c =
     let w = c.in_ok-window.window in
     let state = self.listing w c.in_ok-window.was in
     let none = subst (IsFirstBetween Is w.first w.last) c.in-None.is
-        (subst₂ (λ (a z : ℤ). IsFirstBetween Is a z c.next_day-looks.result.1) c.ends-first.ensures.first c.ends-first.ensures.last c.next_day-looks.ensures.day) in
+    (subst₂ (λ (a z : ℤ). IsFirstBetween Is a z c.next_day-looks.result.1) c.ends-first.ensures.first c.ends-first.ensures.last c.next_day-looks.ensures.day) in
     (goes-ended Is self.bounds w (none-left Is self.bounds w self.index state.started state.ended state.counted none) self.rest c.in_ok-window.was, refl, refl)
 
 pub invariant_of-self-in-Some : goal.invariant_of-self-in-Some
@@ -56,7 +56,7 @@ invariant_of-self-in-Some g c =
     let state = self.listing w c.in_ok-window.was in
     let look = c.next_day-looks in
     let first = subst (IsFirstBetween (IsOfSome Has) w.first w.last) c.in-Some.is
-        (subst₂ (λ (a z : ℤ). IsFirstBetween (IsOfSome Has) a z look.result.1) c.ends-first.ensures.first c.ends-first.ensures.last look.ensures.day) in
+    (subst₂ (λ (a z : ℤ). IsFirstBetween (IsOfSome Has) a z look.result.1) c.ends-first.ensures.first c.ends-first.ensures.last look.ensures.day) in
     record {
       listing = next-state Has self.bounds w self.index self.looks state c.in-Some.day first look.result.0
           (subst (λ (n : ℤ). AreLooks Has n look.result.0) c.ends-first.ensures.last look.ensures.looks)
@@ -73,7 +73,7 @@ returns-in-Some-clause-steps g c =
     let look = c.next_day-looks in
     let day = c.in-Some.day in
     let first = subst (IsFirstBetween Is w.first w.last) c.in-Some.is
-        (subst₂ (λ (a z : ℤ). IsFirstBetween Is a z look.result.1) c.ends-first.ensures.first c.ends-first.ensures.last look.ensures.day) in
+    (subst₂ (λ (a z : ℤ). IsFirstBetween Is a z look.result.1) c.ends-first.ensures.first c.ends-first.ensures.last look.ensures.day) in
     let few = sym c.if-has_all.ensures in (
       goes-some Is self.bounds w (record { index = self.index; day = day }) (first-left Is self.bounds w self.index state.started state.ended state.counted day first few)
           c.after-self.result c.after-self.ensures
@@ -90,7 +90,7 @@ returns-in-Some-clause-goes g c =
     let w = c.in_ok-window.window in
     let look = c.next_day-looks in
     let first = subst (IsFirstBetween Is w.first w.last) c.in-Some.is
-        (subst₂ (λ (a z : ℤ). IsFirstBetween Is a z look.result.1) c.ends-first.ensures.first c.ends-first.ensures.last look.ensures.day) in
+    (subst₂ (λ (a z : ℤ). IsFirstBetween Is a z look.result.1) c.ends-first.ensures.first c.ends-first.ensures.last look.ensures.day) in
     progress (λ x. x.rest) _ _ (record { index = self.index; day = c.in-Some.day })
     (subst (λ (o : Option Window). days_left c.after-self.result < days_left o) (sym c.in_ok-window.was)
     (fewer-left w c.in-Some.day first.within c.after-self.result c.after-self.ensures))

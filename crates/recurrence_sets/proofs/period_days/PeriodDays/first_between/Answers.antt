@@ -1,9 +1,9 @@
-use Rattle.std.proofs.Common.{◌≡◌, ◌<◌, ◌+◌, length, sym, subst, rules, arith, ℤ, pos, ◌+ℤ◌}
-use Rattle.std.specs.Prelude.{IsTrue, ◌<ℤ◌}
+use Rattle.std.proofs.Common.{◌≡◌, ◌<◌, length, sym, subst, rules, arith}
+use Rattle.std.specs.Prelude.{IsTrue}
 use Rattle.recurrence_sets.specs.Days.{IsFirstBetween}
 use Rattle.recurrence_sets.specs.PeriodBits.{has_day}
 use Rattle.recurrence_sets.proofs.SetLemmas.{between-first, between-none, between-past}
-use Rattle.cal_days.proofs.Signed.{signed, signed_casts}
+use Rattle.cal_days.proofs.Signed.{signed}
 use Rattle.recurrence_sets.proofs.period_days.PeriodDays.first_between.Goals as goal
 
 pub returns-in_err-offset : goal.returns-in_err-offset
