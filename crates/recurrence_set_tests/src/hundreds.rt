@@ -1,0 +1,54 @@
+//! Periods that begin 100 days apart.
+
+ghost use Rattle.std.specs.Prelude.{◌↔◌, IsTrue, ℤ};
+ghost use Rattle.cal_days.specs.Day.{IsValidDay};
+ghost use Rattle.recurrence_sets.specs.PeriodBits.{has_day};
+ghost use Rattle.recurrence_set_tests.specs.Hundreds.{IsOneOfThree};
+
+use cal_days::RataDie;
+use recurrence_sets::{PeriodDays, Periods};
+
+/// Periods that begin 100 days apart. Each gives its first day, and the days that are 100 and 150 days behind it: so a
+/// period's second day is the next one's first, and its third is behind that.
+#[derive(Clone, Copy, Drop)]
+pub struct Hundreds {
+    start: i64,
+    ghost valid: { IsValidDay start },
+}
+
+impl Hundreds {
+    /// Creates the periods from a first day on.
+    pub fn new(start: i64) -> Hundreds
+        requires { IsValidDay start }
+    {
+        Hundreds { start }
+    }
+}
+
+impl Periods for Hundreds {
+    ghost use Rattle.recurrence_set_tests.specs.Hundreds.{Gives, gives-apart};
+
+    ghost has = { λ s. Gives s.start };
+
+    ghost apart = { λ s. gives-apart s.start };
+
+    fn days(&self, period: u32, last: RataDie) -> Option<PeriodDays> {
+        let first = self.start + 100 * i64::from(period);
+        if first > last.to_i64_date() {
+            return None;
+        }
+        Some(three_days(first))
+    }
+}
+
+/// Returns the days 0, 100 and 150 days behind one.
+fn three_days(first: i64) -> PeriodDays
+    requires { IsValidDay first }
+    ensures { (n : ℤ) → IsTrue (has_day result n) ↔ IsOneOfThree first n }
+{
+    let mut days = PeriodDays::new(RataDie::new(first));
+    days.insert_run(RataDie::new(first), RataDie::new(first + 1));
+    days.insert_run(RataDie::new(first + 100), RataDie::new(first + 101));
+    days.insert_run(RataDie::new(first + 150), RataDie::new(first + 151));
+    days
+}
