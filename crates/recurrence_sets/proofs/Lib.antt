@@ -1,9 +1,9 @@
-mod DayBitLemmas
-mod DayLemmas
-mod ListingLemmas
-mod LookLemmas
-mod NumberLemmas
-mod PassingLemmas
-mod PlaceLemmas
-mod SetLemmas
-mod WordLemmas
+pub mod DayBitLemmas
+pub mod DayLemmas
+pub mod ListingLemmas
+pub mod LookLemmas
+pub mod NumberLemmas
+pub mod PassingLemmas
+pub mod PlaceLemmas
+pub mod SetLemmas
+pub mod WordLemmas

@@ -403,3 +403,8 @@ resumed-state Has b w rest is index count looks last ends looked none =
       looked = subst (λ (n : ℤ). AreLooks Has n looks) ends looked;
       passed = λ i lt. absurd (omega (arith, lt, none));
     }
+
+-- for callers: where a call gives nothing, no occurrence was left
+pub goes-end : (Is : ℤ → Type 0) (b : Bounds) (rest left : Option Window) → GoesOn Is b rest None left → AreLeft Is b rest []
+goes-end Is b None left goes = refl
+goes-end Is b (Some w) left goes = goes.whole [] (subst (λ (o : Option Window). AreLeft Is b o []) (sym goes.next.1) refl)
