@@ -6,7 +6,7 @@ use Rattle.cal_days.proofs.Signed.{signed}
 use Rattle.recurrence_sets.specs.PeriodBits.{has_day}
 use Rattle.recurrence_sets.specs.declared.period_days.PeriodDays.{PeriodDays}
 use Rattle.recurrence_sets.proofs.SetLemmas.{day-offset, offset-few}
-use Rattle.recurrence_set_tests.specs.Hundreds.{IsOneOfThree}
+use Rattle.recurrence_set_tests.specs.Hundreds.{IsOneOfThree, is_day}
 
 or-cases : (a b : Bool) → (a || b) ≡ true → (a ≡ true) ⊎ (b ≡ true)
 or-cases true b e = inl refl
@@ -19,10 +19,6 @@ or-first false b e = cc
 or-second : (a b : Bool) → b ≡ true → (a || b) ≡ true
 or-second true b e = refl
 or-second false b e = e
-
--- whether a day is one day
-abbrev pub is_day : ℤ → ℤ → Bool
-is_day day n = int_le day n && int_lt n (day +ℤ pos 1)
 
 day-is : (day n : ℤ) → is_day day n ≡ true → n ≡ day
 day-is day n e = grind (arith, ints)

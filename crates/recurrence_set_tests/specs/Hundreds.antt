@@ -1,5 +1,5 @@
 -- Periods that begin 100 days apart.
-use Rattle.std.specs.Prelude.{◌≡◌, ℕ, ◌+◌, ◌*◌, ◌≤◌, ◌⊎◌, ℤ, pos, ◌+ℤ◌, ◌≤ℤ◌, ◌<ℤ◌}
+use Rattle.std.specs.Prelude.{◌≡◌, ℕ, ◌+◌, ◌*◌, ◌≤◌, ◌⊎◌, ◌&&◌, Bool, int_le, int_lt, ℤ, pos, ◌+ℤ◌, ◌≤ℤ◌, ◌<ℤ◌}
 use Rattle.std.proofs.Common.{inl, inr, arith}
 use Rattle.cal_days.specs.Day.{IsValidDay}
 use Rattle.cal_days.proofs.Signed.{signed}
@@ -7,6 +7,10 @@ use Rattle.cal_days.proofs.Signed.{signed}
 -- a day is 0, 100 or 150 days behind another
 abbrev pub IsOneOfThree : ℤ → ℤ → Type 0
 IsOneOfThree first n = (n ≡ first) ⊎ ((n ≡ first +ℤ pos 100) ⊎ (n ≡ first +ℤ pos 150))
+
+-- whether a day is one day
+abbrev pub is_day : ℤ → ℤ → Bool
+is_day day n = int_le day n && int_lt n (day +ℤ pos 1)
 
 -- what a period gives
 abbrev pub Gives : ℤ → ℕ → ℤ → Type 0

@@ -1,9 +1,9 @@
 //! Periods that begin 100 days apart.
 
-ghost use Rattle.std.specs.Prelude.{◌↔◌, IsTrue, ℤ};
-ghost use Rattle.cal_days.specs.Day.{IsValidDay};
+ghost use Rattle.std.specs.Prelude.{◌≡◌, ◌↔◌, ◌||◌, IsTrue, ℤ, pos, ◌+ℤ◌, ◌≤ℤ◌, ◌<ℤ◌};
+ghost use Rattle.cal_days.specs.Day.{IsNear, IsValidDay};
 ghost use Rattle.recurrence_sets.specs.PeriodBits.{has_day};
-ghost use Rattle.recurrence_set_tests.specs.Hundreds.{IsOneOfThree};
+ghost use Rattle.recurrence_set_tests.specs.Hundreds.{IsOneOfThree, is_day};
 
 use cal_days::RataDie;
 use recurrence_sets::{PeriodDays, Periods};
@@ -47,8 +47,20 @@ fn three_days(first: i64) -> PeriodDays
     ensures { (n : ℤ) → IsTrue (has_day result n) ↔ IsOneOfThree first n }
 {
     let mut days = PeriodDays::new(RataDie::new(first));
-    days.insert_run(RataDie::new(first), RataDie::new(first + 1));
-    days.insert_run(RataDie::new(first + 100), RataDie::new(first + 101));
-    days.insert_run(RataDie::new(first + 150), RataDie::new(first + 151));
+    insert_day(&mut days, first);
+    insert_day(&mut days, first + 100);
+    insert_day(&mut days, first + 150);
     days
+}
+
+/// Adds a day.
+fn insert_day(days: &mut PeriodDays, day: i64)
+    requires range { IsNear day }
+    requires first { days.old.first ≤ℤ day }
+    requires last { day <ℤ (days.old.first +ℤ pos 448) }
+    ensures first { days.new.first ≡ days.old.first }
+    ensures days { (n : ℤ) → n <ℤ (days.old.first +ℤ pos 448) →
+        has_day days.new n ≡ (is_day day n || has_day days.old n) }
+{
+    days.insert_run(RataDie::new(day), RataDie::new(day + 1));
 }
