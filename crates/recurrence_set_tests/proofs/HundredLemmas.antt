@@ -26,13 +26,17 @@ day-is day n e = grind (arith, ints)
 is-day : (day : ℤ) → is_day day day ≡ true
 is-day day = grind (arith, ints)
 
-pub three-days : (first : ℤ) (d : PeriodDays) → length d.words ≡ 7 → d.first ≡ first →
+-- the days of a set are among 448
+pub within-row : (d : PeriodDays) → length d.words ≡ 7 → (n : ℤ) → IsTrue (has_day d n) → n <ℤ (d.first +ℤ pos 448)
+within-row d long n has = let o = day-offset d n has in omega (arith, signed, o.is, offset-few d long o.offset o.has)
+
+pub three-days : (first : ℤ) (d : PeriodDays) → ((n : ℤ) → IsTrue (has_day d n) → n <ℤ (d.first +ℤ pos 448)) → d.first ≡ first →
     ((n : ℤ) → n <ℤ (first +ℤ pos 448) →
     has_day d n ≡ (is_day (first +ℤ pos 150) n || (is_day (first +ℤ pos 100) n || (is_day first n || false)))) →
     (n : ℤ) → IsTrue (has_day d n) ↔ IsOneOfThree first n
-three-days first d long is days n = (out, into) where
+three-days first d few is days n = (out, into) where
   near : IsTrue (has_day d n) → n <ℤ (first +ℤ pos 448)
-  near has = let o = day-offset d n has in omega (arith, signed, o.is, is, offset-few d long o.offset o.has)
+  near has = omega (arith, signed, few n has, is)
 
   by_first : (is_day first n ≡ true) ⊎ (false ≡ true) → IsOneOfThree first n
   by_first (inl e) = inl (day-is first n e)

@@ -50,7 +50,14 @@ fn three_days(first: i64) -> PeriodDays
     insert_day(&mut days, first);
     insert_day(&mut days, first + 100);
     insert_day(&mut days, first + 150);
+    are_within(&days);
     days
+}
+
+/// The days of a set are among 448 days in a row.
+fn are_within(days: &PeriodDays)
+    ensures { (n : ℤ) → IsTrue (has_day days.now n) → n <ℤ (days.now.first +ℤ pos 448) }
+{
 }
 
 /// Adds a day.

@@ -7,15 +7,15 @@ ghost use Rattle.recurrence_sets.specs.Periods.{HaveEnded, Holds};
 use crate::period_days::PeriodDays;
 use cal_days::RataDie;
 
-/// The periods of a recurrence set, numbered from 0 on, and the days that each gives.
+/// The periods of a recurrence set, numbered from 0 on, with their days.
 ///
-/// Periods next to each other may give the same day, or days out of order. Periods further apart never do.
+/// Periods next to each other may have a day in common, or days out of order. Periods further apart never do.
 pub trait Periods: Drop {
-    /// The days that a period gives.
+    /// The days of a period.
     ghost has: { Self → ℕ → ℤ → Type 0 };
 
-    /// Returns the valid days that a period gives, or `None` if no period from this one on gives a valid day up to a
-    /// last one. Days of the set that aren't valid don't matter.
+    /// Returns the days of a period, or `None` if no period from this one on has a valid day up to a last one. Days of
+    /// the set that aren't valid don't matter.
     fn days(&self, period: u32, last: RataDie) -> Option<PeriodDays>
         requires { IsValidDay last }
         ensures days { MatchOption result (HaveEnded (has self.now) period last) (Holds (has self.now period)) }
