@@ -6,6 +6,7 @@ ghost use Rattle.recurrence_sets.specs.PeriodBits.{has_day};
 ghost use Rattle.recurrence_set_tests.specs.Hundreds.{IsOneOfThree, is_day};
 
 use cal_days::RataDie;
+use cal_rule::bits::number_in;
 use recurrence_sets::{PeriodDays, Periods};
 
 /// Periods that begin 100 days apart. Each gives its first day, and the days that are 100 and 150 days behind it: so a
@@ -54,10 +55,11 @@ fn three_days(first: i64) -> PeriodDays
     days
 }
 
-/// The days of a set are among 448 days in a row.
+/// Shows that the days of a set are among 448 days in a row.
 fn are_within(days: &PeriodDays)
     ensures { (n : ℤ) → IsTrue (has_day days.now n) → n <ℤ (days.now.first +ℤ pos 448) }
 {
+    let _first = number_in(&days.words, 0);
 }
 
 /// Adds a day.

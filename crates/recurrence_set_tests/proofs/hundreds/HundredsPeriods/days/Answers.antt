@@ -1,4 +1,5 @@
-use Rattle.std.proofs.Common.{subst, ℤ}
+use Rattle.std.proofs.Common.{subst, arith, ℤ}
+use Rattle.cal_days.proofs.Signed.{signed}
 use Rattle.std.specs.Prelude.{IsTrue, ◌↔◌}
 use Rattle.recurrence_sets.specs.PeriodBits.{has_day}
 use Rattle.recurrence_set_tests.specs.Hundreds.{IsOneOfThree}
@@ -6,4 +7,4 @@ use Rattle.recurrence_set_tests.proofs.hundreds.HundredsPeriods.days.Goals as go
 
 pub returns-clause-days : goal.returns-clause-days
 returns-clause-days c n valid =
-    subst (λ (f : ℤ). IsTrue (has_day c.three_days.result n) ↔ IsOneOfThree f n) ? (c.three_days.ensures n)
+    subst (λ (f : ℤ). IsTrue (has_day c.three_days.result n) ↔ IsOneOfThree f n) (omega (arith, signed, c.from.ensures, c.args.self.now.valid, c.ranges.period.fits)) (c.three_days.ensures n)
