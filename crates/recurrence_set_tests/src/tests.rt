@@ -45,8 +45,14 @@ fn bounds_of(rt: &impl Abort, start: i64, until: i64, count: u32) -> Bounds {
 }
 
 /// Asserts that the periods from day 1000 on have exactly these items within bounds and in a window.
-fn assert_listed(rt: &impl Abort, bounds: Bounds, ends: (i64, i64), expected: &[(u32, i64)]) {
+fn assert_listed(
+    rt: &impl Abort,
+    bounds: (i64, i64, u32),
+    ends: (i64, i64),
+    expected: &[(u32, i64)],
+) {
     let window = window_of(rt, ends.0, ends.1);
+    let bounds = bounds_of(rt, bounds.0, bounds.1, bounds.2);
     let mut items = Listing::new(Hundreds::new(1000), bounds, window);
     for (index, day) in expected {
         assert_same(rt, parts(items.next()), Some((*index, *day)));
@@ -57,7 +63,7 @@ fn assert_listed(rt: &impl Abort, bounds: Bounds, ends: (i64, i64), expected: &[
 
 #[test]
 fn days_of_periods_in_order_and_each_once(rt: HostRuntime) {
-    let all = bounds_of(&rt, 1000, 0, 0);
+    let all = (1000, 0, 0);
     let first = [
         (0, 1000),
         (1, 1100),
@@ -74,14 +80,14 @@ fn days_of_periods_in_order_and_each_once(rt: HostRuntime) {
 
 #[test]
 fn bounds_of_a_set(rt: HostRuntime) {
-    let late = bounds_of(&rt, 1101, 0, 0);
-    assert_listed(&rt, late, (900, 1250), &[(0, 1150), (1, 1200), (2, 1250)]);
-    let until = bounds_of(&rt, 1000, 1150, 0);
-    assert_listed(&rt, until, (1050, 2000), &[(1, 1100), (2, 1150)]);
-    let four = bounds_of(&rt, 1000, 0, 4);
-    assert_listed(&rt, four, (1150, 2000), &[(2, 1150), (3, 1200)]);
-    assert_listed(&rt, four, (1201, 2000), &[]);
-    assert_listed(&rt, bounds_of(&rt, 1301, 1300, 0), (900, 2000), &[]);
+    let late = [(0, 1150), (1, 1200), (2, 1250)];
+    assert_listed(&rt, (1101, 0, 0), (900, 1250), &late);
+    let until = [(1, 1100), (2, 1150)];
+    assert_listed(&rt, (1000, 1150, 0), (1050, 2000), &until);
+    let fourth = [(2, 1150), (3, 1200)];
+    assert_listed(&rt, (1000, 0, 4), (1150, 2000), &fourth);
+    assert_listed(&rt, (1000, 0, 4), (1201, 2000), &[]);
+    assert_listed(&rt, (1301, 1300, 0), (900, 2000), &[]);
 }
 
 #[test]
