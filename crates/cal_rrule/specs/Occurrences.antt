@@ -33,4 +33,5 @@ Occurs c rule t index n = sets.Occurs (IsOfSome (IsKept c rule t)) (bounds_of c 
 
 -- some occurrences are those of a rule from one day to another, in order and each once
 abbrev pub AreOccurrences : CalendarList → RecurrenceRule → Date → ℤ → ℤ → List Occurrence → Type 0
-AreOccurrences c rule t first last xs = sets.AreOccurrences (IsOfSome (IsKept c rule t)) (bounds_of c rule t) first last xs
+AreOccurrences c rule t first last xs =
+    sets.AreOccurrences (IsOfSome (IsKept c rule t)) (bounds_of c rule t) first last xs

@@ -26,5 +26,9 @@ most first n (inl e) = omega (arith, signed, e)
 most first n (inr (inl e)) = omega (arith, signed, e)
 most first n (inr (inr e)) = omega (arith, signed, e)
 
-pub gives-apart : (start : ℤ) (i j : ℕ) (m n : ℤ) → i + 2 ≤ j → IsValidDay m → IsValidDay n → Gives start i m → Gives start j n → m <ℤ n
-gives-apart start i j m n far _ _ a b = omega (arith, signed, far, most (start +ℤ pos (100 * i)) m a, least (start +ℤ pos (100 * j)) n b)
+pub gives-apart : (start : ℤ) (i j : ℕ) (m n : ℤ) → i + 2 ≤ j → IsValidDay m → IsValidDay n →
+    Gives start i m → Gives start j n → m <ℤ n
+gives-apart start i j m n far _ _ a b =
+    let high = most (start +ℤ pos (100 * i)) m a in
+    let low = least (start +ℤ pos (100 * j)) n b in
+    omega (arith, signed, far, high, low)
