@@ -1,2 +1,1 @@
-mod DayBitLemmas
 mod NamedDayLemmas

@@ -1,5 +1,5 @@
 -- Days that places name in a stretch.
-use Rattle.std.proofs.Common.{◌≡◌, ◌∙◌, ℕ, ◌<◌, ◌≤◌, Some, ℤ, pos, ◌+ℤ◌, ◌-ℤ◌, sym, arith}
+use Rattle.std.proofs.Common.{◌≡◌, ◌∙◌, ℕ, ◌≤◌, Some, ℤ, pos, ◌+ℤ◌, ◌-ℤ◌, sym, arith}
 use mathlib.Core.Logic.{inl, inr}
 use Rattle.cal_rule.specs.declared.place_set.Place.TheVariants.{FromFront, FromBack}
 use Rattle.cal_rule.specs.declared.skip.Skip.{Skip}

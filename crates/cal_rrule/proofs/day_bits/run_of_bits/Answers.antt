@@ -1,5 +1,0 @@
-use Rattle.cal_rrule.proofs.DayBitLemmas.{run-shifted}
-use Rattle.cal_rrule.proofs.day_bits.run_of_bits.Goals as goal
-
-pub returns : goal.returns
-returns c = λ i. run-shifted c.args.from c.args.to i c.requires.order c.requires.most

@@ -1,0 +1,9 @@
+pub mod DayBitLemmas
+pub mod DayLemmas
+pub mod ListingLemmas
+pub mod LookLemmas
+pub mod NumberLemmas
+pub mod PassingLemmas
+pub mod PlaceLemmas
+pub mod SetLemmas
+pub mod WordLemmas

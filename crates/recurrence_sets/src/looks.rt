@@ -1,0 +1,128 @@
+//! Looks at the days of periods, and the first day of any period.
+
+ghost use Rattle.std.specs.Prelude.{◌≡◌, ◌+◌, ◌⊎◌, IsSome, IsTrue, MatchOption, None, Some, ◌≤ℤ◌};
+ghost use Rattle.std.specs.Option.{ForSome};
+ghost use Rattle.cal_days.specs.Day.{IsValidDay};
+ghost use Rattle.cal_types.specs.Windows.{IsWindow};
+ghost use Rattle.recurrence_sets.specs.Days.{IsFirstBetween};
+ghost use Rattle.recurrence_sets.specs.Listing.{AreLooks, ArePassed, IsLook};
+ghost use Rattle.recurrence_sets.specs.Occurrences.{IsOfSome};
+ghost use Rattle.recurrence_sets.specs.PeriodBits.{has_day};
+
+use crate::period_days::PeriodDays;
+use crate::periods::Periods;
+use cal_days::RataDie;
+
+/// What was seen of a period and of the next one.
+#[derive(Clone, Copy)]
+pub(crate) struct Looks {
+    /// The period's number.
+    pub(crate) period: u32,
+    /// Its days, or `None` if no days are left from it on.
+    pub(crate) current: Option<PeriodDays>,
+    /// The days of the next period, or `None` if no days are left from that one on.
+    pub(crate) following: Option<PeriodDays>,
+}
+
+/// Looks at the first two periods.
+pub(crate) fn first_looks<S: Periods>(periods: &S, last: RataDie) -> Looks
+    requires { IsValidDay last }
+    ensures looks { AreLooks (S.has periods.now) last result }
+    ensures period { result.period ≡ 0 }
+{
+    let current = periods.days(0, last);
+    let following = days_behind(periods, 0, &current, last);
+    Looks {
+        period: 0,
+        current,
+        following,
+    }
+}
+
+/// Returns the days of the period behind one, without a look if no days are left.
+fn days_behind<S: Periods>(
+    periods: &S,
+    period: u32,
+    seen: &Option<PeriodDays>,
+    last: RataDie,
+) -> Option<PeriodDays>
+    requires valid { IsValidDay last }
+    requires seen { IsLook (S.has periods.now) last period seen.now }
+    ensures { IsLook (S.has periods.now) last (period + 1) result }
+{
+    match seen {
+        None => None,
+        Some(_) => periods.days(period + 1, last),
+    }
+}
+
+/// Goes on to the next period.
+fn next_looks<S: Periods>(periods: &S, looks: &Looks, last: RataDie) -> Looks
+    requires valid { IsValidDay last }
+    requires looks { AreLooks (S.has periods.now) last looks.now }
+    requires some { IsSome looks.now.current }
+    ensures looks { AreLooks (S.has periods.now) last result }
+    ensures period { result.period ≡ looks.now.period + 1 }
+{
+    let period = looks.period + 1;
+    let following = days_behind(periods, period, &looks.following, last);
+    Looks {
+        period,
+        current: looks.following,
+        following,
+    }
+}
+
+/// Returns the first day from one to another, if there are days.
+fn first_in(days: &Option<PeriodDays>, first: RataDie, last: RataDie) -> Option<RataDie>
+    ensures { MatchOption days.now (result ≡ None)
+        (λ d. IsFirstBetween (λ n. IsTrue (has_day d n)) first last result) }
+{
+    match days {
+        None => None,
+        Some(days) => days.first_between(first, last),
+    }
+}
+
+/// Returns the earlier one of a day and another, if there is another.
+pub(crate) fn earlier(day: RataDie, other: Option<RataDie>) -> RataDie
+    ensures first { result ≤ℤ day }
+    ensures second { ForSome other (λ n. result ≤ℤ n) }
+    ensures either { (result ≡ day) ⊎ (other ≡ Some result) }
+{
+    match other {
+        Some(other) if other < day => other,
+        _ => day,
+    }
+}
+
+/// Returns the first day of any period from one day to another, and the looks that found it.
+pub(crate) fn next_day<S: Periods>(
+    periods: &S,
+    looks: &Looks,
+    first: RataDie,
+    last: RataDie,
+) -> (Looks, Option<RataDie>)
+    requires days { IsWindow first last }
+    requires looks { AreLooks (S.has periods.now) last looks.now }
+    requires passed { ArePassed (S.has periods.now) looks.now.period first last }
+    ensures looks { AreLooks (S.has periods.now) last result.0 }
+    ensures passed { ArePassed (S.has periods.now) result.0.period first last }
+    ensures day { IsFirstBetween (IsOfSome (S.has periods.now)) first last result.1 }
+{
+    let mut seen = *looks;
+    'periods: loop {
+        match first_in(&seen.current, first, last) {
+            Some(day) => {
+                let next = first_in(&seen.following, first, last);
+                return (seen, Some(earlier(day, next)));
+            }
+            None => {
+                if seen.current.is_none() {
+                    return (seen, None);
+                }
+                seen = next_looks(periods, &seen, last);
+            }
+        }
+    }
+}
