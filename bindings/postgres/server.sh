@@ -1,0 +1,107 @@
+# shellcheck shell=bash
+# Builds the extension and starts a server that has it, in a temporary folder, for check.sh and bench/postgres.sh, which read this file. Nothing is
+# installed outside of the folder: the server is a copy of the installed one, which finds its files beside itself. It listens on a socket in
+# the folder only, and runs as an unprivileged user. Leaving the script stops it and removes the folder.
+#
+# PG_CONFIG may name a pg_config, and ICU_CALENDAR_LIB an archive; otherwise bindings/c/build.sh makes it.
+
+top=$(cd "$(dirname "${BASH_SOURCE[0]}")/../.." && pwd)
+
+# Returns whether a pg_config belongs to a server with the files that extensions are built with.
+has_all() {
+  [ -x "$(command -v "$1")" ] && [ -f "$("$1" --pgxs)" ] && [ -x "$("$1" --bindir)/initdb" ]
+}
+
+# Sets `config` to a pg_config that has all.
+find_config() {
+  for config in ${PG_CONFIG:-} pg_config $(find /usr/lib/postgresql -path '*/bin/pg_config' 2>/dev/null | sort -rV); do
+    if has_all "$config"; then
+      return 0
+    fi
+  done
+  return 1
+}
+
+# The packages of Debian for the server that is installed, or else for version 15.
+packages() {
+  local version
+  version=$(find /usr/lib/postgresql -path '*/bin/initdb' 2>/dev/null | sort -rV | head -n 1 | cut -d / -f 5)
+  [ -n "$version" ] || echo postgresql-15
+  echo "postgresql-server-dev-${version:-15}"
+}
+
+install_packages() {
+  local wanted
+  mapfile -t wanted < <(packages)
+  if [ "$(id -u)" -ne 0 ] || ! command -v apt-get >/dev/null; then
+    return 1
+  fi
+  echo "$1: installing ${wanted[*]} by apt-get"
+  DEBIAN_FRONTEND=noninteractive apt-get install -qq -y --no-install-recommends "${wanted[@]}" >/dev/null 2>&1 ||
+    { apt-get update -qq && DEBIAN_FRONTEND=noninteractive apt-get install -qq -y --no-install-recommends "${wanted[@]}" >/dev/null; }
+}
+
+# Finds a server, a compiler and make, or installs the packages that lack. If something lacks still, says so for the script that is named, and
+# ends it: with an error if CI is `true`.
+need_server() {
+  find_config || { install_packages "$1" && find_config; } || lacks "$1" "PostgreSQL with its development files ($(packages | tr '\n' ' '))"
+  command -v make >/dev/null || lacks "$1" make
+  command -v "${CC:-cc}" >/dev/null || lacks "$1" "C compiler"
+}
+
+lacks() {
+  echo "$1: not tested, since there is no $2"
+  [ "${CI:-}" != true ] || exit 1
+  exit 0
+}
+
+# Runs a command as the user of the server.
+as_user() {
+  if [ "$(id -u)" -eq 0 ]; then
+    HOME=$room runuser -u "$user" -- "$@"
+  else
+    HOME=$room "$@"
+  fi
+}
+
+stop_server() {
+  [ ! -f "$room/data/postmaster.pid" ] || as_user "$bin/pg_ctl" -D "$room/data" -m fast -s stop || true
+  [ -n "${KEEP_ROOM:-}" ] || rm -rf "$room"
+}
+
+# Copies the server, and what the build and the tests read, into a folder of the user's.
+make_room() {
+  local it
+  room=$(mktemp -d)
+  trap stop_server EXIT
+  user=$(id -un)
+  [ "$(id -u)" -ne 0 ] || user=$(getent passwd postgres nobody | head -n 1 | cut -d : -f 1)
+  for it in --bindir --pkglibdir --sharedir; do
+    it=$("$config" $it)
+    mkdir -p "$room$it"
+    cp -r "$it/." "$room$it"
+  done
+  bin=$room$("$config" --bindir)
+  mkdir -p "$room/top/bindings/c"
+  cp -r "$top/cases" "$top/books" "$top/rows" "$room/top"
+  cp -r "$top/bindings/postgres" "$room/top/bindings"
+  cp -r "$top/bindings/c/include" "$room/top/bindings/c"
+  find "$room/top/bindings/postgres" \( -name '*.o' -o -name '*.so' \) -delete
+}
+
+# Builds the extension with the flags that are given, and installs it for the copy of the server.
+build_extension() {
+  local archive=${ICU_CALENDAR_LIB:-$top/crates/icu_calendar_c/out/libicu_calendar_c.a}
+  [ -n "${ICU_CALENDAR_LIB:-}" ] || "$top/bindings/c/build.sh" >/dev/null
+  extension=$room/top/bindings/postgres
+  make -s -C "$extension" PG_CONFIG="$config" ICU_CALENDAR_LIB="$archive" "$@"
+  make -s -C "$extension" PG_CONFIG="$config" ICU_CALENDAR_LIB="$archive" DESTDIR="$room" "$@" install
+  [ "$(id -u)" -ne 0 ] || chown -R "$user" "$room"
+}
+
+# Starts the server, with options that are given in one word.
+start_server() {
+  as_user "$bin/initdb" -D "$room/data" -U postgres -A trust -E UTF8 --locale=C --no-sync --no-instructions >/dev/null
+  export PGHOST=$room PGPORT=5432 PGUSER=postgres PGDATABASE=postgres
+  as_user "$bin/pg_ctl" -D "$room/data" -l "$room/log" -w -s -o "-k $room -c listen_addresses='' -c fsync=off ${1:-}" start
+}
