@@ -197,7 +197,7 @@ COMMENT ON FUNCTION calendar_until(date, date, calendar_name, text, boolean) IS 
 CREATE FUNCTION calendar_until_text(a date, b date, calendar calendar_name, unit text DEFAULT 'days',
                                     published boolean DEFAULT true) RETURNS text
     LANGUAGE C IMMUTABLE STRICT PARALLEL SAFE COST 10 AS 'MODULE_PATHNAME', 'pgcal_until_text';
-COMMENT ON FUNCTION calendar_until_text(date, date, calendar_name, text, boolean) IS 'the same as a text, such as P33Y7M10D';
+COMMENT ON FUNCTION calendar_until_text(date, date, calendar_name, text, boolean) IS 'the same as a text, such as P33Y7M24D';
 
 -- Lists.
 

@@ -11,7 +11,7 @@ SELECT count(*) > 14000 AS loaded FROM cases;
 CREATE TABLE asked AS
     SELECT name, line, answer, word[1]::text AS calendar, word[2]::text AS shown, nullif(word[3], 'none') AS unit,
            nullif(word[4], 'none') AS overflow, nullif(word[5], 'none') AS missing, word[6] AS first, word[7] AS second
-      FROM cases, regexp_match(rtrim(request, E'\r'), '^span (\S+) (\S+) (\S+) (\S+) (\S+) from (.*) to (.*)$') AS word
+      FROM cases, regexp_match(regexp_replace(request, E'\r$', ''), '^span (\S+) (\S+) (\S+) (\S+) (\S+) from(.*) to(.*)$') AS word
      WHERE answer NOT LIKE 'err line%';
 -- A month and a month code are one argument here, so both can't be given.
 DELETE FROM asked WHERE first ~ '\mmonth=' AND first ~ '\mmonth-code=' OR second ~ '\mmonth=' AND second ~ '\mmonth-code=';
@@ -51,7 +51,7 @@ UPDATE answered SET a_cause = NULL, answer = 'early' WHERE a_cause = 'Overflow' 
 UPDATE answered SET b_cause = NULL, answer = 'early' WHERE b_cause = 'Overflow' AND substring(answer FROM '@(?:.*)@.*@(-?\d+)')::integer < -1721425;
 UPDATE answered SET answer = 'early' WHERE a IS NULL AND a_cause = 'Overflow' AND b_cause IS NOT NULL AND answer = 'err to ' || b_cause;
 
-SELECT name, count(*) > 200 AS compared, count(*) FILTER (WHERE answer LIKE 'ok %') > 100 AS dates,
+SELECT name, count(*) > 150 AS compared, count(*) FILTER (WHERE answer LIKE 'ok %') > 30 AS dates,
        count(*) FILTER (WHERE answer IS DISTINCT FROM
            CASE WHEN a_cause IS NOT NULL THEN 'err from ' || a_cause
                 WHEN b_cause IS NOT NULL THEN 'err to ' || b_cause

@@ -46,8 +46,8 @@ CREATE TEMP TABLE days AS
      WHERE n + (n * 7919) % 40000 BETWEEN -1721425 AND 365242134;
 SELECT count(*) FROM days;
 SELECT count(*) AS differing
-  FROM days, calendars, calendar_parts(name, d) AS p, (VALUES (true), (false)) AS it(published)
- WHERE calendar_date(name, calendar_parts(name, d, published), published => published) <> d
+  FROM days, calendars, calendar_parts(name, d) AS p, (VALUES (true), (false)) AS it(years)
+ WHERE calendar_date(name, calendar_parts(name, d, years), published => years) <> d
     OR calendar_date(name, p.year, p.month_code, p.day) <> d OR calendar_date(name, p.year, p.month, p.day) <> d
     OR p.era IS NOT NULL AND calendar_date(name, p.era, p.era_year, p.month_code, p.day) <> d
     OR p.era IS NOT NULL AND calendar_date(name, p.era, p.era_year, p.month, p.day) <> d

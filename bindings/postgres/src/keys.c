@@ -39,6 +39,15 @@ static void find_months(pgcal_chosen chosen, keys *found) {
     }
 }
 
+/* Returns whether the days of a month in a year may lie in a window. Those that don't exist count as the nearest. */
+static bool may_be_in(pgcal_chosen chosen, int32_t year, pgcal_month month, pgcal_window window) {
+    icu_calendar_date first, last;
+    if (pgcal_day_in_year(chosen, year, month, 1, ICU_CALENDAR_CONSTRAIN, &first) && first.day_number > window.last) {
+        return false;
+    }
+    return !pgcal_day_in_year(chosen, year, month, DAYS, ICU_CALENDAR_CONSTRAIN, &last) || last.day_number >= window.first;
+}
+
 /* Finds the keys of one month in one year. */
 static void find_in_month(pgcal_chosen chosen, int32_t year, pgcal_month month, uint8_t overflow, pgcal_window window, keys *found) {
     for (int day = 1; day <= DAYS; day++) {
@@ -57,8 +66,9 @@ static void find_in_month(pgcal_chosen chosen, int32_t year, pgcal_month month, 
 static void find_in_year(pgcal_chosen chosen, int32_t year, uint8_t overflow, pgcal_window window, keys *found) {
     for (uint8_t is_leap = 0; is_leap < 2; is_leap++) {
         for (uint8_t number = 1; number <= MONTHS; number++) {
-            if (found->has_month[is_leap][number]) {
-                find_in_month(chosen, year, (pgcal_month){number, is_leap}, overflow, window, found);
+            pgcal_month month = {number, is_leap};
+            if (found->has_month[is_leap][number] && may_be_in(chosen, year, month, window)) {
+                find_in_month(chosen, year, month, overflow, window, found);
             }
         }
     }

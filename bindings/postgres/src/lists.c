@@ -35,7 +35,8 @@ static void begin_anniversaries(FunctionCallInfo fcinfo) {
     pgcal_month month = pgcal_month_of(chosen, pgcal_bytes_of(PG_GETARG_TEXT_PP(1)));
     int32_t day = PG_GETARG_INT32(2);
     if (day < 1 || day > 31) {
-        pgcal_refuse(chosen, ICU_CALENDAR_INVALID_DAY, 0);
+        ereport(ERROR, (errcode(ERRCODE_DATETIME_VALUE_OUT_OF_RANGE), errmsg("day of month out of range"), errdetail("Cause: InvalidDay."),
+                        errhint("A day is from 1 to 31.")));
     }
     uint8_t overflow = pgcal_code_of(PG_GETARG_TEXT_PP(5), &pgcal_leaping);
     pgcal_yearly *list = MemoryContextAlloc(call->multi_call_memory_ctx, sizeof *list);

@@ -18,13 +18,13 @@ static const refusal REFUSALS[] = {
     {ICU_CALENDAR_TOO_MANY_FIELDS, ERRCODE_INVALID_PARAMETER_VALUE, "TooManyFields", "the month is given twice", NULL},
     {ICU_CALENDAR_OUT_OF_RANGE, ERRCODE_DATETIME_VALUE_OUT_OF_RANGE, "Overflow", "year, duration or date out of range",
      "Dates go from -999999-01-01 to 999999-12-31 in the ISO calendar."},
-    {ICU_CALENDAR_INVALID_ERA, ERRCODE_INVALID_PARAMETER_VALUE, "InvalidEra", "the calendar does not have the era",
+    {ICU_CALENDAR_INVALID_ERA, ERRCODE_INVALID_PARAMETER_VALUE, "InvalidEra", "no year is in the era",
      "The column eras of the table calendars has the eras."},
     {ICU_CALENDAR_INCONSISTENT_YEAR, ERRCODE_INVALID_PARAMETER_VALUE, "InconsistentYear", "the year is not the year of the era",
      "Leave out the year, or the era and its year."},
     {ICU_CALENDAR_MONTH_CODE_SYNTAX, ERRCODE_INVALID_DATETIME_FORMAT, "MonthCodeInvalidSyntax", "invalid month code",
      "A month code is M and two digits, with an L for a leap month, such as M05L."},
-    {ICU_CALENDAR_MONTH_NOT_IN_CALENDAR, ERRCODE_DATETIME_VALUE_OUT_OF_RANGE, "MonthNotInCalendar", "no year of the calendar has the month",
+    {ICU_CALENDAR_MONTH_NOT_IN_CALENDAR, ERRCODE_DATETIME_VALUE_OUT_OF_RANGE, "MonthNotInCalendar", "no year has the month",
      "The column months of the table calendars has the months."},
     {ICU_CALENDAR_MONTH_NOT_IN_YEAR, ERRCODE_DATETIME_VALUE_OUT_OF_RANGE, "MonthNotInYear", "the leap month does not occur in the year",
      "'constrain' uses the month that stands in for it."},
@@ -49,7 +49,7 @@ static const refusal *refusal_of(uint8_t code) {
 /* Raises the error of a code that a call returned. `max` is the greatest valid number, or 0 if there is none. */
 void pgcal_refuse(pgcal_chosen chosen, uint8_t code, uint8_t max) {
     const refusal *it = refusal_of(code);
-    ereport(ERROR, (errcode(it->state), errmsg("%s in calendar %s", it->message, pgcal_name_of(chosen.calendar)),
+    ereport(ERROR, (errcode(it->state), errmsg("calendar %s: %s", pgcal_name_of(chosen.calendar), it->message),
                     max ? errdetail("Cause: %s %u.", it->cause, max) : errdetail("Cause: %s.", it->cause), it->hint ? errhint("%s", it->hint) : 0));
 }
 
