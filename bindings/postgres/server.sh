@@ -3,7 +3,8 @@
 # installed outside of the folder: the server is a copy of the installed one, which finds its files beside itself. It listens on a socket in
 # the folder only, and runs as an unprivileged user. Leaving the script stops it and removes the folder.
 #
-# PG_CONFIG may name a pg_config, and ICU_CALENDAR_LIB an archive; otherwise bindings/c/build.sh makes it.
+# PG_CONFIG may name a pg_config, and ICU_CALENDAR_LIB an archive; otherwise bindings/c/build.sh makes it. With SANITIZE=1 the extension is built
+# with the sanitizer of undefined behaviour, and a finding ends the server. SERVER_UNDER may be a command that runs the server, such as valgrind.
 
 top=$(cd "$(dirname "${BASH_SOURCE[0]}")/../.." && pwd)
 
@@ -89,13 +90,15 @@ make_room() {
   find "$room/top/bindings/postgres" \( -name '*.o' -o -name '*.so' \) -delete
 }
 
-# Builds the extension with the flags that are given, and installs it for the copy of the server.
+# Builds the extension, and installs it for the copy of the server.
 build_extension() {
-  local archive=${ICU_CALENDAR_LIB:-$top/crates/icu_calendar_c/out/libicu_calendar_c.a}
+  local archive=${ICU_CALENDAR_LIB:-$top/crates/icu_calendar_c/out/libicu_calendar_c.a} flags=
   [ -n "${ICU_CALENDAR_LIB:-}" ] || "$top/bindings/c/build.sh" >/dev/null
   extension=$room/top/bindings/postgres
-  make -s -C "$extension" PG_CONFIG="$config" ICU_CALENDAR_LIB="$archive" "$@"
-  make -s -C "$extension" PG_CONFIG="$config" ICU_CALENDAR_LIB="$archive" DESTDIR="$room" "$@" install
+  if [ -n "${SANITIZE:-}" ]; then
+    flags='-fsanitize=undefined -fno-sanitize-recover=all'
+  fi
+  make -s -C "$extension" PG_CONFIG="$config" ICU_CALENDAR_LIB="$archive" MORE_CFLAGS="$flags" MORE_LDFLAGS="$flags" DESTDIR="$room" all install
   [ "$(id -u)" -ne 0 ] || chown -R "$user" "$room"
 }
 
@@ -103,5 +106,7 @@ build_extension() {
 start_server() {
   as_user "$bin/initdb" -D "$room/data" -U postgres -A trust -E UTF8 --locale=C --no-sync --no-instructions >/dev/null
   export PGHOST=$room PGPORT=5432 PGUSER=postgres PGDATABASE=postgres
-  as_user "$bin/pg_ctl" -D "$room/data" -l "$room/log" -w -s -o "-k $room -c listen_addresses='' -c fsync=off ${1:-}" start
+  printf '#!/bin/sh\nexec %s "%s/postgres" "$@"\n' "${SERVER_UNDER:-}" "$bin" >"$room/postgres"
+  chmod +x "$room/postgres"
+  as_user "$bin/pg_ctl" -D "$room/data" -p "$room/postgres" -l "$room/log" -w -s -o "-k $room -c listen_addresses='' -c fsync=off ${1:-}" start
 }
