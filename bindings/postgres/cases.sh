@@ -26,7 +26,8 @@ books) for book in "$top"/books/*.csv; do numbered "$(basename "$book" .csv)" "$
 holidays) for days in "$top"/books/expected/*.txt; do numbered "$(basename "$days" .txt)" "$days"; done ;;
 examples)
   # The columns: the function, what it returns, an example, and its result, each in backquotes.
-  awk -F ' [|] ' 'NF == 4 && /^[|] `/ { sub(/ [|]$/, "", $4); print substr($3, 2, length($3) - 2) "\t" substr($4, 2, length($4) - 2) }' "$top/bindings/postgres/README.md"
+  awk -F ' [|] ' 'NF == 4 && /^[|] `/ { sub(/ [|]$/, "", $4); print substr($3, 2, length($3) - 2) "\t" substr($4, 2, length($4) - 2) }' \
+    "$top/bindings/postgres/README.md"
   ;;
 rows) for rows in "$top"/rows/*.rows; do numbered "$(basename "$rows" .rows)" "$rows"; done ;;
 esac

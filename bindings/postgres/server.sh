@@ -10,7 +10,7 @@ top=$(cd "$(dirname "${BASH_SOURCE[0]}")/../.." && pwd)
 
 # Returns whether a pg_config belongs to a server with the files that extensions are built with.
 has_all() {
-  [ -x "$(command -v "$1")" ] && [ -f "$("$1" --pgxs)" ] && [ -x "$("$1" --bindir)/initdb" ]
+  command -v "$1" >/dev/null && [ -f "$("$1" --pgxs 2>/dev/null)" ] && [ -x "$("$1" --bindir 2>/dev/null)/initdb" ]
 }
 
 # Sets `config` to a pg_config that has all.
@@ -23,9 +23,12 @@ find_config() {
   return 1
 }
 
-# The packages of Debian for the server that is installed, or else for version 15.
+# The packages of Debian that lack: those of the server that is installed, or else of version 15, a compiler and make.
 packages() {
   local version
+  command -v make >/dev/null || echo make
+  command -v "${CC:-cc}" >/dev/null || echo gcc
+  ! find_config || return 0
   version=$(find /usr/lib/postgresql -path '*/bin/initdb' 2>/dev/null | sort -rV | head -n 1 | cut -d / -f 5)
   [ -n "$version" ] || echo postgresql-15
   echo "postgresql-server-dev-${version:-15}"
@@ -35,25 +38,25 @@ install_packages() {
   local wanted
   mapfile -t wanted < <(packages)
   if [ "$(id -u)" -ne 0 ] || ! command -v apt-get >/dev/null; then
-    return 1
+    return 0
   fi
   echo "$1: installing ${wanted[*]} by apt-get"
   DEBIAN_FRONTEND=noninteractive apt-get install -qq -y --no-install-recommends "${wanted[@]}" >/dev/null 2>&1 ||
-    { apt-get update -qq && DEBIAN_FRONTEND=noninteractive apt-get install -qq -y --no-install-recommends "${wanted[@]}" >/dev/null; }
+    { apt-get update -qq && DEBIAN_FRONTEND=noninteractive apt-get install -qq -y --no-install-recommends "${wanted[@]}" >/dev/null; } || true
 }
 
 # Finds a server, a compiler and make, or installs the packages that lack. If something lacks still, says so for the script that is named, and
 # ends it: with an error if CI is `true`.
 need_server() {
-  find_config || { install_packages "$1" && find_config; } || lacks "$1" "PostgreSQL with its development files ($(packages | tr '\n' ' '))"
-  command -v make >/dev/null || lacks "$1" make
-  command -v "${CC:-cc}" >/dev/null || lacks "$1" "C compiler"
-}
-
-lacks() {
-  echo "$1: not tested, since there is no $2"
-  [ "${CI:-}" != true ] || exit 1
-  exit 0
+  local lacking
+  [ -z "$(packages)" ] || install_packages "$1"
+  lacking=$(packages | tr '\n' ' ')
+  if [ -n "$lacking" ]; then
+    echo "$1: not tested, since this lacks: $lacking"
+    [ "${CI:-}" != true ] || exit 1
+    exit 0
+  fi
+  find_config
 }
 
 # Runs a command as the user of the server.

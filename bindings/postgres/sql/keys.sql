@@ -16,6 +16,23 @@ ANALYZE people;
 -- All people whose Hebrew birthday is next week.
 EXPLAIN (COSTS off)
 SELECT id FROM people WHERE calendar_anniversary_key('hebrew', born) = ANY (calendar_anniversary_keys('hebrew', current_date, current_date + 6));
+-- The plan of a subquery is written in several ways by several versions.
+CREATE FUNCTION uses_index(query text, name text) RETURNS boolean LANGUAGE plpgsql AS $$
+DECLARE
+    line text;
+BEGIN
+    FOR line IN EXECUTE 'EXPLAIN ' || query LOOP
+        IF line LIKE '% on ' || name || ' %' OR line LIKE '% using ' || name || ' %' THEN
+            RETURN true;
+        END IF;
+    END LOOP;
+    RETURN false;
+END
+$$;
+SELECT uses_index($$
+    SELECT id FROM people
+     WHERE calendar_anniversary_key('hebrew', born) = ANY ((SELECT calendar_anniversary_keys('hebrew', current_date, current_date + 6))::integer[])
+$$, 'people_hebrew');
 EXPLAIN (COSTS off) SELECT id FROM people WHERE calendar_part('year', 'chinese', born) = 1984;
 
 -- The index finds those, and only those, whose anniversaries a list has.

@@ -10,6 +10,11 @@ SELECT count(*) AS functions, count(*) FILTER (WHERE provolatile = 'i' AND prois
 SELECT count(*), count(DISTINCT name), min(code), max(code) FROM calendars;
 SELECT name, eras, months, published FROM calendars ORDER BY name;
 SELECT name FROM calendars WHERE name = 'hebrew';
+-- Names are read and written in the binary format, too.
+CREATE TABLE names (name calendar_name);
+\copy (SELECT name FROM calendars) TO 'results/names.bin' WITH (FORMAT binary)
+\copy names FROM 'results/names.bin' WITH (FORMAT binary)
+SELECT count(*) FROM calendars JOIN names USING (name);
 SELECT count(*) FROM calendars a JOIN calendars b USING (name);
 
 -- Runs a statement, and returns its error: the SQLSTATE, the message, the detail and the hint.

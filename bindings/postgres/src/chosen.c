@@ -30,6 +30,21 @@ DateADT pgcal_date_of(int64_t day) {
     return date;
 }
 
+/* Returns the shape of the result, which is found at the first call of a statement and kept with it. */
+TupleDesc pgcal_kept_shape(FunctionCallInfo fcinfo) {
+    FmgrInfo *info = fcinfo->flinfo;
+    if (info->fn_extra == NULL) {
+        TupleDesc found;
+        if (get_call_result_type(fcinfo, NULL, &found) != TYPEFUNC_COMPOSITE) {
+            elog(ERROR, "icu_calendar: the result has no columns");
+        }
+        MemoryContext before = MemoryContextSwitchTo(info->fn_mcxt);
+        info->fn_extra = BlessTupleDesc(CreateTupleDescCopy(found));
+        MemoryContextSwitchTo(before);
+    }
+    return (TupleDesc)info->fn_extra;
+}
+
 /* Returns the window of two dates. */
 pgcal_window pgcal_window_of(DateADT first, DateADT last) {
     pgcal_window window = {pgcal_day_of(first), pgcal_day_of(last)};

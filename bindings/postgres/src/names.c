@@ -73,19 +73,21 @@ uint8_t pgcal_code_of(const text *given, const pgcal_words *allowed) {
     pgcal_refuse_argument("UnknownOption", psprintf("%s \"%s\" not recognized", allowed->what, text_to_cstring(given)), allowed->hint);
 }
 
+/* Raises an error of an input function, which PostgreSQL 16 and later may also ask for without raising it. */
+#if PG_VERSION_NUM >= 160000
+#define REFUSE_INPUT(context, ...) ereturn(context, (Datum)0, __VA_ARGS__)
+#else
+#define REFUSE_INPUT(context, ...) ereport(ERROR, __VA_ARGS__)
+#endif
+
 Datum pgcal_name_in(PG_FUNCTION_ARGS) {
     char *name = PG_GETARG_CSTRING(0);
     uint8_t calendar;
     if (pgcal_calendar_of(pgcal_bytes_of_word(name), &calendar)) {
         PG_RETURN_CHAR((char)calendar);
     }
-#if PG_VERSION_NUM >= 160000
-    ereturn(fcinfo->context, (Datum)0,
-#else
-    ereport(ERROR,
-#endif
-            (errcode(ERRCODE_INVALID_TEXT_REPRESENTATION), errmsg("invalid input value for type calendar_name: \"%s\"", name),
-             errdetail("Cause: UnknownCalendar."), errhint("The table calendars has the names.")));
+    REFUSE_INPUT(fcinfo->context, (errcode(ERRCODE_INVALID_TEXT_REPRESENTATION), errmsg("invalid input value for type calendar_name: \"%s\"", name),
+                                   errdetail("Cause: UnknownCalendar."), errhint("The table calendars has the names.")));
 }
 
 Datum pgcal_name_out(PG_FUNCTION_ARGS) {

@@ -120,6 +120,7 @@ extern void pgcal_refuse_argument(const char *cause, const char *message, const 
 extern pgcal_chosen pgcal_chosen_of(Datum calendar, Datum is_published);
 extern int64_t pgcal_day_of(DateADT date);
 extern DateADT pgcal_date_of(int64_t day);
+extern TupleDesc pgcal_kept_shape(FunctionCallInfo fcinfo);
 extern pgcal_window pgcal_window_of(DateADT first, DateADT last);
 extern void pgcal_show(pgcal_chosen chosen, int64_t day, icu_calendar_date *date);
 extern uint8_t pgcal_name(pgcal_chosen chosen, const pgcal_bag *bag, uint8_t overflow, uint8_t missing, icu_calendar_date *date, uint8_t *max);

@@ -32,7 +32,8 @@ static void check_input(pgcal_bytes words, pgcal_bytes input) {
                               "For lists use calendar_anniversaries, calendar_recurrences or calendar_holidays.");
     }
     if (input.len > MOST_INPUT) {
-        pgcal_refuse_argument("TooLong", "the input has more than 1048576 bytes", "Cut it at the ends of lines, with the same rows before each part.");
+        pgcal_refuse_argument("TooLong", "the input has more than 1048576 bytes",
+                              "Cut it at the ends of lines, with the same rows before each part.");
     }
 }
 
@@ -43,13 +44,15 @@ static void check_status(uint8_t status, const uint8_t *output, size_t written) 
     case CALSPAN_REFUSED:
         return;
     case CALSPAN_WORDS:
-        pgcal_refuse_argument("Words", "the words are no command", "Use 'span', or 'convert CALENDAR SHOWN constrain' with 'reject' for the last word.");
+        pgcal_refuse_argument("Words", "the words are no command",
+                              "Use 'span', 'convert CALENDAR SHOWN constrain' or 'convert CALENDAR SHOWN reject'.");
     case CALSPAN_TABLE_REFUSED: {
         size_t end = written && output[written - 1] == '\n' ? written - 1 : written, begin = end;
         while (begin > 0 && output[begin - 1] != '\n') {
             begin--;
         }
-        pgcal_refuse_argument(pnstrdup((const char *)output + begin, end - begin), "a row or a table is invalid", "docs/MANUAL.md says what a row has.");
+        pgcal_refuse_argument(pnstrdup((const char *)output + begin, end - begin), "a row or a table is invalid",
+                              "docs/MANUAL.md says what a row has.");
     }
     case CALSPAN_NO_MEMORY:
     case CALSPAN_NO_MEMORY_FOR_OUTPUT:

@@ -28,7 +28,7 @@ static const refusal REFUSALS[] = {
      "The column months of the table calendars has the months."},
     {ICU_CALENDAR_MONTH_NOT_IN_YEAR, ERRCODE_DATETIME_VALUE_OUT_OF_RANGE, "MonthNotInYear", "the leap month does not occur in the year",
      "'constrain' uses the month that stands in for it."},
-    {ICU_CALENDAR_INCONSISTENT_MONTH, ERRCODE_INVALID_PARAMETER_VALUE, "InconsistentMonth", "the month is not the place of the month code in the year",
+    {ICU_CALENDAR_INCONSISTENT_MONTH, ERRCODE_INVALID_PARAMETER_VALUE, "InconsistentMonth", "the month is not the place of the month code",
      "Leave out one of the two."},
     {ICU_CALENDAR_INVALID_ORDINAL_MONTH, ERRCODE_DATETIME_VALUE_OUT_OF_RANGE, "InvalidOrdinalMonth", "month out of range",
      "'constrain' uses the nearest month."},

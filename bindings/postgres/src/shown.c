@@ -15,7 +15,17 @@ PG_FUNCTION_INFO_V1(pgcal_month_code);
 PG_FUNCTION_INFO_V1(pgcal_text);
 PG_FUNCTION_INFO_V1(pgcal_anniversary_key);
 
-enum { PART_YEAR, PART_ERA_YEAR, PART_CYCLIC_YEAR, PART_MONTH, PART_DAY, PART_DAY_OF_YEAR, PART_DAYS_IN_MONTH, PART_DAYS_IN_YEAR, PART_MONTHS_IN_YEAR };
+enum {
+    PART_YEAR,
+    PART_ERA_YEAR,
+    PART_CYCLIC_YEAR,
+    PART_MONTH,
+    PART_DAY,
+    PART_DAY_OF_YEAR,
+    PART_DAYS_IN_MONTH,
+    PART_DAYS_IN_YEAR,
+    PART_MONTHS_IN_YEAR
+};
 
 static const pgcal_word PARTS[] = {
     {"year", PART_YEAR},
@@ -29,9 +39,9 @@ static const pgcal_word PARTS[] = {
     {"days_in_year", PART_DAYS_IN_YEAR},
     {"months_in_year", PART_MONTHS_IN_YEAR},
 };
-static const pgcal_words ALL_PARTS = {PARTS, lengthof(PARTS), "part",
-                                      "Use 'year', 'month', 'day', 'era_year', 'cyclic_year', 'day_of_year', 'days_in_month', 'days_in_year' or "
-                                      "'months_in_year'."};
+static const pgcal_words ALL_PARTS = {
+    PARTS, lengthof(PARTS), "part",
+    "Use 'year', 'month', 'day', 'era_year', 'cyclic_year', 'day_of_year', 'days_in_month', 'days_in_year' or 'months_in_year'."};
 
 /* Writes the code of the era of a day, and a 0 behind it. It is empty for a year of the cycle of sixty. */
 static void write_era(pgcal_chosen chosen, int64_t day, char era[ERA_ROOM + 1]) {
@@ -93,21 +103,6 @@ Datum pgcal_part(PG_FUNCTION_ARGS) {
     PG_RETURN_INT32(part == PART_CYCLIC_YEAR ? date.cyclic_year : part_of(chosen, &date, part));
 }
 
-/* Returns the shape of the result, which is found at the first call of a statement and kept with it. */
-static TupleDesc kept_shape(FunctionCallInfo fcinfo) {
-    FmgrInfo *info = fcinfo->flinfo;
-    if (info->fn_extra == NULL) {
-        TupleDesc found;
-        if (get_call_result_type(fcinfo, NULL, &found) != TYPEFUNC_COMPOSITE) {
-            elog(ERROR, "icu_calendar: the result has no columns");
-        }
-        MemoryContext before = MemoryContextSwitchTo(info->fn_mcxt);
-        info->fn_extra = BlessTupleDesc(CreateTupleDescCopy(found));
-        MemoryContextSwitchTo(before);
-    }
-    return (TupleDesc)info->fn_extra;
-}
-
 /* calendar_parts(calendar, d, published) */
 Datum pgcal_parts(PG_FUNCTION_ARGS) {
     pgcal_chosen chosen = pgcal_chosen_of(PG_GETARG_DATUM(0), PG_GETARG_DATUM(2));
@@ -122,7 +117,7 @@ Datum pgcal_parts(PG_FUNCTION_ARGS) {
                        Int32GetDatum(date.cyclic_year),                 CStringGetTextDatum(code),         Int32GetDatum(date.ordinal_month),
                        Int32GetDatum(date.day)};
     bool nulls[7] = {is_cyclic, is_cyclic, false, !is_cyclic, false, false, false};
-    PG_RETURN_DATUM(HeapTupleGetDatum(heap_form_tuple(kept_shape(fcinfo), values, nulls)));
+    PG_RETURN_DATUM(HeapTupleGetDatum(heap_form_tuple(pgcal_kept_shape(fcinfo), values, nulls)));
 }
 
 /* calendar_era(calendar, d, published) */

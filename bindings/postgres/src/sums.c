@@ -33,7 +33,8 @@ static Datum sum_of(pgcal_chosen chosen, DateADT start, const signed_parts *give
     icu_calendar_duration duration = duration_of(given);
     icu_calendar_date date;
     uint8_t max = 0;
-    uint8_t code = icu_calendar_add(chosen.calendar, chosen.years, pgcal_day_of(start), &duration, pgcal_code_of(overflow, &pgcal_overflows), &date, &max);
+    uint8_t handling = pgcal_code_of(overflow, &pgcal_overflows);
+    uint8_t code = icu_calendar_add(chosen.calendar, chosen.years, pgcal_day_of(start), &duration, handling, &date, &max);
     if (unlikely(code)) {
         pgcal_refuse(chosen, code, max);
     }
@@ -88,14 +89,10 @@ static icu_calendar_duration difference(FunctionCallInfo fcinfo) {
 Datum pgcal_until(PG_FUNCTION_ARGS) {
     icu_calendar_duration apart = difference(fcinfo);
     int32_t sign = apart.is_negative ? -1 : 1;
-    TupleDesc shape;
-    if (get_call_result_type(fcinfo, NULL, &shape) != TYPEFUNC_COMPOSITE) {
-        elog(ERROR, "icu_calendar: the result has no columns");
-    }
     Datum values[4] = {Int32GetDatum(sign * (int32_t)apart.years), Int32GetDatum(sign * (int32_t)apart.months),
                        Int32GetDatum(sign * (int32_t)apart.weeks), Int32GetDatum(sign * (int32_t)apart.days)};
     bool nulls[4] = {false, false, false, false};
-    PG_RETURN_DATUM(HeapTupleGetDatum(heap_form_tuple(BlessTupleDesc(shape), values, nulls)));
+    PG_RETURN_DATUM(HeapTupleGetDatum(heap_form_tuple(pgcal_kept_shape(fcinfo), values, nulls)));
 }
 
 /* Writes a part and its letter behind a text, unless it is 0. */
