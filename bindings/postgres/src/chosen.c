@@ -25,7 +25,7 @@ DateADT pgcal_date_of(int64_t day) {
     DateADT date = (DateADT)(day - DAY_OF_2000);
     if (!IS_VALID_DATE(date)) {
         ereport(ERROR, (errcode(ERRCODE_DATETIME_VALUE_OUT_OF_RANGE), errmsg("date out of range"), errdetail("Cause: Overflow."),
-                        errhint("The type date begins in 4713 BC.")));
+                        errhint("The first date of the type date is 4714-11-24 BC.")));
     }
     return date;
 }
