@@ -1,7 +1,7 @@
 #!/usr/bin/env bash
 # Measures the extension for PostgreSQL on a server of its own (bindings/postgres/server.sh): a scan of ten million rows that converts each date to
 # Hebrew beside the same scan with `extract(year from d)`, by one process and with two parallel workers. Each is run five times, and the
-# shortest counts. Nothing else should run beside it. ROWS sets another number of rows.
+# shortest counts. Nothing else should run beside it. ROWS sets another number of rows; 10 statements take some three minutes.
 set -eu
 # shellcheck source=bindings/postgres/server.sh
 . "$(dirname "${BASH_SOURCE[0]}")/../bindings/postgres/server.sh"
@@ -23,16 +23,19 @@ shortest() {
     run -c "SET max_parallel_workers_per_gather = $1" -c '\timing on' -c "$2"
   done | sed -n 's/^Time: \([0-9.]*\) ms.*/\1/p' | sort -n | head -n 1
 }
+# Measures an expression, and prints its nanoseconds a row beyond the same scan with `extract`, and which part of the time two workers need.
+extracting=
 measure() {
-  printf '%-44s %10s ms %10s ms\n' "$1" "$(shortest 0 "$2")" "$(shortest 2 "$2")"
+  local one two
+  one=$(shortest 0 "SELECT count($1) FROM people")
+  two=$(shortest 2 "SELECT count($1) FROM people")
+  extracting=${extracting:-$one}
+  awk -v name="$1" -v one="$one" -v two="$two" -v extracting="$extracting" -v rows="$rows" \
+    'BEGIN { printf "%-44s %9.0f ms %9.0f ms %8.1f ns %6.2f\n", name, one, two, (one - extracting) * 1e6 / rows, two / one }'
 }
-printf '%-44s %13s %13s\n' "$rows rows" 'one process' 'two workers'
-measure 'count(born)' 'SELECT count(born) FROM people'
-measure 'count(extract(year FROM born))' 'SELECT count(extract(year FROM born)) FROM people'
-for name in hebrew chinese islamic-umalqura iso; do
-  measure "count(calendar_part('year', '$name', born))" "SELECT count(calendar_part('year', '$name', born)) FROM people"
+printf '%-44s %12s %12s %11s %6s\n' "$rows rows" 'one process' 'two workers' 'more a row' 'part'
+for expression in 'extract(year FROM born)' born "calendar_part('year', 'hebrew', born)" "calendar_part('year', 'chinese', born)" \
+  "calendar_part('year', 'islamic-umalqura', born)" "calendar_part('year', 'iso', born)" "calendar_anniversary_key('hebrew', born)" \
+  "calendar_text('hebrew', born)" "calendar_parts('hebrew', born)" "calendar_add(born, 'hebrew', 1)"; do
+  measure "$expression"
 done
-measure "count(calendar_anniversary_key('hebrew', born))" "SELECT count(calendar_anniversary_key('hebrew', born)) FROM people"
-measure "count(calendar_text('hebrew', born))" "SELECT count(calendar_text('hebrew', born)) FROM people"
-measure "count(calendar_parts('hebrew', born))" "SELECT count(calendar_parts('hebrew', born)) FROM people"
-measure "count(calendar_add(born, 'hebrew', 1))" "SELECT count(calendar_add(born, 'hebrew', 1)) FROM people"

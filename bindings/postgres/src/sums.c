@@ -16,7 +16,7 @@ typedef struct {
 
 static icu_calendar_duration duration_of(const signed_parts *given) {
     bool is_positive = false, is_negative = false;
-    uint32_t sizes[4];
+    uint32_t sizes[4] = {0};
     for (int place = 0; place < 4; place++) {
         int64_t part = given->parts[place];
         is_positive |= part > 0;
