@@ -28,4 +28,11 @@ for name in contrib_regression restored; do
 done
 cmp "$room/contrib_regression.txt" "$room/restored.txt"
 grep -q people_hebrew "$room/restored.txt"
+
+# Whoever owns a database may create the extension there, in a schema of its own, and drop it.
+as_user "$bin/psql" -Xq -v ON_ERROR_STOP=1 -c 'CREATE ROLE someone LOGIN' -c 'CREATE DATABASE theirs OWNER someone'
+as_user "$bin/psql" -XAtq -v ON_ERROR_STOP=1 -U someone -d theirs -c 'CREATE SCHEMA cal' -c 'CREATE EXTENSION icu_calendar SCHEMA cal' \
+  -c "SELECT cal.calendar_text('iso', '2024-03-01')" -c 'SET search_path = cal' \
+  -c "SELECT name, calendar_text(name, '2024-03-01') FROM calendars WHERE name = 'hebrew'" -c 'DROP EXTENSION icu_calendar' >"$room/theirs.txt"
+grep -qx 'hebrew|am 5784-M05L-21' "$room/theirs.txt"
 echo "bindings/postgres/check: the extension for $("$config" --version) agrees with the cases, and comes back from a dump"
