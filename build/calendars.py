@@ -108,6 +108,20 @@ def rust_names() -> str:
     return "".join(f'    ("{it.name}", AnyCalendarKind::{it.variant}),\n' for it in NAMED)
 
 
+def sql_text(text: str) -> str:
+    """A text or an array of texts in SQL, or NULL for an empty one."""
+    return "'" + text.replace("'", "''") + "'" if text else "NULL"
+
+
+def sql_rows() -> str:
+    """The rows of the table of calendars in SQL, the last with the end of the statement."""
+    rows = []
+    for it in NAMED:
+        words = [it.name, it.cldr, it.people, "{" + ",".join(it.eras) + "}", MONTHS[it.months].replace("`", ""), it.published, it.note]
+        rows.append(f"    ({it.code}, {', '.join(map(sql_text, words))})")
+    return ",\n".join(rows) + ";\n"
+
+
 def web_type() -> str:
     words = quoted(CODED)
     lines = wrapped([words[0], *(f"| {it}" for it in words[1:])], "/** @typedef {", " *   ", " ")
@@ -175,6 +189,8 @@ class List(NamedTuple):
 LISTS = [
     List("bindings/c/include/icu_calendar.h", "codes", c_codes),
     List("bindings/c/examples/dates.c", "names", c_names),
+    List("bindings/postgres/icu_calendar--1.0.sql", "calendars", sql_rows),
+    List("bindings/postgres/src/names.c", "names", c_names),
     List("bindings/python/icu_calendar/codes.py", "codes", python_codes),
     List("bindings/rust/icu_calendar_proved/src/engine.rs", "codes", rust_codes),
     List("bindings/rust/icu_calendar_proved/src/any_calendar.rs", "names", rust_names),
