@@ -5,6 +5,7 @@ mod CommandLemmas
 mod ConvertAnswerLemmas
 mod ConvertCommandLemmas
 mod ConvertHeadLemmas
+mod ConvertLawLemmas
 mod ConvertRunLemmas
 mod DayLineLemmas
 mod EndLemmas
