@@ -4,6 +4,7 @@ mod BookRowLemmas
 mod CommandLemmas
 mod ConvertAnswerLemmas
 mod ConvertCommandLemmas
+mod ConvertEndLemmas
 mod ConvertHeadLemmas
 mod ConvertLawLemmas
 mod ConvertRunLemmas

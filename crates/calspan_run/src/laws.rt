@@ -2,7 +2,7 @@
 ghost use Rattle.calspan_run.specs.Answers.{IsAnswers};
 ghost use Rattle.calspan_run.specs.Asked.{AnniversaryAsked, HolidaysAsked, RecurAsked};
 ghost use Rattle.calspan_run.specs.ConvertAsked.{ConvertAsked};
-ghost use Rattle.calspan_run.specs.Laws.{AnniversariesAreMeant, HolidaysAreMeant, OccurrencesAreMeant, EveryInputHas, IsUnique, PrefixesHavePrefixes, EveryNumberHasOneLine, EndsAsHolidays, EndsAsList};
+ghost use Rattle.calspan_run.specs.Laws.{AnniversariesAreMeant, HolidaysAreMeant, OccurrencesAreMeant, EveryInputHas, IsUnique, PrefixesHavePrefixes, EveryNumberHasOneLine, EndsAsConvert, EndsAsHolidays, EndsAsList};
 ghost use Rattle.calspan_run.specs.ListTexts.{ListsAnniversaries, ListsOccurrences};
 ghost use Rattle.calspan_run.specs.Rules.{holiday_rules, list_rules};
 ghost use Rattle.calspan_run.specs.Streaming.{convert_rules};
@@ -83,4 +83,9 @@ pub fn runs_of_lists_end()
     ensures anniversary { (asked : AnniversaryAsked) → EndsAsList (ListsAnniversaries asked) }
     ensures recur { (asked : RecurAsked) → EndsAsList (ListsOccurrences asked) }
     ensures holidays { (asked : HolidaysAsked) → EndsAsHolidays asked }
+{}
+
+/// Every run of `convert` has read and written the bytes that its status describes.
+pub fn runs_of_convert_end()
+    ensures { (asked : ConvertAsked) → EndsAsConvert asked }
 {}
