@@ -4,7 +4,9 @@ mod BookRowLemmas
 mod CommandLemmas
 mod ConvertAnswerLemmas
 mod ConvertCommandLemmas
+mod ConvertEndLemmas
 mod ConvertHeadLemmas
+mod ConvertLawLemmas
 mod ConvertRunLemmas
 mod DayLineLemmas
 mod EndLemmas

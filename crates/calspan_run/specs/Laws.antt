@@ -14,12 +14,15 @@ use Rattle.cal_types.specs.CalendarSystem.{resolve_fields}
 use Rattle.table_rows.specs.TableRows.{TableRows, AreAccepted, contents_of}
 use Rattle.calspan_run.specs.Generator.{IsGenerated}
 use Rattle.calspan_run.specs.Asked.{AnniversaryAsked, HolidaysAsked, RecurAsked}
+use Rattle.calspan_run.specs.ConvertAsked.{ConvertAsked}
+use Rattle.calspan_run.specs.ConvertEnds.{ConvertEnds}
 use Rattle.calspan_run.specs.HolidayRuns.{HolidayEnds}
 use Rattle.calspan_run.specs.ListEnds.{ListEnds}
 use Rattle.calspan_run.specs.Recurrences.{no_options}
 use Rattle.calspan_run.specs.Rules.{holiday_rules, list_rules}
 use Rattle.calspan_run.specs.Run.{Outside}
 use Rattle.calspan_run.specs.Serving.{Rules, Serves}
+use Rattle.calspan_run.specs.Streaming.{Streams, convert_rules}
 use Rattle.calspan_run.specs.declared.status.Status.{Status}
 
 -- to every input, and to what has come of one, a text and a status
@@ -71,6 +74,12 @@ abbrev pub EndsAsHolidays : HolidaysAsked → Type 0
 EndsAsHolidays asked =
     (status : Status) (before now : Outside) → Serves (holiday_rules asked) status before now
     → HolidayEnds asked status before now
+
+-- how a run of `convert` ends, by what was read and written
+abbrev pub EndsAsConvert : ConvertAsked → Type 0
+EndsAsConvert asked =
+    (status : Status) (before now : Outside) → Streams (convert_rules asked) status before now
+    → ConvertEnds asked status before now
 
 -- the days of `anniversary` are all days of the window that the month and the day fall on, each once and in order
 abbrev pub AnniversariesAreMeant : Type 0

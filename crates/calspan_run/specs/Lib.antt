@@ -9,6 +9,7 @@ pub mod CommandRuns
 pub mod CommandSaid
 pub mod CommandWordsLeft
 pub mod ConvertAsked
+pub mod ConvertEnds
 pub mod ConvertSaid
 pub mod ConvertTexts
 pub mod Converted

@@ -1,9 +1,11 @@
 //! Laws of the texts of the commands, each proved as the contract of a function that does nothing.
 ghost use Rattle.calspan_run.specs.Answers.{IsAnswers};
 ghost use Rattle.calspan_run.specs.Asked.{AnniversaryAsked, HolidaysAsked, RecurAsked};
-ghost use Rattle.calspan_run.specs.Laws.{AnniversariesAreMeant, HolidaysAreMeant, OccurrencesAreMeant, EveryInputHas, IsUnique, PrefixesHavePrefixes, EveryNumberHasOneLine, EndsAsHolidays, EndsAsList};
+ghost use Rattle.calspan_run.specs.ConvertAsked.{ConvertAsked};
+ghost use Rattle.calspan_run.specs.Laws.{AnniversariesAreMeant, HolidaysAreMeant, OccurrencesAreMeant, EveryInputHas, IsUnique, PrefixesHavePrefixes, EveryNumberHasOneLine, EndsAsConvert, EndsAsHolidays, EndsAsList};
 ghost use Rattle.calspan_run.specs.ListTexts.{ListsAnniversaries, ListsOccurrences};
 ghost use Rattle.calspan_run.specs.Rules.{holiday_rules, list_rules};
+ghost use Rattle.calspan_run.specs.Streaming.{convert_rules};
 
 /// Every input of `span`, and every part of an input that has come, has a text and a status.
 pub fn every_input_has_answers()
@@ -61,9 +63,29 @@ pub fn holidays_are_meant()
     ensures { HolidaysAreMeant }
 {}
 
+/// Every input of `convert`, and every part of an input that has come, has a text and a status, with any arguments.
+pub fn every_input_has_conversions()
+    ensures { (asked : ConvertAsked) → EveryInputHas (convert_rules asked).Says }
+{}
+
+/// No input of `convert` has two texts or two statuses.
+pub fn conversions_are_unique()
+    ensures { (asked : ConvertAsked) → IsUnique (convert_rules asked).Says }
+{}
+
+/// The text for the part of an input of `convert` that has come is a prefix of every later text.
+pub fn conversions_of_a_prefix_are_a_prefix()
+    ensures { (asked : ConvertAsked) → PrefixesHavePrefixes (convert_rules asked).Says }
+{}
+
 /// Every run of `anniversary`, `recur` or `holidays` has read and written the bytes that its status describes.
 pub fn runs_of_lists_end()
     ensures anniversary { (asked : AnniversaryAsked) → EndsAsList (ListsAnniversaries asked) }
     ensures recur { (asked : RecurAsked) → EndsAsList (ListsOccurrences asked) }
     ensures holidays { (asked : HolidaysAsked) → EndsAsHolidays asked }
+{}
+
+/// Every run of `convert` has read and written the bytes that its status describes.
+pub fn runs_of_convert_end()
+    ensures { (asked : ConvertAsked) → EndsAsConvert asked }
 {}
