@@ -29,7 +29,7 @@ pub(crate) trait ColumnCall<O, K> {
 }
 
 /// Does a call at every place, in a calendar.
-pub(crate) fn fill<C: Calendar, O, K: Copy, Q: ColumnCall<O, K>>(
+fn fill<C: Calendar, O, K: Copy, Q: ColumnCall<O, K>>(
     call: &Q,
     calendar: &C,
     outputs: &mut [O],
@@ -105,5 +105,26 @@ pub(crate) fn fill_columns<O, K: Copy, Q: ColumnCall<O, K>>(
         return LENGTHS_DIFFER;
     }
     fill_in(call, chosen, outputs, codes);
+    DONE
+}
+
+/// Does a call at every place, in a calendar, if both columns have as many places as the call.
+pub(crate) fn fill_equal<C: Calendar, O, K: Copy, Q: ColumnCall<O, K>>(
+    call: &Q,
+    calendar: &C,
+    outputs: &mut [O],
+    codes: &mut [K],
+) -> u8
+    ensures { Fills (Q.single call.now (C.system calendar.now)) (Q.places call.now) result outputs.old outputs.new
+        codes.old codes.new }
+{
+    let count = call.count();
+    if outputs.len() != count {
+        return LENGTHS_DIFFER;
+    }
+    if codes.len() != count {
+        return LENGTHS_DIFFER;
+    }
+    fill(call, calendar, outputs, codes);
     DONE
 }

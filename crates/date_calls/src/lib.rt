@@ -24,6 +24,7 @@ mod outcomes;
 mod places;
 mod questions;
 mod rooms;
+mod weeks;
 mod years;
 
 pub use calls::{add, date_of_day, date_of_fields, era_of_day, until};
@@ -34,4 +35,5 @@ pub use durations::CalendarDuration;
 pub use fields::CalendarFields;
 pub use outcomes::{CalendarOutcome, NO_ROOM, UNKNOWN_YEARS};
 pub use rooms::put;
+pub use weeks::{CalendarWeek, weeks_of_days};
 pub use years::{easter, week_of_year};
