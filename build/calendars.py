@@ -93,7 +93,7 @@ def c_codes() -> str:
 
 
 def c_names() -> str:
-    return wrapped([f"{it}," for it in quoted(CODED)], "    ", "    ", " ")
+    return wrapped([f"{it}," for it in quoted(CODED)], " " * 8, " " * 8, " ")
 
 
 def python_codes() -> str:
@@ -174,7 +174,7 @@ class List(NamedTuple):
 
 LISTS = [
     List("bindings/c/include/icu_calendar.h", "codes", c_codes),
-    List("bindings/c/examples/dates.c", "names", c_names),
+    List("bindings/c/include/icu_calendar.h", "names", c_names),
     List("bindings/python/icu_calendar/codes.py", "codes", python_codes),
     List("bindings/rust/icu_calendar_proved/src/engine.rs", "codes", rust_codes),
     List("bindings/rust/icu_calendar_proved/src/any_calendar.rs", "names", rust_names),

@@ -13,11 +13,13 @@ archive=$top/crates/icu_calendar_c/out/libicu_calendar_c.a
 heap=$(dirname "$(dirname "$(readlink -f "$(command -v rt)")")")/c/liblibc_c.a
 room=$(mktemp -d)
 trap 'rm -rf "$room"' EXIT
-for name in calspan dates; do
+for name in calspan dates columns; do
   "$cc" -std=c11 -Wall -Wextra -Werror -g -fsanitize=address,undefined -fno-sanitize-recover=all -I "$top/bindings/c/include" \
     "$top/bindings/c/examples/$name.c" "$archive" "$heap" -o "$room/$name"
 done
-"$room/dates" | diff - "$top/bindings/c/examples/dates.out"
+for name in dates columns; do
+  "$room/$name" | diff - "$top/bindings/c/examples/$name.out"
+done
 if ! command -v python3 >/dev/null; then
   echo "bindings/c/check: the C examples run; their cases and the Python module are not tested, since there is no python3"
   exit 0
