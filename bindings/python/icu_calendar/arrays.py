@@ -34,7 +34,8 @@ from .library import library
 
 __all__ = ["DATE", "DURATION", "WEEK", "Dates", "Durations", "Weeks", "dates", "of_fields", "until", "weeks"]
 
-MONTH_CODES = np.array([f"M{it % 128:02}{'L' if it >= 128 else ''}" for it in range(256)])
+# The month codes, by their numbers and, 128 later, with an `L`.
+MONTH_CODES = np.array([f"M{it % 128:02}{'L' if it >= 128 else ''}"[:4] for it in range(256)])
 # A duration for all places, or durations from `until`.
 DurationsLike = Union[Duration, "Durations"]
 
@@ -113,7 +114,7 @@ class Dates(DayColumn):
 
     def to_datetime64(self) -> NDArray[np.datetime64]:
         """Returns the days as `datetime64[D]`, with NaT where there is no date."""
-        found: NDArray[np.datetime64] = (self.day_numbers - EPOCH).view("datetime64[D]")
+        found: NDArray[np.datetime64] = np.asarray(self.day_numbers - EPOCH).view("datetime64[D]")
         found[self.codes != 0] = np.datetime64("NaT")
         return found
 
@@ -143,7 +144,7 @@ class Dates(DayColumn):
         return self._with_each(durations, option)
 
     def _with_one(self, duration: Duration, overflow: Overflow) -> Dates:
-        column = np.ascontiguousarray(self.day_numbers)
+        column = np.asarray(self.day_numbers, order="C")
         parts, outcomes = _rooms(column.shape)
         given = byref(duration._parts())
         code = library.icu_calendar_add_to_each(self.calendar, self.years, *address(column), given, overflow, *address(parts), *address(outcomes))
@@ -152,7 +153,7 @@ class Dates(DayColumn):
 
     def _with_each(self, durations: Durations, overflow: Overflow) -> Dates:
         column, given, absent, bad = np.broadcast_arrays(self.day_numbers, durations.parts, self.codes != 0, durations.codes)
-        column, given = np.ascontiguousarray(column), np.ascontiguousarray(given)
+        column, given = np.asarray(column, order="C"), np.asarray(given, order="C")
         parts, outcomes = _rooms(column.shape)
         code = library.icu_calendar_add_each(
             self.calendar, self.years, *address(column), *address(given), overflow, *address(parts), *address(outcomes)
@@ -233,7 +234,7 @@ def dates(days: DaysLike, calendar: CalendarLike = Calendar.ISO, years: YearsLik
     """Returns the dates of days: day numbers, `datetime64`, `datetime.date` or `Date`, or another calendar's `Dates`."""
     chosen, source = Calendar.of(calendar), Years.of(years)
     given, hidden = day_column(days)
-    column = np.ascontiguousarray(given)
+    column = np.asarray(given, order="C")
     parts, codes = np.empty(column.shape, DATE), np.empty(column.shape, np.uint8)
     settle(library.icu_calendar_dates_of_days(chosen, source, *address(column), *address(parts), *address(codes)))
     return Dates(chosen, source, *_cleared(parts, codes, hidden))
@@ -247,7 +248,7 @@ def until(
     chosen, source, unit = Calendar.of(calendar), Years.of(years), Unit.of(largest_unit)
     (one, hidden), (two, other) = day_column(first), day_column(second)
     one, two = np.broadcast_arrays(one, two)
-    one, two = np.ascontiguousarray(one), np.ascontiguousarray(two)
+    one, two = np.asarray(one, order="C"), np.asarray(two, order="C")
     parts, codes = np.empty(one.shape, DURATION), np.empty(one.shape, np.uint8)
     settle(library.icu_calendar_until_each(chosen, source, *address(one), *address(two), unit, *address(parts), *address(codes)))
     masks = [it for it in (hidden, other) if it is not None]
@@ -258,7 +259,7 @@ def until(
 def weeks(days: DaysLike) -> Weeks:
     """Returns the ISO 8601 weeks of days."""
     given, hidden = day_column(days)
-    column = np.ascontiguousarray(given)
+    column = np.asarray(given, order="C")
     parts, codes = np.empty(column.shape, WEEK), np.empty(column.shape, np.uint8)
     settle(library.icu_calendar_weeks_of_days(*address(column), *address(parts), *address(codes)))
     return Weeks(*_cleared(parts, codes, hidden))
@@ -381,7 +382,7 @@ def _told(
     refused: Bytes | None = None,
 ) -> Dates:
     """Returns dates and causes. Places that were refused before the call keep that cause."""
-    codes, maxes = np.ascontiguousarray(outcomes["code"]), np.ascontiguousarray(outcomes["max"])
+    codes, maxes = np.asarray(outcomes["code"], order="C"), np.asarray(outcomes["max"], order="C")
     if refused is not None:
         earlier = refused != 0
         codes[earlier], maxes[earlier] = refused[earlier], 0

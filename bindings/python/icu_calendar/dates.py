@@ -6,7 +6,7 @@ import datetime
 from ctypes import byref, c_int32, c_int64, c_size_t, c_uint8, create_string_buffer
 from dataclasses import dataclass
 from operator import index
-from typing import Union, overload
+from typing import Any, Union, overload
 
 from .codes import Calendar, CalendarLike, Missing, MissingLike, Overflow, OverflowLike, Unit, UnitLike, Years, YearsLike
 from .durations import Duration
@@ -26,9 +26,9 @@ def fits(number: int | None, low: int, high: int) -> bool:
     return number is None or low <= number <= high
 
 
-def said(**given: object) -> str:
-    """Returns what was given, as a call is written."""
-    return ", ".join(f"{name}={getattr(it, 'name', None) or repr(it)}" for name, it in given.items() if it not in (None, "", False))
+def said(calendar: Calendar, given: dict[str, Any]) -> str:
+    """Returns the fields that were given, as a call is written."""
+    return ", ".join([repr(calendar.program_name), *(f"{name}={it!r}" for name, it in given.items() if it is not None and it != "" and it is not False)])
 
 
 @dataclass(frozen=True, eq=False)
@@ -104,12 +104,12 @@ class Date:
 
         Raises the subclass of CalendarError for the first invalid field."""
         chosen, source = Calendar.of(calendar), Years.of(years)
-        given = said(calendar=chosen.program_name, year=year, era=era, era_year=era_year, month=month, month_is_leap=month_is_leap)
-        given += f", {said(month_code=month_code, ordinal_month=ordinal_month, day=day)}"
+        given: dict[str, Any] = {"year": year, "era": era, "era_year": era_year, "month": month, "month_is_leap": month_is_leap, "month_code": month_code}
+        given.update(ordinal_month=ordinal_month, day=day)
         if not (fits(year, -(2**31), 2**31 - 1) and fits(era_year, -(2**31), 2**31 - 1)):
-            raise OutOfRange(given=given)
+            raise OutOfRange(given=said(chosen, given))
         if not all(fits(it, 0, MOST_PART) for it in (month, ordinal_month, day)):
-            raise OutOfRange(given=given, advice="A month and a day from 1 would do.")
+            raise OutOfRange(given=said(chosen, given), advice="A month and a day from 1 would do.")
         fields = Fields(
             era_year=era_year or 0,
             has_era_year=era_year is not None,
@@ -129,7 +129,8 @@ class Date:
             *(chosen, source, byref(fields), era_text, len(era_text), code_text, len(code_text)),
             *(Overflow.of(overflow), Missing.of(missing), byref(parts), byref(limit)),
         )
-        settle(code, limit.value, given)
+        if code:
+            settle(code, limit.value, said(chosen, given))
         return cls._of(parts, chosen, source)
 
     @classmethod

@@ -8,7 +8,7 @@ from .codes import Calendar
 from .errors import InvalidText
 
 # Four digits, or a sign and six of them, as in ISO 8601 and ECMAScript.
-DATE = re.compile(r"(\d{4}|[+-]\d{6})-(\d\d)-(\d\d)(?:\[!?u-ca=([a-z0-9]{1,8}(?:-[a-z0-9]{1,8})*)\])?", re.ASCII)
+DATE = re.compile(r"(\d{4}|[+-]\d{6})-(\d\d)-(\d\d)(?:\[!?u-ca=([a-z0-9]+(?:-[a-z0-9]+)*)\])?", re.ASCII)
 
 
 def read(text: str) -> tuple[int, int, int, Calendar]:
