@@ -53,8 +53,8 @@ class Dates:
     def __init__(self, column: arrays.Dates, index: pd.Index, name: Any = None):
         self.column, self.index, self.name = column, index, name
 
-    def _series(self, values: Any, name: Any) -> pd.Series:
-        """Returns a masked column as a series, with NA under the mask."""
+    def series_of(self, values: Any, name: Any) -> pd.Series:
+        """Returns a masked column with this index as a series, with NA under the mask."""
         data, hidden = ma.getdata(values), ma.getmaskarray(values)
         if data.dtype in INTEGERS:
             return pd.Series(pd.arrays.IntegerArray(np.ascontiguousarray(data), hidden), index=self.index, name=name)
@@ -67,52 +67,52 @@ class Dates:
     @property
     def year(self) -> pd.Series:
         """The extended years."""
-        return self._series(self.column.year, "year")
+        return self.series_of(self.column.year, "year")
 
     @property
     def era(self) -> pd.Series:
         """The codes of the eras; empty for years of the cycle of sixty."""
-        return self._series(self.column.era, "era")
+        return self.series_of(self.column.era, "era")
 
     @property
     def era_year(self) -> pd.Series:
         """The era years."""
-        return self._series(self.column.era_year, "era_year")
+        return self.series_of(self.column.era_year, "era_year")
 
     @property
     def cyclic_year(self) -> pd.Series:
         """The years in the cycle of sixty, or 0."""
-        return self._series(self.column.cyclic_year, "cyclic_year")
+        return self.series_of(self.column.cyclic_year, "cyclic_year")
 
     @property
     def ordinal_month(self) -> pd.Series:
         """The numbers of the months in their years."""
-        return self._series(self.column.ordinal_month, "ordinal_month")
+        return self.series_of(self.column.ordinal_month, "ordinal_month")
 
     @property
     def month_code(self) -> pd.Series:
         """The month codes, such as M05L."""
-        return self._series(self.column.month_code, "month_code")
+        return self.series_of(self.column.month_code, "month_code")
 
     @property
     def month_is_leap(self) -> pd.Series:
         """Whether the months are leap months."""
-        return self._series(self.column.month_is_leap, "month_is_leap")
+        return self.series_of(self.column.month_is_leap, "month_is_leap")
 
     @property
     def day(self) -> pd.Series:
         """The days of the months."""
-        return self._series(self.column.day, "day")
+        return self.series_of(self.column.day, "day")
 
     @property
     def day_number(self) -> pd.Series:
         """The day numbers (rata die)."""
-        return self._series(self.column.day_number, "day_number")
+        return self.series_of(self.column.day_number, "day_number")
 
     @property
     def weekday(self) -> pd.Series:
         """The days of the week, from 1 for Monday to 7 for Sunday."""
-        return self._series(self.column.weekday, "weekday")
+        return self.series_of(self.column.weekday, "weekday")
 
     @property
     def cause(self) -> pd.Series:
@@ -166,7 +166,7 @@ class Dates:
         if isinstance(other, pd.Series):
             other = other.reindex(self.index)
         apart = self.column.until(days_of(other), largest_unit)
-        parts = [self._series(getattr(apart, it), it) for it in ("years", "months", "weeks", "days")]
+        parts = [self.series_of(getattr(apart, it), it) for it in ("years", "months", "weeks", "days")]
         return pd.concat([*parts, pd.Series(apart.cause, index=self.index, name="cause", dtype="category")], axis=1)
 
 
