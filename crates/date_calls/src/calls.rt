@@ -17,7 +17,8 @@ use crate::durations::{CalendarDuration, Difference, Sum, duration_of, told};
 use crate::eras::EraOf;
 use crate::fields::{CalendarFields, OfFields, fields_of};
 use crate::outcomes::{
-    DONE, CalendarOutcome, INVALID_DAY_NUMBER, NO_ROOM, UNKNOWN_OPTION, fault_of_fields, fault_of_sum,
+    CalendarOutcome, DONE, INVALID_DAY_NUMBER, NO_ROOM, UNKNOWN_OPTION, fault_of_fields,
+    fault_of_sum,
 };
 use crate::rooms::put;
 use cal_types::{DateAddOptions, DateDifferenceOptions, DateFields, DateFromFieldsOptions};
