@@ -290,18 +290,13 @@ def of_fields(
     leap, common_code, malformed = ma.asarray(month_is_leap), "", ma.asarray(False)
     if isinstance(month_code, str):
         common_code = month_code
+    elif month is not None:
+        raise TooManyFields(given="month and month_code")
     else:
-        if month is not None:
-            raise TooManyFields(given="month and month_code")
         columns["month_number"], leap, malformed = _months_of(ma.asarray(month_code))
-    shape = np.broadcast_shapes(leap.shape, *(it.shape for it in columns.values()))
-    fields, refused, hidden = np.zeros(shape, FIELDS), np.zeros(shape, np.uint8), np.zeros(shape, np.bool_)
-    fields["month_is_leap"] = ma.getdata(leap)
-    for name, column in columns.items():
-        _give(fields, refused, name, column)
-        hidden |= ma.getmaskarray(column)
-    refused[np.broadcast_to(ma.getdata(malformed), shape)] = MonthCodeSyntax.code
-    parts, outcomes = _rooms(shape)
+    fields, refused, hidden = _fields_of(columns, leap)
+    refused[np.broadcast_to(ma.getdata(malformed), fields.shape)] = MonthCodeSyntax.code
+    parts, outcomes = _rooms(fields.shape)
     era_text, code_text = era.encode(), common_code.encode()
     code = library.icu_calendar_dates_of_fields(
         *(chosen, source, *address(fields), era_text, len(era_text), code_text, len(code_text)),
@@ -309,6 +304,17 @@ def of_fields(
     )
     settle(code)
     return _told(chosen, source, parts, outcomes, hidden, refused)
+
+
+def _fields_of(columns: dict[str, Masked], leap: Masked) -> tuple[NDArray[Any], Bytes, Flags]:
+    """Returns columns of fields as the call takes them, which places are refused, and which have no value."""
+    shape = np.broadcast_shapes(leap.shape, *(it.shape for it in columns.values()))
+    fields, refused, hidden = np.zeros(shape, FIELDS), np.zeros(shape, np.uint8), np.zeros(shape, np.bool_)
+    fields["month_is_leap"] = ma.getdata(leap)
+    for name, column in columns.items():
+        _give(fields, refused, name, column)
+        hidden |= ma.getmaskarray(column)
+    return fields, refused, hidden
 
 
 HAS = {"extended_year": "has_extended_year", "era_year": "has_era_year", "month_number": "has_month", "ordinal_month": "has_ordinal_month"}

@@ -31,6 +31,27 @@ def said(calendar: Calendar, given: dict[str, Any]) -> str:
     return ", ".join([repr(calendar.program_name), *(f"{name}={it!r}" for name, it in given.items() if it is not None and it != "" and it is not False)])
 
 
+def fields_of(calendar: Calendar, given: dict[str, Any]) -> Fields:
+    """Returns fields as a call takes them. Raises OutOfRange for a number that its field can't hold."""
+    if not (fits(given["year"], -(2**31), 2**31 - 1) and fits(given["era_year"], -(2**31), 2**31 - 1)):
+        raise OutOfRange(given=said(calendar, given))
+    if not all(fits(given[it], 0, MOST_PART) for it in ("month", "ordinal_month", "day")):
+        raise OutOfRange(given=said(calendar, given), advice="A month and a day from 1 would do.")
+    return Fields(
+        era_year=given["era_year"] or 0,
+        has_era_year=given["era_year"] is not None,
+        extended_year=given["year"] or 0,
+        has_extended_year=given["year"] is not None,
+        month_number=given["month"] or 0,
+        month_is_leap=given["month_is_leap"],
+        has_month=given["month"] is not None,
+        ordinal_month=given["ordinal_month"] or 0,
+        has_ordinal_month=given["ordinal_month"] is not None,
+        day=given["day"] or 0,
+        has_day=given["day"] is not None,
+    )
+
+
 @dataclass(frozen=True, eq=False)
 class Date:
     """A date of a calendar.
@@ -106,23 +127,7 @@ class Date:
         chosen, source = Calendar.of(calendar), Years.of(years)
         given: dict[str, Any] = {"year": year, "era": era, "era_year": era_year, "month": month, "month_is_leap": month_is_leap, "month_code": month_code}
         given.update(ordinal_month=ordinal_month, day=day)
-        if not (fits(year, -(2**31), 2**31 - 1) and fits(era_year, -(2**31), 2**31 - 1)):
-            raise OutOfRange(given=said(chosen, given))
-        if not all(fits(it, 0, MOST_PART) for it in (month, ordinal_month, day)):
-            raise OutOfRange(given=said(chosen, given), advice="A month and a day from 1 would do.")
-        fields = Fields(
-            era_year=era_year or 0,
-            has_era_year=era_year is not None,
-            extended_year=year or 0,
-            has_extended_year=year is not None,
-            month_number=month or 0,
-            month_is_leap=month_is_leap,
-            has_month=month is not None,
-            ordinal_month=ordinal_month or 0,
-            has_ordinal_month=ordinal_month is not None,
-            day=day or 0,
-            has_day=day is not None,
-        )
+        fields = fields_of(chosen, given)
         era_text, code_text = era.encode(), month_code.encode()
         parts, limit = DateParts(), c_uint8()
         code = library.icu_calendar_date_of_fields(

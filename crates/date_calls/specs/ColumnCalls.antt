@@ -1,5 +1,5 @@
 -- What the calls on columns answer: at every place what the call on one date answers.
-use Rattle.std.specs.Prelude.{◌≡◌, ℕ, ℤ, nat_eq, List, length, Option, Some, None}
+use Rattle.std.specs.Prelude.{ℕ, ℤ, List, length, Option, Some, None}
 use Rattle.std.specs.List.{HoldsAt}
 use Rattle.cal_types.specs.CalendarSystem.{CalendarSystem}
 use Rattle.cal_types.specs.declared.duration.DateDuration.{DateDuration}

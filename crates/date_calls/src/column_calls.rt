@@ -1,9 +1,9 @@
 //! The calls on columns of dates, as `icu_calendar_c` and `icu_calendar_wasm` export them.
 
-ghost use Rattle.std.specs.Prelude.{◌≡◌, length, MatchResult};
+ghost use Rattle.std.specs.Prelude.{length, MatchResult};
 ghost use Rattle.date_calls.specs.Calendars.{calendar_of, choice_system};
 ghost use Rattle.date_calls.specs.Codes.{overflow_of_code, strategy_of_code, unit_of_code};
-ghost use Rattle.date_calls.specs.ColumnCalls.{AddEach, AddToEach, DifferEach, NameEach, NamesAt, ShowsDayAt};
+ghost use Rattle.date_calls.specs.ColumnCalls.{AddEach, AddToEach, DifferEach, NameEach, ShowsDayAt};
 ghost use Rattle.date_calls.specs.Columns.{AreLeft, Fills};
 ghost use Rattle.date_calls.specs.Durations.{duration_given};
 

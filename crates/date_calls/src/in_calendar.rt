@@ -1,6 +1,6 @@
 //! The calls on one date, in a calendar in its own type.
 
-ghost use Rattle.std.specs.Prelude.{◌≡◌, Some};
+ghost use Rattle.std.specs.Prelude.{Some};
 ghost use Rattle.cal_types.specs.Adding.{add_overflow_of};
 ghost use Rattle.cal_types.specs.Bag.{bag_of};
 ghost use Rattle.date_calls.specs.Calls.{AddsIn, AddsTo, DiffersIn, NamesDate, ShowsDay};

@@ -1,6 +1,6 @@
 //! Weeks and weekdays of a column of day numbers.
 
-ghost use Rattle.std.specs.Prelude.{◌≡◌, length};
+ghost use Rattle.std.specs.Prelude.{length};
 ghost use Rattle.date_calls.specs.Columns.{Fills};
 ghost use Rattle.date_calls.specs.Weeks.{AreWeekParts, IsWeekdayOf, ShowsWeek, ShowsWeekAt};
 
