@@ -36,7 +36,15 @@ if "$python" -c 'import ensurepip, setuptools, wheel' 2>/dev/null; then
   "$python" -m venv --system-site-packages "$room/venv"
   # A copy, so that the build leaves nothing beside the sources. The library is named, and then in the wheel.
   cp -r "$here" "$room/package"
-  "$room/venv/bin/pip" install --quiet --no-index --no-build-isolation "$room/package"
+  extras=
+  if "$python" -c 'import dask, distributed, numpy, pandas' 2>/dev/null; then
+    extras='[arrays,pandas,dask]'
+  else
+    lacks "the extras of the wheel, since $python has no NumPy, pandas, Dask or distributed"
+  fi
+  "$room/venv/bin/pip" install --quiet --no-index --no-build-isolation "$room/package$extras"
+  "$room/venv/bin/pip" wheel --quiet --no-deps --no-index --no-build-isolation --wheel-dir "$room" "$room/package"
+  # From here on only the installed package is there.
   unset ICU_CALENDAR_LIBRARY
   cd "$room"
   "$room/venv/bin/python" - "$here/README.md" <<'LINES'
@@ -52,6 +60,17 @@ assert icu_calendar.library.library._name.startswith(sys.prefix), icu_calendar.l
 have = all(importlib.util.find_spec(it) for it in ("numpy", "pandas"))
 result = doctest.testfile(sys.argv[1], module_relative=False) if have else doctest.TestResults(0, 1)
 sys.exit(result.failed or not result.attempted)
+LINES
+  # The wheel alone, where there is no other library.
+  "$python" -m venv "$room/plain"
+  "$room/plain/bin/pip" install --quiet --no-index "$room"/*.whl
+  "$room/plain/bin/python" - <<'LINES'
+import importlib.util
+
+from icu_calendar import Date
+
+assert importlib.util.find_spec("numpy") is None
+assert Date.of_fields("chinese", year=2024, month=1, day=1).isoformat() == "2024-02-10[u-ca=chinese]"
 LINES
 else
   lacks "the wheel, since $python has no ensurepip, setuptools or wheel"
