@@ -25,6 +25,7 @@ from dataclasses import dataclass
 from pathlib import Path
 from typing import Any
 
+import dask
 import numpy as np
 import pandas as pd
 from distributed import Client, LocalCluster, as_completed
@@ -36,6 +37,8 @@ from icu_calendar.pandas import Dates
 FIRST, LAST, INVALID, EVERY = 620547, 803533, 2**40, 1000
 # How often a partition is tried when the workers that had it died.
 RETRIES = 10
+# How long a worker may be silent before its partitions are given to others, where its end isn't noticed at once.
+SILENCE = "60 seconds"
 
 
 @dataclass(frozen=True)
@@ -156,6 +159,7 @@ def main() -> int:
         with Client(given.scheduler) as client:
             counts = run(client, given)
     else:
+        dask.config.set({"distributed.scheduler.worker-ttl": SILENCE})
         with LocalCluster(n_workers=given.workers, threads_per_worker=1, host="127.0.0.1", dashboard_address=None) as cluster, Client(cluster) as client:
             counts = run(client, given)
     for cause, count in sorted(counts.items()):

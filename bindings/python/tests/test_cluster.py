@@ -18,6 +18,7 @@ os.environ["PYTHONPATH"] = os.pathsep.join(it for it in (str(EXAMPLES), str(EXAM
 
 try:
     import cluster
+    import dask
     import pandas as pd
     from distributed import Client, LocalCluster
 except ImportError:
@@ -33,6 +34,7 @@ def asked(out: Path, files: tuple = ()) -> argparse.Namespace:
 @unittest.skipIf(cluster is None, "Dask or pandas is missing")
 class OnACluster(unittest.TestCase):
     def setUp(self):
+        dask.config.set({"distributed.scheduler.worker-ttl": "20 seconds"})
         room = tempfile.TemporaryDirectory()
         self.addCleanup(room.cleanup)
         self.room = Path(room.name)
