@@ -10,6 +10,7 @@ import threading
 import time
 import unittest
 from pathlib import Path
+from unittest import mock
 
 EXAMPLES = Path(__file__).resolve().parents[3] / "examples"
 sys.path.insert(0, str(EXAMPLES))
@@ -35,6 +36,10 @@ def asked(out: Path, files: tuple = ()) -> argparse.Namespace:
 class OnACluster(unittest.TestCase):
     def setUp(self):
         dask.config.set({"distributed.scheduler.worker-ttl": "20 seconds"})
+        self.shown = []
+        quiet = mock.patch.object(cluster, "progress", lambda *counts: self.shown.append(counts))
+        quiet.start()
+        self.addCleanup(quiet.stop)
         room = tempfile.TemporaryDirectory()
         self.addCleanup(room.cleanup)
         self.room = Path(room.name)
@@ -59,6 +64,7 @@ class OnACluster(unittest.TestCase):
         counts = cluster.run(self.client, asked(out))
         killer.join()
         self.assertLess(self.killed_at, PARTITIONS)
+        self.assertEqual(self.shown, [(done, PARTITIONS) for done in range(PARTITIONS + 1)])
         self.assertEqual(counts["done"] + counts["InvalidDayNumber"], COUNT)
         self.assertEqual(counts["InvalidDayNumber"], PARTITIONS * 2)
         for it in cluster.partitions(asked(out)):
