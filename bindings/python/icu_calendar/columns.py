@@ -9,7 +9,7 @@ import numpy as np
 from numpy.typing import NDArray
 
 from .dates import Date, day_number_of
-from .errors import BY_CODE
+from .errors import BY_CODE, InvalidDayNumber
 
 # The layouts of `icu_calendar_date`, `_duration`, `_fields`, `_outcome` and `_week` in the header.
 DATE = np.dtype(
@@ -38,6 +38,9 @@ assert (DATE.itemsize, DURATION.itemsize, FIELDS.itemsize, OUTCOME.itemsize, WEE
 
 # The code of a place that had no value: NaT, or a masked one. No call returns it.
 MISSING = 255
+# A number that is no valid day, for numbers that an int64 can't hold.
+NO_DAY = 2**62
+
 # The day number of 1970-01-01, where `datetime64` counts from.
 EPOCH = 719163
 
@@ -132,6 +135,8 @@ def day_column(given: DaysLike) -> tuple[Ints, Flags | None]:
         return _object_days(values, hidden)
     if values.dtype.kind not in "iu":
         raise TypeError(f"a column of days has day numbers, datetime64 or dates, and not {values.dtype}")
+    if values.dtype.kind == "u":
+        values = np.minimum(values, np.uint64(NO_DAY))
     return values.astype(np.int64, copy=False), hidden
 
 
@@ -151,5 +156,12 @@ def _epoch_days(values: NDArray[Any], hidden: Flags | None) -> tuple[Ints, Flags
 def _object_days(values: NDArray[Any], hidden: Flags | None) -> tuple[Ints, Flags | None]:
     """Returns the days of Python objects, where None is no value. This is the one place with a step of Python for each date."""
     absent = np.fromiter((it is None for it in values.flat), dtype=np.bool_, count=values.size).reshape(values.shape)
-    numbers = (0 if it is None else day_number_of(it) for it in values.flat)
+    numbers = (0 if it is None else _number_of(it) for it in values.flat)
     return np.fromiter(numbers, dtype=np.int64, count=values.size).reshape(values.shape), _joined(hidden, absent)
+
+
+def _number_of(given: Any) -> int:
+    try:
+        return day_number_of(given)
+    except InvalidDayNumber:
+        return NO_DAY

@@ -60,6 +60,16 @@ class Conversions(unittest.TestCase):
             with self.assertRaises(TypeError):
                 arrays.dates(wrong)
 
+    def test_numbers_that_are_no_days_spoil_no_other(self):
+        for given in (np.array([738886, 2**64 - 1, 738886], dtype=np.uint64), [738886, 2**70, datetime.date(2024, 1, 1)], [738886, 10**9, None]):
+            column = arrays.dates(given)
+            self.assertEqual(column.cause.tolist()[:2], ["", "InvalidDayNumber"])
+            self.assertEqual(column.year.tolist()[:2], [2024, None])
+
+    def test_times_belong_to_their_days(self):
+        times = np.array(["1969-12-31T23:59:59", "0001-01-01T00:00:01", "-0001-12-31T12"], dtype="datetime64[s]")
+        self.assertEqual(arrays.dates(times).day_number.tolist(), [719162, 1, -366])
+
     def test_other_shapes_and_strides(self):
         days = np.arange(738000, 738024)
         wanted = arrays.dates(days, "hebrew").day.tolist()
