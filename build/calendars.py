@@ -81,8 +81,12 @@ def wrapped(words: Iterable[str], first: str, other: str, between: str) -> str:
     return "\n".join([*lines, line.rstrip()]) + "\n"
 
 
+def quoted_words(words: Iterable[str]) -> list[str]:
+    return [f'"{it}"' for it in words]
+
+
 def quoted(kinds: list[Kind]) -> list[str]:
-    return [f'"{it.name}"' for it in kinds]
+    return quoted_words(it.name for it in kinds)
 
 
 def c_codes() -> str:
@@ -92,12 +96,24 @@ def c_codes() -> str:
     return "".join(f"{line:{most}} /* {it.note} */\n" if it.note else f"{line}\n" for line, it in zip(lines, CODED))
 
 
-def c_names() -> str:
-    return wrapped([f"{it}," for it in quoted(CODED)], "    ", "    ", " ")
+def c_names(indent: str = " " * 8) -> str:
+    return wrapped([f"{it}," for it in quoted(CODED)], indent, indent, " ")
+
+
+def postgres_names() -> str:
+    return c_names(" " * 4)
 
 
 def python_codes() -> str:
     return "".join(f"    {it.constant} = {it.code}\n" for it in CODED)
+
+
+def python_tuple(words: list[str]) -> str:
+    return f'({", ".join(quoted_words(words))}{"," if len(words) == 1 else ""})'
+
+
+def python_eras() -> str:
+    return "".join(f'    "{it.name}": {python_tuple(it.eras)},\n' for it in CODED)
 
 
 def rust_codes() -> str:
@@ -188,10 +204,11 @@ class List(NamedTuple):
 
 LISTS = [
     List("bindings/c/include/icu_calendar.h", "codes", c_codes),
-    List("bindings/c/examples/dates.c", "names", c_names),
+    List("bindings/c/include/icu_calendar.h", "names", c_names),
     List("bindings/postgres/icu_calendar--1.0.sql", "calendars", sql_rows),
-    List("bindings/postgres/src/names.c", "names", c_names),
+    List("bindings/postgres/src/names.c", "names", postgres_names),
     List("bindings/python/icu_calendar/codes.py", "codes", python_codes),
+    List("bindings/python/icu_calendar/codes.py", "eras", python_eras),
     List("bindings/rust/icu_calendar_proved/src/engine.rs", "codes", rust_codes),
     List("bindings/rust/icu_calendar_proved/src/any_calendar.rs", "names", rust_names),
     List("bindings/web/icu_calendar.mjs", "type", web_type),

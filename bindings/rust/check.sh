@@ -1,11 +1,13 @@
 #!/usr/bin/env bash
 # Tests the crate for Rust, offline: its tests, its examples and those of its docs, without `std` and without `alloc`, then its docs, clippy, the
-# form of the code, and the tests once more under valgrind. Prints a note if cargo, clippy, rustfmt or valgrind is missing, and runs the rest.
+# form of the code, and the tests once more under valgrind. Prints a note if cargo, clippy, rustfmt or valgrind is missing, and runs the rest;
+# with CI=true that is a failure.
 # ICU_CALENDAR_LIB may name an archive; otherwise bindings/c/build.sh makes it.
 set -eu
 top=$(cd "$(dirname "${BASH_SOURCE[0]}")/../.." && pwd)
+. "$top/build/lacks.sh"
 if ! command -v cargo >/dev/null; then
-  echo "bindings/rust/check: not tested, since there is no cargo"
+  lacks "everything, since there is no cargo"
   exit 0
 fi
 if [ -z "${ICU_CALENDAR_LIB:-}" ]; then
@@ -22,13 +24,13 @@ if cargo clippy --version >/dev/null 2>&1; then
   cargo clippy --quiet --all-targets -- -D warnings
   cargo clippy --quiet --manifest-path "$top/bench/from_rust/Cargo.toml" -- -D warnings
 else
-  echo "bindings/rust/check: clippy is missing"
+  lacks "what clippy tests, since there is no clippy"
 fi
 if cargo fmt --version >/dev/null 2>&1; then
   cargo fmt --check
   cargo fmt --check --manifest-path "$top/bench/from_rust/Cargo.toml"
 else
-  echo "bindings/rust/check: rustfmt is missing"
+  lacks "what rustfmt tests, since there is no rustfmt"
 fi
 if command -v valgrind >/dev/null; then
   # Each test is a program of its own, whose path cargo prints.
@@ -37,6 +39,6 @@ if command -v valgrind >/dev/null; then
     valgrind --quiet --error-exitcode=1 "$program" --quiet --test-threads=1 >/dev/null
   done
 else
-  echo "bindings/rust/check: valgrind is missing"
+  lacks "what valgrind tests, since there is no valgrind"
 fi
 echo "bindings/rust/check: the crate for Rust agrees with the cases and with the program"

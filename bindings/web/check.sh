@@ -1,19 +1,20 @@
 #!/usr/bin/env bash
 # Tests the module in Node over the cases, and the page in a headless browser against the program. Prints a note if Node with 64-bit memories or
-# the browser is missing, and runs the remaining tests. With a file's name it writes a picture of the page there.
+# the browser is missing, and runs the remaining tests; with CI=true that is a failure. With a file's name it writes a picture of the page there.
 set -eu
 top=$(cd "$(dirname "${BASH_SOURCE[0]}")/../.." && pwd)
+. "$top/build/lacks.sh"
 picture=${1:--}
 # Node 20 to 23 have 64-bit memories behind a flag, later ones have them without.
 memory=
 if ! command -v node >/dev/null; then
-  echo "bindings/web/check: not tested, since there is no node"
+  lacks "everything, since there is no node"
   exit 0
 fi
 if ! node -e 'new WebAssembly.Module(new Uint8Array([0, 97, 115, 109, 1, 0, 0, 0, 5, 3, 1, 4, 1]))' 2>/dev/null; then
   memory=--experimental-wasm-memory64
   if ! node "$memory" -e 'new WebAssembly.Module(new Uint8Array([0, 97, 115, 109, 1, 0, 0, 0, 5, 3, 1, 4, 1]))' 2>/dev/null; then
-    echo "bindings/web/check: not tested, since $(node --version) has no 64-bit memories"
+    lacks "everything, since node $(node --version) has no 64-bit memories"
     exit 0
   fi
 fi
@@ -27,4 +28,4 @@ for browser in "${BROWSER:-}" chromium chromium-browser google-chrome; do
     exit
   fi
 done
-echo "bindings/web/check: the page is not tested, since there is no Chromium"
+lacks "the page, since there is no Chromium"

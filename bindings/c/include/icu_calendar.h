@@ -1,19 +1,31 @@
-/* Dates of twenty calendars, and the program calspan as a call.
+/* Dates of twenty calendars, one by one or in columns, and the program calspan as a call.
  *
- * Link with libicu_calendar.so, or with libicu_calendar_c.a and the toolchain's liblibc_c.a. The latter has three
- * functions over malloc, realloc and free, which only `calspan` calls.
+ * Link with the shared object, or with the archive and the toolchain's liblibc_c.a. The latter has three functions over
+ * malloc, realloc and free, which only `calspan` calls. In the repository, after bindings/c/build.sh:
+ *
+ *     cc program.c -I bindings/c/include -L crates/icu_calendar_c/out -licu_calendar \
+ *        -Wl,-rpath,"$PWD/crates/icu_calendar_c/out"
+ *     cc program.c -I bindings/c/include crates/icu_calendar_c/out/libicu_calendar_c.a \
+ *        crates/icu_calendar_c/out/liblibc_c.a
  *
  * Callers keep two rules; all other arguments are checked:
  * - No pointer is null, not even for zero bytes, and what two pointers point to doesn't overlap.
  * - `calspan` allocates, so don't call it from a signal handler, nor in the forked child of a process with threads.
  *
  * Every call returns a code; ICU_CALENDAR_DONE is 0. The caller never frees anything. Calls on several threads need no
- * lock, since nothing is kept between calls. */
+ * lock, since nothing is kept between calls. The functions at the end, with names and texts, are compiled with the
+ * caller and aren't proved. */
 #ifndef ICU_CALENDAR_H
 #define ICU_CALENDAR_H
 
 #include <stddef.h>
 #include <stdint.h>
+#include <string.h>
+
+/* The version of these calls. A minor version adds calls and codes, and changes none. */
+#define ICU_CALENDAR_VERSION_MAJOR 1
+#define ICU_CALENDAR_VERSION_MINOR 1
+#define ICU_CALENDAR_VERSION "1.1"
 
 #ifdef __cplusplus
 extern "C" {
@@ -88,6 +100,7 @@ enum {
     ICU_CALENDAR_UNKNOWN_OPTION = 3,
     ICU_CALENDAR_INVALID_DAY_NUMBER = 4, /* not from -365242499 to 365242134 */
     ICU_CALENDAR_NO_ROOM = 8,
+    ICU_CALENDAR_LENGTHS_DIFFER = 9, /* of columns */
     ICU_CALENDAR_NOT_ENOUGH_FIELDS = 10,
     ICU_CALENDAR_TOO_MANY_FIELDS = 11,
     ICU_CALENDAR_OUT_OF_RANGE = 12, /* a year, a duration or a day number */
@@ -149,6 +162,19 @@ typedef struct {
     uint8_t is_negative; /* not 0 if it leads back in time; calls fill in 0 or 1 */
 } icu_calendar_duration;
 
+/* What a call returned for a place of columns. */
+typedef struct {
+    uint8_t code; /* as above */
+    uint8_t max;  /* the greatest valid number for 19 and 20, otherwise 0 */
+} icu_calendar_outcome;
+
+/* The ISO 8601 week of a day, and its weekday. */
+typedef struct {
+    int32_t year;    /* that the week belongs to */
+    uint8_t week;    /* from 1 to 53 */
+    uint8_t weekday; /* from 1 for Monday to 7 for Sunday */
+} icu_calendar_week;
+
 /* The layout of the structs, as the library reads them. */
 #if defined(__cplusplus) && __cplusplus >= 201103L
 #define ICU_CALENDAR_ASSERT(condition) static_assert(condition, #condition)
@@ -185,6 +211,13 @@ ICU_CALENDAR_AT(icu_calendar_duration, weeks, 8);
 ICU_CALENDAR_AT(icu_calendar_duration, days, 12);
 ICU_CALENDAR_AT(icu_calendar_duration, is_negative, 16);
 ICU_CALENDAR_ASSERT(sizeof(icu_calendar_duration) == 20);
+ICU_CALENDAR_AT(icu_calendar_outcome, code, 0);
+ICU_CALENDAR_AT(icu_calendar_outcome, max, 1);
+ICU_CALENDAR_ASSERT(sizeof(icu_calendar_outcome) == 2);
+ICU_CALENDAR_AT(icu_calendar_week, year, 0);
+ICU_CALENDAR_AT(icu_calendar_week, week, 4);
+ICU_CALENDAR_AT(icu_calendar_week, weekday, 5);
+ICU_CALENDAR_ASSERT(sizeof(icu_calendar_week) == 8);
 
 /* Converts a day number to a date of a calendar. Fails with 1, 2 or 4, in this order. */
 uint8_t icu_calendar_date_of_day(uint8_t calendar, uint8_t years, int64_t day, icu_calendar_date *date);
@@ -217,12 +250,120 @@ uint8_t icu_calendar_week_of_year(int64_t day, int32_t *year, uint8_t *week);
 /* Computes the day number of Easter in a year of the Gregorian or of the Julian calendar. Fails with 3. */
 uint8_t icu_calendar_easter(uint8_t rule, int32_t year, int64_t *day);
 
+/* Calls on columns. Each chooses the calendar once and does a call on one date at every place: `codes` or `outcomes`
+ * has there what that call returns, and an output whose code isn't 0 is unchanged. So an invalid date changes no other
+ * place. The call itself returns 0, or it changes nothing and fails with 1, 2 or 3 for an unknown calendar, source of
+ * years or option, or with 9 if two columns differ in length. */
+
+/* `icu_calendar_date_of_day` for every day number. To show a column of another calendar's dates, pass their day
+ * numbers. */
+uint8_t icu_calendar_dates_of_days(uint8_t calendar, uint8_t years, const int64_t *days, size_t days_len,
+                                   icu_calendar_date *dates, size_t dates_len, uint8_t *codes, size_t codes_len);
+
+/* `icu_calendar_until` for every two day numbers. */
+uint8_t icu_calendar_until_each(uint8_t calendar, uint8_t years, const int64_t *first, size_t first_len,
+                                const int64_t *second, size_t second_len, uint8_t unit,
+                                icu_calendar_duration *durations, size_t durations_len, uint8_t *codes,
+                                size_t codes_len);
+
+/* `icu_calendar_add` for every day number: with one duration, and with a duration for each. */
+uint8_t icu_calendar_add_to_each(uint8_t calendar, uint8_t years, const int64_t *days, size_t days_len,
+                                 const icu_calendar_duration *duration, uint8_t overflow, icu_calendar_date *dates,
+                                 size_t dates_len, icu_calendar_outcome *outcomes, size_t outcomes_len);
+uint8_t icu_calendar_add_each(uint8_t calendar, uint8_t years, const int64_t *days, size_t days_len,
+                              const icu_calendar_duration *durations, size_t durations_len, uint8_t overflow,
+                              icu_calendar_date *dates, size_t dates_len, icu_calendar_outcome *outcomes,
+                              size_t outcomes_len);
+
+/* `icu_calendar_date_of_fields` for all fields, with one era and one month code for all, or none. */
+uint8_t icu_calendar_dates_of_fields(uint8_t calendar, uint8_t years, const icu_calendar_fields *fields,
+                                     size_t fields_len, const uint8_t *era, size_t era_len, const uint8_t *month_code,
+                                     size_t month_code_len, uint8_t overflow, uint8_t missing,
+                                     icu_calendar_date *dates, size_t dates_len, icu_calendar_outcome *outcomes,
+                                     size_t outcomes_len);
+
+/* The week and the weekday of every day number. `codes` has 0 or 4. */
+uint8_t icu_calendar_weeks_of_days(const int64_t *days, size_t days_len, icu_calendar_week *weeks, size_t weeks_len,
+                                   uint8_t *codes, size_t codes_len);
+
 /* Runs the program `calspan`: `words` is its command line as one text in UTF-8, with a single space between two words,
  * and `input` is its standard input. Its output is written to the start of `output`, and the number of its bytes to
  * `*written`. With CALSPAN_NO_ROOM `output` is unchanged, and `*written` is the number of bytes needed. With 2, 4 and 5
  * nothing is written. */
 uint8_t calspan(const uint8_t *words, size_t words_len, const uint8_t *input, size_t input_len, uint8_t *output,
                 size_t output_len, size_t *written);
+
+/* Returns the name of a calendar's code, such as "hebrew", or NULL for an unknown code. */
+static inline const char *icu_calendar_name(uint8_t calendar) {
+    static const char *const names[] = {
+        /* generated by build/calendars.py: names */
+        "buddhist", "chinese", "coptic", "dangi", "ethiopic", "ethioaa", "gregorian", "hebrew", "indian", "islamic-civil",
+        "islamic-simulated", "islamic-tbla", "islamic-umalqura", "iso", "japanese", "julian", "persian", "roc", "islamic-type1-friday",
+        "islamic-type1-thursday",
+        /* end of names */
+    };
+    return calendar < sizeof names / sizeof *names ? names[calendar] : NULL;
+}
+
+/* Returns the code of a calendar by its name, or -1 for an unknown name. CLDR's names "gregory" and "iso8601" do, too. */
+static inline int icu_calendar_by_name(const char *name) {
+    if (strcmp(name, "gregory") == 0) {
+        return ICU_CALENDAR_GREGORIAN;
+    }
+    if (strcmp(name, "iso8601") == 0) {
+        return ICU_CALENDAR_ISO;
+    }
+    for (uint8_t calendar = 0; icu_calendar_name(calendar); calendar++) {
+        if (strcmp(name, icu_calendar_name(calendar)) == 0) {
+            return calendar;
+        }
+    }
+    return -1;
+}
+
+/* Returns a sentence about a code that a call on dates returned. */
+static inline const char *icu_calendar_code_text(uint8_t code) {
+    switch (code) {
+    case ICU_CALENDAR_DONE:
+        return "The call succeeded.";
+    case ICU_CALENDAR_UNKNOWN_CALENDAR:
+        return "No calendar has the code.";
+    case ICU_CALENDAR_UNKNOWN_YEARS:
+        return "The code stands for neither computed nor published years.";
+    case ICU_CALENDAR_UNKNOWN_OPTION:
+        return "No option has the code.";
+    case ICU_CALENDAR_INVALID_DAY_NUMBER:
+        return "The day number isn't from -365242499 to 365242134.";
+    case ICU_CALENDAR_NO_ROOM:
+        return "The room is too short.";
+    case ICU_CALENDAR_LENGTHS_DIFFER:
+        return "The columns don't have the same length.";
+    case ICU_CALENDAR_NOT_ENOUGH_FIELDS:
+        return "A field that the date needs is missing.";
+    case ICU_CALENDAR_TOO_MANY_FIELDS:
+        return "Both a month and a month code are given.";
+    case ICU_CALENDAR_OUT_OF_RANGE:
+        return "A year, a duration or a date is out of range.";
+    case ICU_CALENDAR_INVALID_ERA:
+        return "The calendar doesn't have the era.";
+    case ICU_CALENDAR_INCONSISTENT_YEAR:
+        return "The era year and the extended year differ.";
+    case ICU_CALENDAR_MONTH_CODE_SYNTAX:
+        return "The month code isn't M, two digits and an optional L.";
+    case ICU_CALENDAR_MONTH_NOT_IN_CALENDAR:
+        return "No year of the calendar has the month.";
+    case ICU_CALENDAR_MONTH_NOT_IN_YEAR:
+        return "This year doesn't have the month.";
+    case ICU_CALENDAR_INCONSISTENT_MONTH:
+        return "The month and the ordinal month differ.";
+    case ICU_CALENDAR_INVALID_ORDINAL_MONTH:
+        return "The year doesn't have this ordinal month.";
+    case ICU_CALENDAR_INVALID_DAY:
+        return "The month doesn't have the day.";
+    default:
+        return "No call returns this code.";
+    }
+}
 
 #ifdef __cplusplus
 }

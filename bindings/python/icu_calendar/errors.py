@@ -1,32 +1,41 @@
-"""The errors of the calls."""
+"""The errors of the calls. Each says what was given and what would do."""
+
+from typing import ClassVar
 
 
 class CalendarError(ValueError):
     """A call on dates failed. `code` is the header's code, and `max` the greatest valid number, or 0 if the error has none."""
 
-    code = 0
+    code: ClassVar[int] = 0
+    # What would do; `{max}` stands for the greatest valid number.
+    advice: ClassVar[str] = ""
 
-    def __init__(self, limit: int = 0):
+    def __init__(self, limit: int = 0, given: str = "", advice: str = ""):
         self.max = limit
-        super().__init__(f"{type(self).__doc__}{f' At most {limit} would do.' if limit else ''}")
+        self.given = given
+        sentences = [type(self).__doc__ or "", (advice or self.advice).format(max=limit), f"Given: {given}." if given else ""]
+        super().__init__(" ".join(it for it in sentences if it))
 
 
 class UnknownCalendar(CalendarError):
-    """No calendar has the code."""
+    """No calendar has the name or code."""
 
     code = 1
+    advice = "A member of Calendar or its name, such as 'hebrew', would do."
 
 
 class UnknownYears(CalendarError):
     """The code stands for neither computed nor published years."""
 
     code = 2
+    advice = "Years.PUBLISHED or Years.COMPUTED would do."
 
 
 class UnknownOption(CalendarError):
     """No option has the code."""
 
     code = 3
+    advice = "A member of Overflow, Missing or Unit would do."
 
 
 class InvalidDayNumber(CalendarError):
@@ -35,40 +44,52 @@ class InvalidDayNumber(CalendarError):
     code = 4
 
 
+class LengthsDiffer(CalendarError):
+    """The columns don't have the same length."""
+
+    code = 9
+
+
 class NotEnoughFields(CalendarError):
     """A field that the date needs is missing."""
 
     code = 10
+    advice = "A year or an era with its era_year, a month, month_code or ordinal_month, and a day would do, or missing=Missing.ECMA."
 
 
 class TooManyFields(CalendarError):
     """Both a month and a month code are given."""
 
     code = 11
+    advice = "One of them would do."
 
 
 class OutOfRange(CalendarError):
     """A year, a duration or a date is out of range."""
 
     code = 12
+    advice = "Dates from -999999-01-01 to 999999-12-31 in the ISO calendar would do."
 
 
 class InvalidEra(CalendarError):
     """The calendar doesn't have the era."""
 
     code = 13
+    advice = "An era of Calendar.eras, or a year without an era, would do."
 
 
 class InconsistentYear(CalendarError):
     """The era year and the extended year differ."""
 
     code = 14
+    advice = "One of them would do."
 
 
 class MonthCodeSyntax(CalendarError):
     """The month code isn't `M`, two digits and an optional `L`."""
 
     code = 15
+    advice = "A code such as M05 or M05L would do."
 
 
 class MonthNotInCalendar(CalendarError):
@@ -81,27 +102,43 @@ class MonthNotInYear(CalendarError):
     """This year doesn't have the month."""
 
     code = 17
+    advice = "With overflow=Overflow.CONSTRAIN the month that stands in for it is taken."
 
 
 class InconsistentMonth(CalendarError):
     """The month and the ordinal month differ."""
 
     code = 18
+    advice = "One of them would do."
 
 
 class InvalidOrdinalMonth(CalendarError):
     """The year doesn't have this ordinal month."""
 
     code = 19
+    advice = "1 to {max} would do."
 
 
 class InvalidDay(CalendarError):
     """The month doesn't have the day."""
 
     code = 20
+    advice = "1 to {max} would do. With overflow=Overflow.CONSTRAIN the nearest day is taken."
 
 
-BY_CODE = {it.code: it for it in CalendarError.__subclasses__()}
+BY_CODE: dict[int, type[CalendarError]] = {it.code: it for it in CalendarError.__subclasses__()}
+
+
+class InvalidText(CalendarError):
+    """The text isn't a date of RFC 9557."""
+
+    advice = "A text such as 2024-03-01, +012024-03-01 or 2024-03-01[u-ca=hebrew] would do."
+
+
+def settle(code: int, limit: int = 0, given: str = "") -> None:
+    """Raises the error of a code, unless the code is 0."""
+    if code:
+        raise BY_CODE[code](limit, given)
 
 
 class ProgramError(ValueError):

@@ -2,8 +2,9 @@
 
 import ctypes
 import os
-from ctypes import POINTER, c_char_p, c_int32, c_int64, c_size_t, c_uint8, c_uint32
+from ctypes import POINTER, c_char_p, c_int32, c_int64, c_size_t, c_uint8, c_uint32, c_void_p
 from pathlib import Path
+from typing import Any
 
 NAME = "libicu_calendar.so"
 
@@ -48,7 +49,8 @@ class DurationParts(ctypes.Structure):
 
 
 TEXT = [c_char_p, c_size_t]
-TYPES = {
+COLUMN = [c_void_p, c_size_t]
+TYPES: dict[str, list[Any]] = {
     "icu_calendar_date_of_day": [c_uint8, c_uint8, c_int64, POINTER(DateParts)],
     "icu_calendar_date_of_fields": [
         *[c_uint8, c_uint8, POINTER(Fields)],
@@ -61,6 +63,12 @@ TYPES = {
     "icu_calendar_era_of_day": [c_uint8, c_uint8, c_int64, *TEXT, POINTER(c_size_t)],
     "icu_calendar_week_of_year": [c_int64, POINTER(c_int32), POINTER(c_uint8)],
     "icu_calendar_easter": [c_uint8, c_int32, POINTER(c_int64)],
+    "icu_calendar_dates_of_days": [c_uint8, c_uint8, *COLUMN, *COLUMN, *COLUMN],
+    "icu_calendar_until_each": [c_uint8, c_uint8, *COLUMN, *COLUMN, c_uint8, *COLUMN, *COLUMN],
+    "icu_calendar_add_to_each": [c_uint8, c_uint8, *COLUMN, POINTER(DurationParts), c_uint8, *COLUMN, *COLUMN],
+    "icu_calendar_add_each": [c_uint8, c_uint8, *COLUMN, *COLUMN, c_uint8, *COLUMN, *COLUMN],
+    "icu_calendar_dates_of_fields": [c_uint8, c_uint8, *COLUMN, *TEXT, *TEXT, c_uint8, c_uint8, *COLUMN, *COLUMN],
+    "icu_calendar_weeks_of_days": [*COLUMN, *COLUMN, *COLUMN],
     "calspan": [*TEXT, *TEXT, *TEXT, POINTER(c_size_t)],
 }
 
@@ -69,7 +77,8 @@ def places() -> list[Path]:
     """Where the shared object may be, the first place first."""
     here = Path(__file__).resolve().parent
     named = os.environ.get("ICU_CALENDAR_LIBRARY")
-    return [*([Path(named)] if named else []), here / NAME, here.parents[2] / "crates/icu_calendar_c/out" / NAME]
+    tops = [it / "crates/icu_calendar_c/out" / NAME for it in here.parents[2:3]]
+    return [*([Path(named)] if named else []), here / NAME, *tops]
 
 
 def load() -> ctypes.CDLL:

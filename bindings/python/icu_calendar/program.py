@@ -6,7 +6,7 @@ from collections.abc import Sequence
 from ctypes import byref, c_size_t, create_string_buffer
 from typing import NamedTuple
 
-from .codes import Calendar
+from .codes import Calendar, CalendarLike, Unit, UnitLike
 from .errors import ProgramError, Refused
 from .library import library
 
@@ -25,8 +25,9 @@ def run(words: Sequence[str], source: bytes = b"") -> Outcome:
     """Runs the program on the words of a command line, with these bytes as its standard input.
 
     Raises MemoryError if there is no memory, and ValueError for a word that is empty or has a space."""
-    if any(not it or " " in it for it in words):
-        raise ValueError("a word is empty or holds a space")
+    for it in words:
+        if not it or " " in it:
+            raise ValueError(f"a word of the command line is neither empty nor holds a space: {it!r}")
     text = " ".join(words).encode()
     room, written = max(LEAST_ROOM, 4 * len(source)), c_size_t()
     while True:
@@ -64,34 +65,43 @@ def lines_of(words: Sequence[str], source: bytes) -> list[str]:
     return output.decode().splitlines()
 
 
-def anniversaries(
-    calendar: Calendar, month_code: str, day: int, first: int, last: int, *, shown: Calendar = Calendar.ISO, exact: bool = True, rows: bytes = b""
+def anniversary_lines(
+    calendar: CalendarLike,
+    month_code: str,
+    day: int,
+    first: int,
+    last: int,
+    *,
+    shown: CalendarLike = Calendar.ISO,
+    exact: bool = True,
+    rows: bytes = b"",
 ) -> list[str]:
-    """Returns the anniversaries of a month and a day of a calendar, from day number `first` to `last`: a line each, with the date there and in
-    `shown`. Years without the month or day are skipped or, if `exact` is False, have the nearest one."""
-    names = calendar.program_name, shown.program_name, "exact" if exact else "constrain"
+    """Returns the program's anniversaries of a month and a day of a calendar, from day number `first` to `last`, over the years of rows: a line
+    each, with the date there and in `shown`. Years without the month or day are skipped or, if `exact` is False, have the nearest one."""
+    names = Calendar.of(calendar).program_name, Calendar.of(shown).program_name, "exact" if exact else "constrain"
     return lines_of(["anniversary", *names, month_code, str(day), str(first), str(last)], rows)
 
 
-def recurrences(
-    calendar: Calendar,
-    unit: str,
+def recurrence_lines(
+    calendar: CalendarLike,
+    unit: UnitLike,
     every: int,
     first: int,
     last: int,
     fields: Sequence[str],
     *,
-    shown: Calendar = Calendar.ISO,
+    shown: CalendarLike = Calendar.ISO,
     skip: bool = True,
     rows: bytes = b"",
 ) -> list[str]:
-    """Returns the occurrences from day number `first` to `last`: every so many `years`, `months`, `weeks` or `days` from the date that fields
+    """Returns the program's occurrences from day number `first` to `last`, over the years of rows: every so many units from the date that fields
     such as `year=2024` name. A line each, with the index, the date there and in `shown`. Months or years without the day are skipped or, if
     `skip` is False, have the nearest one."""
-    names = calendar.program_name, shown.program_name, unit, str(every), "skip" if skip else "constrain"
-    return lines_of(["recur", *names, str(first), str(last), *fields], rows)
+    names = Calendar.of(calendar).program_name, Calendar.of(shown).program_name, Unit.of(unit).name.lower(), str(every)
+    return lines_of(["recur", *names, "skip" if skip else "constrain", str(first), str(last), *fields], rows)
 
 
-def holidays(book: bytes, first: int, last: int) -> list[str]:
-    """Returns the holidays of a book from day number `first` to `last`: a line each, with the ISO date and the name."""
+def holiday_lines(book: bytes, first: int, last: int) -> list[str]:
+    """Returns the program's holidays of a book from day number `first` to `last`, over computed years: a line each, with the ISO date and the
+    name."""
     return lines_of(["holidays", str(first), str(last)], book)

@@ -5,7 +5,8 @@ import unittest
 from concurrent.futures import ThreadPoolExecutor
 from pathlib import Path
 
-from icu_calendar import Calendar, anniversaries, holidays, recurrences, run, span
+from icu_calendar import Calendar, run, span
+from icu_calendar.program import anniversary_lines, holiday_lines, recurrence_lines
 
 TOP = Path(__file__).resolve().parents[3]
 CASES = TOP / "cases"
@@ -58,15 +59,15 @@ class Shorthands(unittest.TestCase):
         self.assertTrue(span(request, self.ROWS).endswith(b" P1Y\n"))
 
     def test_anniversaries(self):
-        lines = anniversaries(Calendar.CHINESE, "M01", 1, 738521, 739616, rows=self.ROWS)
+        lines = anniversary_lines(Calendar.CHINESE, "M01", 1, 738521, 739616, rows=self.ROWS)
         self.assertEqual([line.split("@")[-1] for line in lines], ["738542", "738926", "739280"])
 
     def test_recurrences(self):
-        lines = recurrences(Calendar.ISO, "months", 1, 738886, 738976, ["year=2024", "month=M01", "day=31"])
+        lines = recurrence_lines(Calendar.ISO, "months", 1, 738886, 738976, ["year=2024", "month=M01", "day=31"])
         self.assertEqual(len(lines), 2)
 
     def test_holidays(self):
-        lines = holidays((TOP / "examples/holidays.csv").read_bytes(), 738886, 739251)
+        lines = holiday_lines((TOP / "examples/holidays.csv").read_bytes(), 738886, 739251)
         self.assertTrue(lines)
 
 

@@ -100,10 +100,92 @@ class Arithmetic(unittest.TestCase):
                     with self.subTest(calendar=calendar.name, unit=unit.name):
                         self.assertEqual(here.add(here.until(b, unit), Overflow.CONSTRAIN), b)
 
+    def test_timedeltas(self):
+        day = datetime.timedelta(days=1)
+        self.assertEqual(iso(2024, 2, 28) + day, iso(2024, 2, 29))
+        self.assertEqual(day + iso(2024, 2, 28), iso(2024, 2, 29))
+        self.assertEqual(iso(2024, 3, 1) - day, iso(2024, 2, 29))
+        self.assertEqual(iso(2024, 3, 1) - iso(2024, 2, 28), 2 * day)
+        self.assertEqual(iso(2024, 3, 1) - datetime.date(2024, 2, 28), 2 * day)
+        self.assertEqual(datetime.date(2024, 3, 1) - iso(2024, 2, 28), 2 * day)
+        self.assertEqual((iso(2024, 3, 1).to_calendar("hebrew") + day).calendar, Calendar.HEBREW)
+        for wrong in (1, "P1D", 1.5, None):
+            with self.assertRaises(TypeError):
+                iso(2024, 3, 1) + wrong
+
     def test_texts(self):
         self.assertEqual(str(iso(2024, 1, 1).until(iso(2022, 11, 30), Unit.YEARS)), "-P1Y1M1D")
         self.assertEqual(str(Duration()), "P0D")
         self.assertEqual(repr(iso(-1, 2, 3)), "Date(iso -1-M02-03)")
+
+
+class WithPython(unittest.TestCase):
+    """Dates beside `datetime.date`, and what its users expect."""
+
+    def test_they_are_compared_by_their_days(self):
+        there, here = datetime.date(2024, 2, 23), Date.of_fields("hebrew", year=5784, month_code="M05L", day=14)
+        self.assertTrue(here == there and there == here and not here != there)
+        self.assertEqual(hash(here), hash(there))
+        self.assertEqual(len({here, there}), 1)
+        self.assertTrue(here < datetime.date(2024, 2, 24) and datetime.date(2024, 2, 22) < here <= there >= here)
+        self.assertNotEqual(here, datetime.datetime(2024, 2, 23))
+        with self.assertRaises(TypeError):
+            here < datetime.datetime(2024, 2, 24)  # noqa: B015
+        self.assertEqual(hash(Date.of_day(-5)), hash(-5))
+
+    def test_today(self):
+        before, today, after = datetime.date.today(), Date.today("persian"), datetime.date.today()
+        self.assertTrue(before <= today <= after)
+        self.assertEqual(today.calendar, Calendar.PERSIAN)
+
+    def test_texts_of_rfc_9557(self):
+        for date, text in (
+            (iso(2024, 3, 1), "2024-03-01"),
+            (iso(2024, 3, 1).to_calendar("hebrew"), "2024-03-01[u-ca=hebrew]"),
+            (iso(2024, 3, 1).to_calendar("gregorian"), "2024-03-01[u-ca=gregory]"),
+            (iso(12024, 3, 1), "+012024-03-01"),
+            (iso(-1, 12, 31), "-000001-12-31"),
+            (iso(0, 1, 1), "0000-01-01"),
+        ):
+            self.assertEqual(date.isoformat(), text)
+            again = Date.fromisoformat(text)
+            self.assertEqual((again, again.calendar), (date, date.calendar))
+        self.assertEqual(Date.fromisoformat("2024-03-01[!u-ca=hebrew]").month_code, "M05L")
+        self.assertEqual(Date.fromisoformat("2024-03-01", "hebrew").month_code, "M05L")
+        for calendar in Calendar:
+            there = iso(2024, 3, 1).to_calendar(calendar)
+            self.assertEqual(Date.fromisoformat(there.isoformat()).calendar, calendar)
+
+    def test_replace(self):
+        purim = Date.of_fields("hebrew", year=5784, month_code="M06", day=14)
+        self.assertEqual(purim.replace(year=5785).to_date(), datetime.date(2025, 3, 14))
+        self.assertEqual(purim.replace(month_code="M05L").to_date(), datetime.date(2024, 2, 23))
+        self.assertEqual(purim.replace(ordinal_month=7, day=1).month_code, "M06")
+        self.assertEqual(iso(2024, 2, 29).replace(year=2023, overflow="constrain"), iso(2023, 2, 28))
+
+    def test_lengths(self):
+        for year, month, days in ((2024, 2, 29), (2023, 2, 28), (2024, 12, 31)):
+            self.assertEqual(iso(year, month, 1).days_in_month, days)
+        leap, plain = (Date.of_fields("hebrew", year=it, month=1, day=1) for it in (5784, 5785))
+        self.assertEqual([(it.months_in_year, it.days_in_year) for it in (leap, plain)], [(13, 383), (12, 355)])
+        self.assertEqual(iso(2024, 12, 31).day_of_year, datetime.date(2024, 12, 31).timetuple().tm_yday)
+
+    def test_names_stand_for_calendars_and_options(self):
+        for calendar in Calendar:
+            self.assertIs(Date.of_day(1, calendar.program_name).calendar, calendar)
+            self.assertIs(Calendar.of(calendar.cldr_name), calendar)
+        self.assertIs(Calendar.of("ISLAMIC_UMALQURA"), Calendar.ISLAMIC_UMALQURA)
+        self.assertEqual(iso(2024, 1, 1).until(datetime.date(2025, 1, 1), "years"), Duration(years=1))
+        self.assertEqual(iso(2024, 1, 31).add(Duration(months=1), "constrain"), iso(2024, 2, 29))
+
+    def test_published_years_are_the_default(self):
+        self.assertIs(Date.of_day(1, "chinese").years, Years.PUBLISHED)
+        self.assertIs(Date.of_day(1, "chinese", "computed").years, Years.COMPUTED)
+
+    def test_eras_are_those_of_the_list(self):
+        for calendar in Calendar:
+            found = {Date.of_day(it, calendar).era for it in (-365242499, 1, 700000, 702000, 710000, 735000, 738886)}
+            self.assertLessEqual(found - {None}, set(calendar.eras))
 
 
 if __name__ == "__main__":

@@ -20,7 +20,7 @@ use Rattle.date_calls.specs.Outcomes.{fields_fault, sum_fault}
 use Rattle.date_calls.specs.Rooms.{IsPut}
 use Rattle.date_calls.specs.declared.dates.CalendarDate.{CalendarDate}
 use Rattle.date_calls.specs.declared.durations.CalendarDuration.{CalendarDuration}
-use Rattle.date_calls.specs.declared.outcomes.Fault.{Fault}
+use Rattle.date_calls.specs.declared.outcomes.CalendarOutcome.{CalendarOutcome}
 
 -- a code is told, and what was there is there still
 pub record IsLeft {T : Type 0} (why : ℕ) (code : ℕ) (before now : T) : Type 0 where
@@ -42,7 +42,8 @@ abbrev pub ShowsDay : CalendarSystem → ℤ → ℕ → CalendarDate → Calend
 ShowsDay s day code before now = MatchBool (is_valid_day day) (TellsDay s day code now) (IsLeft 4 code before now)
 
 -- what is told of a calendar's answer: what its date says, or why there is none
-abbrev pub IsTold : {E : Type 0} → (E → Fault) → Result CalendarDate E → ℕ → ℕ → CalendarDate → CalendarDate → Type 0
+abbrev pub IsTold : {E : Type 0} → (E → CalendarOutcome) → Result CalendarDate E → ℕ → ℕ → CalendarDate → CalendarDate
+    → Type 0
 IsTold view (Ok parts) code max before now = (code ≡ 0) × (max ≡ 0) × (now ≡ parts)
 IsTold view (Err why) code max before now = (code ≡ (view why).code) × (max ≡ (view why).max) × (now ≡ before)
 

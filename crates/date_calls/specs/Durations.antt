@@ -1,5 +1,5 @@
 -- Durations that are added, and differences.
-use Rattle.std.specs.Prelude.{◌≡◌, ℕ, ℤ, Bool, true, false, not, nat_eq, Result, Ok, Err, MatchResult, if◌then◌else◌}
+use Rattle.std.specs.Prelude.{ℤ, true, false, nat_eq, Result, Ok, Err, MatchResult, if◌then◌else◌}
 use Rattle.cal_types.specs.declared.duration.DateDuration.{DateDuration}
 use Rattle.cal_types.specs.declared.duration.DateDurationUnit.{DateDurationUnit}
 use Rattle.cal_types.specs.declared.options.Overflow.{Overflow}

@@ -7,4 +7,6 @@ pub mod Eras
 pub mod Rooms
 pub mod Outcomes
 pub mod Calls
+pub mod Columns
+pub mod ColumnCalls
 pub mod Weeks

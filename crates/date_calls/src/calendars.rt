@@ -14,8 +14,8 @@ use kind_calls::{CalendarTask, run_in_kind};
 /// A kind of calendar, and the tables that its calendar uses.
 #[derive(Clone, Copy)]
 pub(crate) struct Chosen {
-    kind: AnyCalendarKind,
-    tables: Tables<'static>,
+    pub(crate) kind: AnyCalendarKind,
+    pub(crate) tables: Tables<'static>,
 }
 
 /// Returns the calendar for the codes of a kind and of a source of years, or the code of the error.

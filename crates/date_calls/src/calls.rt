@@ -17,7 +17,8 @@ use crate::durations::{CalendarDuration, Difference, Sum, duration_of, told};
 use crate::eras::EraOf;
 use crate::fields::{CalendarFields, OfFields, fields_of};
 use crate::outcomes::{
-    DONE, Fault, INVALID_DAY_NUMBER, NO_ROOM, UNKNOWN_OPTION, fault_of_fields, fault_of_sum,
+    CalendarOutcome, DONE, INVALID_DAY_NUMBER, NO_ROOM, UNKNOWN_OPTION, fault_of_fields,
+    fault_of_sum,
 };
 use crate::rooms::put;
 use cal_types::{DateAddOptions, DateDifferenceOptions, DateFields, DateFromFieldsOptions};
@@ -57,7 +58,7 @@ pub fn date_of_day(calendar: u8, years: u8, day: i64, date: &mut CalendarDate) -
 }
 
 /// Returns the code of a fault, and stores its greatest valid number in `max`.
-fn refuse(fault: Fault, max: &mut u8) -> u8
+fn refuse(fault: CalendarOutcome, max: &mut u8) -> u8
     ensures code { result ≡ fault.code }
     ensures max { max.new ≡ fault.max }
 {

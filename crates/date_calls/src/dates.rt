@@ -2,6 +2,7 @@
 
 ghost use Rattle.std.specs.Prelude.{◌≡◌, IsTrue};
 ghost use Rattle.cal_types.specs.Year.{era_year_or_related_iso_of, extended_year_of};
+ghost use Rattle.cal_types.specs.CalendarList.{day_number as day_number_of};
 ghost use Rattle.date_calls.specs.Dates.{AreParts, cyclic_number, flag};
 
 use crate::days::ValidDay;
@@ -66,16 +67,17 @@ fn numbers_of(year: YearInfo) -> YearNumbers
     }
 }
 
-/// Returns the parts of an inner date.
-pub(crate) fn parts_of<C: Calendar>(calendar: &C, date: &C::DateInner) -> CalendarDate
-    requires { IsTrue (C.belongs calendar.now date.now) }
+/// Returns the parts of an inner date, whose day number is known.
+fn parts_on<C: Calendar>(calendar: &C, date: &C::DateInner, day_number: i64) -> CalendarDate
+    requires belongs { IsTrue (C.belongs calendar.now date.now) }
+    requires on { day_number ≡ day_number_of (C.system calendar.now).list (C.date_of calendar.now date.now) }
     ensures { AreParts (C.system calendar.now) (C.date_of calendar.now date.now) result }
 {
     let year = numbers_of(calendar.year_info(date).into_year_info());
     let info = calendar.month(date);
     let month = info.to_input();
     CalendarDate {
-        day_number: calendar.to_rata_die(date).to_i64_date(),
+        day_number,
         extended_year: year.extended,
         era_year: year.in_era,
         cyclic_year: year.in_cycle,
@@ -84,6 +86,14 @@ pub(crate) fn parts_of<C: Calendar>(calendar: &C, date: &C::DateInner) -> Calend
         month_is_leap: flag(month.is_leap()),
         day: calendar.day_of_month(date).0,
     }
+}
+
+/// Returns the parts of an inner date.
+pub(crate) fn parts_of<C: Calendar>(calendar: &C, date: &C::DateInner) -> CalendarDate
+    requires { IsTrue (C.belongs calendar.now date.now) }
+    ensures { AreParts (C.system calendar.now) (C.date_of calendar.now date.now) result }
+{
+    parts_on(calendar, date, calendar.to_rata_die(date).to_i64_date())
 }
 
 /// The task of converting a day number to a date.
@@ -103,6 +113,6 @@ impl Question for OfDay {
         ensures { IsShown (C.system calendar.now) self.now.day.day result }
     {
         let date = calendar.from_rata_die(self.day.rata_die());
-        parts_of(calendar, &date)
+        parts_on(calendar, &date, self.day.number())
     }
 }

@@ -28,6 +28,13 @@ impl ValidDay {
         }
     }
 
+    /// Returns the day number.
+    pub(crate) fn number(self) -> i64
+        ensures { result ≡ self.day }
+    {
+        self.day
+    }
+
     /// Returns the day number as a rata die.
     pub(crate) fn rata_die(self) -> RataDie
         ensures is { result ≡ self.day }

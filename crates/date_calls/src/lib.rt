@@ -4,26 +4,36 @@
 //! A calendar is a code, a date is a day number (rata die), and the parts of a date come in a plain struct. The calls
 //! keep nothing between them and take no memory. They check every argument and return a code; 0 means success. The
 //! crates `icu_calendar_c` and `icu_calendar_wasm` export them. Start with [`date_of_day`] and [`date_of_fields`].
+//!
+//! Calls on columns, such as [`dates_of_days`], choose the calendar once and do a call on one date at every place. Every
+//! place has a code of its own, so an invalid date changes no other.
 #![tactic(auto)]
 
 mod calendars;
 mod calls;
 mod codes;
+mod column_calls;
+mod columns;
 mod dates;
 mod days;
 mod durations;
 mod eras;
 mod fields;
+mod in_calendar;
 mod outcomes;
+mod places;
 mod questions;
 mod rooms;
+mod weeks;
 mod years;
 
 pub use calls::{add, date_of_day, date_of_fields, era_of_day, until};
 pub use codes::tables_of;
+pub use column_calls::{add_each, add_to_each, dates_of_days, dates_of_fields, until_each};
 pub use dates::CalendarDate;
 pub use durations::CalendarDuration;
 pub use fields::CalendarFields;
-pub use outcomes::{NO_ROOM, UNKNOWN_YEARS};
+pub use outcomes::{CalendarOutcome, NO_ROOM, UNKNOWN_YEARS};
 pub use rooms::put;
+pub use weeks::{CalendarWeek, weeks_of_days};
 pub use years::{easter, week_of_year};

@@ -23,22 +23,28 @@ pub(crate) const INVALID_DAY_NUMBER: u8 = 4;
 /// The room is too short for the text.
 pub const NO_ROOM: u8 = 8;
 
-/// The code of an error, and its greatest valid number, which is 0 if the error has none.
-#[derive(Clone, Copy)]
-pub(crate) struct Fault {
-    pub(crate) code: u8,
-    pub(crate) max: u8,
+/// The columns don't have the same length.
+pub(crate) const LENGTHS_DIFFER: u8 = 9;
+
+/// What a call returned: a code, and the greatest valid number, which is 0 if the code has none.
+#[repr(C)]
+#[derive(Clone, Copy, Debug, PartialEq, Eq, Drop)]
+pub struct CalendarOutcome {
+    /// The code; 0 means success.
+    pub code: u8,
+    /// The greatest valid number for the codes 19 and 20, otherwise 0.
+    pub max: u8,
 }
 
-const fn why(code: u8, max: u8) -> Fault
+pub(crate) const fn why(code: u8, max: u8) -> CalendarOutcome
     ensures code { result.code ≡ code }
     ensures max { result.max ≡ max }
 {
-    Fault { code, max }
+    CalendarOutcome { code, max }
 }
 
 /// Returns the code of an error of fields.
-pub(crate) fn fault_of_fields(cause: DateFromFieldsError) -> Fault
+pub(crate) fn fault_of_fields(cause: DateFromFieldsError) -> CalendarOutcome
     ensures { result ≡ fields_fault cause }
 {
     match cause {
@@ -57,7 +63,7 @@ pub(crate) fn fault_of_fields(cause: DateFromFieldsError) -> Fault
 }
 
 /// Returns the code of an error of adding. The codes are the same as for fields.
-pub(crate) fn fault_of_sum(cause: DateAddError) -> Fault
+pub(crate) fn fault_of_sum(cause: DateAddError) -> CalendarOutcome
     ensures { result ≡ sum_fault cause }
 {
     match cause {

@@ -35,7 +35,7 @@ pub fn easter(rule: u8, year: i32, day: &mut i64) -> u8
 }
 
 /// Returns the week of a valid day number.
-fn week_of(day: ValidDay) -> IsoWeekOfYear
+pub(crate) fn week_of(day: ValidDay) -> IsoWeekOfYear
     ensures { IsInWeek day.day result.iso_year result.week_number }
 {
     Date::from_raw(Iso.from_rata_die(day.rata_die()), Iso).week_of_year()

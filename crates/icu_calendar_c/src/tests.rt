@@ -1,8 +1,9 @@
 //! Values that come from outside, and codes of refusals.
 
 use crate::exports::{
-    icu_calendar_add, icu_calendar_date_of_day, icu_calendar_date_of_fields, icu_calendar_easter,
-    icu_calendar_era_of_day, icu_calendar_until, icu_calendar_week_of_year,
+    icu_calendar_add, icu_calendar_date_of_day, icu_calendar_date_of_fields,
+    icu_calendar_dates_of_days, icu_calendar_easter, icu_calendar_era_of_day, icu_calendar_until,
+    icu_calendar_week_of_year,
 };
 use crate::program::calspan;
 use date_calls::{CalendarDate, CalendarDuration, CalendarFields};
@@ -143,6 +144,19 @@ fn eras_weeks_and_easter(rt: HostRuntime) {
     assert_eq!(rt; icu_calendar_easter(0, 2024, &mut day), 0);
     assert_eq!(rt; day, 738976);
     assert_eq!(rt; icu_calendar_easter(2, 2024, &mut day), 3);
+}
+
+#[test]
+fn a_bad_place_spoils_no_other(rt: HostRuntime) {
+    let days = [738939, 365242135, 738926];
+    let mut dates = [blank(), blank(), blank()];
+    let mut codes = [7u8; 3];
+    let short = icu_calendar_dates_of_days(HEBREW, 0, &days, &mut dates, &mut codes[..2]);
+    assert!(rt; short == 9 && codes[0] == 7 && dates[0].day_number == 0);
+    let code = icu_calendar_dates_of_days(HEBREW, 0, &days, &mut dates, &mut codes);
+    assert!(rt; code == 0 && codes[0] == 0 && codes[1] == 4 && codes[2] == 0);
+    assert!(rt; dates[0].extended_year == 5784 && dates[0].month_is_leap == 1);
+    assert!(rt; dates[1].day_number == 0 && dates[2].day_number == 738926);
 }
 
 #[test]

@@ -1,16 +1,18 @@
 //! The calls on dates, exported. Each function has the same contract as the function of `date_calls` that it wraps.
 
-ghost use Rattle.std.specs.Prelude.{◌≡◌, MatchResult, ◌≢◌, MatchBool};
+ghost use Rattle.std.specs.Prelude.{◌≡◌, length, MatchResult, ◌≢◌, MatchBool};
 ghost use Rattle.date_calls.specs.Calendars.{calendar_of};
 ghost use Rattle.date_calls.specs.Calls.{AddsIn, DiffersIn, IsLeft, IsLeftWith, NamesIn, ShowsDay, ShowsEra};
 ghost use Rattle.date_calls.specs.Codes.{overflow_of_code, strategy_of_code, unit_of_code};
+ghost use Rattle.date_calls.specs.ColumnCalls.{AddEach, AddToEach, DifferEach, NameEach, ShowsDayAt};
+ghost use Rattle.date_calls.specs.Columns.{AreLeft, Fills};
 ghost use Rattle.date_calls.specs.Durations.{duration_given};
 ghost use Rattle.date_calls.specs.Fields.{bag_given};
 ghost use Rattle.cal_days.specs.Day.{is_valid_day};
 ghost use Rattle.cal_days.specs.Easter.{IsGregorianEaster, IsJulianEaster};
-ghost use Rattle.date_calls.specs.Weeks.{IsWeekLeft, IsWeekTold};
+ghost use Rattle.date_calls.specs.Weeks.{IsWeekLeft, IsWeekTold, ShowsWeekAt};
 
-use date_calls::{CalendarDate, CalendarDuration, CalendarFields};
+use date_calls::{CalendarDate, CalendarDuration, CalendarFields, CalendarOutcome, CalendarWeek};
 
 /// Converts a day number to a date of a calendar, in `date`.
 ///
@@ -181,4 +183,169 @@ pub extern "C" fn icu_calendar_week_of_year(day: i64, year: &mut i32, week: &mut
         (IsWeekLeft result year.old week.old year.new week.new) }
 {
     date_calls::week_of_year(day, year, week)
+}
+
+/// Converts a column of day numbers to dates of a calendar, in `dates`.
+///
+/// `codes` has at every place what `icu_calendar_date_of_day` returns for the day number there. A date whose
+/// code isn't 0 is unchanged.
+///
+/// # Errors
+///
+/// The result is 0 if all places are done. Otherwise both columns are unchanged, and it is the first of:
+///
+/// - 1 or 2 for an unknown calendar or an unknown source of years.
+/// - 9 if the columns don't have the same length.
+#[unsafe(no_mangle)]
+pub extern "C" fn icu_calendar_dates_of_days(
+    calendar: u8,
+    years: u8,
+    days: &[i64],
+    dates: &mut [CalendarDate],
+    codes: &mut [u8],
+) -> u8
+    ensures { MatchResult (calendar_of calendar years)
+        (λ s. Fills (ShowsDayAt s days.now) (length days.now) result dates.old dates.new codes.old codes.new)
+        (λ why. AreLeft why result dates.old dates.new codes.old codes.new) }
+{
+    date_calls::dates_of_days(calendar, years, days, dates, codes)
+}
+
+/// Computes the differences between the dates of two columns of day numbers, in `durations`.
+///
+/// `codes` has at every place what `icu_calendar_until` returns for the day numbers there. A duration whose code
+/// isn't 0 is unchanged.
+///
+/// # Errors
+///
+/// The result is 0 if all places are done. Otherwise both columns are unchanged, and it is the first of:
+///
+/// - 1, 2 or 3 for an unknown calendar, an unknown source of years or an unknown unit.
+/// - 9 if the columns don't have the same length.
+#[unsafe(no_mangle)]
+pub extern "C" fn icu_calendar_until_each(
+    calendar: u8,
+    years: u8,
+    first: &[i64],
+    second: &[i64],
+    unit: u8,
+    durations: &mut [CalendarDuration],
+    codes: &mut [u8],
+) -> u8
+    ensures { MatchResult (calendar_of calendar years)
+        (λ s. DifferEach s (unit_of_code unit) first.now second.now result durations.old durations.new codes.old
+        codes.new)
+        (λ why. AreLeft why result durations.old durations.new codes.old codes.new) }
+{
+    date_calls::until_each(calendar, years, first, second, unit, durations, codes)
+}
+
+/// Adds a duration to the date of each day number of a column, in `dates`.
+///
+/// `outcomes` has at every place the code and the greatest valid number that `icu_calendar_add` returns for the day
+/// number there. A date whose code isn't 0 is unchanged.
+///
+/// # Errors
+///
+/// The result is 0 if all places are done. Otherwise both columns are unchanged, and it is the first of:
+///
+/// - 1, 2 or 3 for an unknown calendar, an unknown source of years or an unknown option.
+/// - 9 if the columns don't have the same length.
+#[unsafe(no_mangle)]
+pub extern "C" fn icu_calendar_add_to_each(
+    calendar: u8,
+    years: u8,
+    days: &[i64],
+    duration: &CalendarDuration,
+    overflow: u8,
+    dates: &mut [CalendarDate],
+    outcomes: &mut [CalendarOutcome],
+) -> u8
+    ensures { MatchResult (calendar_of calendar years)
+        (λ s. AddToEach s (overflow_of_code overflow) days.now (duration_given duration.now) result dates.old dates.new
+        outcomes.old outcomes.new)
+        (λ why. AreLeft why result dates.old dates.new outcomes.old outcomes.new) }
+{
+    date_calls::add_to_each(calendar, years, days, duration, overflow, dates, outcomes)
+}
+
+/// Adds to the date of each day number of a column the duration at its place, in `dates`.
+///
+/// `outcomes` has at every place the code and the greatest valid number that `icu_calendar_add` returns for the day
+/// number and the duration there. A date whose code isn't 0 is unchanged.
+///
+/// # Errors
+///
+/// The result is 0 if all places are done. Otherwise both columns are unchanged, and it is the first of:
+///
+/// - 1, 2 or 3 for an unknown calendar, an unknown source of years or an unknown option.
+/// - 9 if the columns don't have the same length.
+#[unsafe(no_mangle)]
+pub extern "C" fn icu_calendar_add_each(
+    calendar: u8,
+    years: u8,
+    days: &[i64],
+    durations: &[CalendarDuration],
+    overflow: u8,
+    dates: &mut [CalendarDate],
+    outcomes: &mut [CalendarOutcome],
+) -> u8
+    ensures { MatchResult (calendar_of calendar years)
+        (λ s. AddEach s (overflow_of_code overflow) days.now durations.now result dates.old dates.new outcomes.old
+        outcomes.new)
+        (λ why. AreLeft why result dates.old dates.new outcomes.old outcomes.new) }
+{
+    date_calls::add_each(calendar, years, days, durations, overflow, dates, outcomes)
+}
+
+/// Creates dates from a column of fields, in `dates`. `era` and `month_code` count for all of them.
+///
+/// `outcomes` has at every place the code and the greatest valid number that
+/// `icu_calendar_date_of_fields` returns for the fields there. A date whose code isn't 0 is unchanged.
+///
+/// # Errors
+///
+/// The result is 0 if all places are done. Otherwise both columns are unchanged, and it is the first of:
+///
+/// - 1, 2 or 3 for an unknown calendar, an unknown source of years or an unknown option.
+/// - 9 if the columns don't have the same length.
+#[unsafe(no_mangle)]
+pub extern "C" fn icu_calendar_dates_of_fields(
+    calendar: u8,
+    years: u8,
+    fields: &[CalendarFields],
+    era: &[u8],
+    month_code: &[u8],
+    overflow: u8,
+    missing: u8,
+    dates: &mut [CalendarDate],
+    outcomes: &mut [CalendarOutcome],
+) -> u8
+    ensures { MatchResult (calendar_of calendar years)
+        (λ s. NameEach s fields.now era.now month_code.now (overflow_of_code overflow) (strategy_of_code missing) result
+        dates.old dates.new outcomes.old outcomes.new)
+        (λ why. AreLeft why result dates.old dates.new outcomes.old outcomes.new) }
+{
+    date_calls::dates_of_fields(
+        calendar, years, fields, era, month_code, overflow, missing, dates, outcomes,
+    )
+}
+
+/// Computes the ISO 8601 weeks and the weekdays of a column of day numbers, in `weeks`.
+///
+/// `codes` has at every place 0, or 4 if the day number there isn't from -365242499 to 365242134. A week whose code
+/// isn't 0 is unchanged.
+///
+/// # Errors
+///
+/// - 9 if the columns don't have the same length; both are unchanged. Otherwise the result is 0.
+#[unsafe(no_mangle)]
+pub extern "C" fn icu_calendar_weeks_of_days(
+    days: &[i64],
+    weeks: &mut [CalendarWeek],
+    codes: &mut [u8],
+) -> u8
+    ensures { Fills (ShowsWeekAt days.now) (length days.now) result weeks.old weeks.new codes.old codes.new }
+{
+    date_calls::weeks_of_days(days, weeks, codes)
 }

@@ -1,6 +1,5 @@
-use Rattle.std.proofs.Common.{rules, ◌≡◌, w32, w64, to_z, of_z, ap, ◌∙◌}
-use Rattle.date_calls.specs.Dates.{AreParts, cyclic_number, flag}
-use Rattle.date_calls.proofs.dates.parts_of.Goals as goal
+use Rattle.std.proofs.Common.{rules}
+use Rattle.date_calls.proofs.dates.parts_on.Goals as goal
 
 pub returns : goal.returns
 returns g c = record {

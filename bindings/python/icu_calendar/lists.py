@@ -1,0 +1,154 @@
+"""Anniversaries and recurrences, one by one as they are asked for."""
+
+from __future__ import annotations
+
+from collections.abc import Iterator
+from dataclasses import dataclass
+from itertools import count
+from typing import NamedTuple
+
+from .codes import Calendar, CalendarLike, Overflow, Unit, UnitLike, Years, YearsLike
+from .dates import FIRST_DAY, LAST_DAY, Date, DayLike, day_number_of
+from .durations import MOST, Duration
+from .errors import InvalidDay, InvalidDayNumber, MonthNotInYear, OutOfRange, UnknownOption
+
+# The days that a month may have.
+MOST_DAYS = 31
+
+
+@dataclass(frozen=True)
+class Occurrence:
+    """A date of a recurrence. `index` is how often the step was added to the start; steps that lead to no date count, too."""
+
+    index: int
+    date: Date
+
+
+class Window(NamedTuple):
+    """The days from a first to a last one."""
+
+    first: int
+    last: int
+
+
+def window_of(first: DayLike | None, last: DayLike | None) -> Window:
+    """Returns the days from `first` to `last`, where None is the first or the last valid day.
+
+    Raises InvalidDayNumber if `first` comes after `last`."""
+    window = Window(FIRST_DAY if first is None else day_number_of(first), LAST_DAY if last is None else day_number_of(last))
+    if window.first > window.last:
+        raise InvalidDayNumber(given=f"from {first!r} to {last!r}", advice="A first day that doesn't come after the last one would do.")
+    return window
+
+
+def anniversaries(
+    calendar: CalendarLike,
+    month_code: str,
+    day: int,
+    first: DayLike,
+    last: DayLike | None = None,
+    *,
+    exact: bool = True,
+    years: YearsLike = Years.PUBLISHED,
+) -> Iterator[Date]:
+    """Returns an iterator over the dates from `first` to `last` that have a month and a day of a calendar: birthdays, memorial days, feasts.
+
+    Years without the month or day are skipped or, if `exact` is False, have the nearest date. Without `last` the dates go on to the last valid
+    day.
+
+    >>> [it.isoformat() for it in anniversaries("chinese", "M01", 1, datetime.date(2023, 1, 1), datetime.date(2024, 12, 31))]
+    ['2023-01-22[u-ca=chinese]', '2024-02-10[u-ca=chinese]']
+
+    Raises MonthCodeSyntax or MonthNotInCalendar for the month code, InvalidDay if the day isn't from 1 to 31, and InvalidDayNumber for the days."""
+    chosen, source, window = Calendar.of(calendar), Years.of(years), window_of(first, last)
+    # The month is asked for by a date that exists in every calendar's year with that month, or in the nearest one.
+    Date.of_fields(chosen, source, year=1, month_code=month_code, day=1, overflow=Overflow.CONSTRAIN)
+    if not 1 <= day <= MOST_DAYS:
+        raise InvalidDay(MOST_DAYS, given=f"day={day}")
+    return _anniversaries(chosen, source, month_code, day, window, Overflow.REJECT if exact else Overflow.CONSTRAIN)
+
+
+def _anniversaries(calendar: Calendar, years: Years, month_code: str, day: int, window: Window, overflow: Overflow) -> Iterator[Date]:
+    first, last = (Date.of_day(it, calendar, years).extended_year for it in window)
+    for year in range(first, last + 1):
+        try:
+            date = Date.of_fields(calendar, years, year=year, month_code=month_code, day=day, overflow=overflow)
+        except (MonthNotInYear, InvalidDay, OutOfRange):
+            continue
+        if window.first <= date.day_number <= window.last:
+            yield date
+
+
+def recurrences(
+    start: DayLike,
+    unit: UnitLike,
+    every: int = 1,
+    first: DayLike | None = None,
+    last: DayLike | None = None,
+    *,
+    calendar: CalendarLike | None = None,
+    skip: bool = True,
+    years: YearsLike | None = None,
+) -> Iterator[Occurrence]:
+    """Returns an iterator over the occurrences from `first` to `last`: a start with so many years, months, weeks or days added 0, 1, 2 and more
+    times. Each counts from the start itself, so a monthly rule from the 31st returns to the 31st after February.
+
+    Steps that lead to a month or day that doesn't exist are skipped or, if `skip` is False, lead to the nearest date. The calendar is that of the
+    start, unless another is named. Without `first` the list begins with the start, and without `last` it goes on to the last valid day.
+
+    >>> start = datetime.date(2024, 1, 31)
+    >>> [str(it.date.to_date()) for it in itertools.islice(recurrences(start, Unit.MONTHS, skip=False), 3)]
+    ['2024-01-31', '2024-02-29', '2024-03-31']
+
+    Raises UnknownOption for a unit that isn't years, months, weeks or days, OutOfRange if `every` isn't from 1 on, and InvalidDayNumber for the
+    days."""
+    from_start = _start(start, calendar, years)
+    step = Unit.of(unit)
+    if step is Unit.DEFAULT:
+        raise UnknownOption(given=f"unit={unit!r}", advice="Unit.YEARS, MONTHS, WEEKS or DAYS would do.")
+    if not 1 <= every <= MOST:
+        raise OutOfRange(given=f"every={every}", advice=f"1 to {MOST} would do.")
+    window = window_of(start if first is None else first, last)
+    return _recurrences(from_start, step, every, window, skip)
+
+
+def _start(start: DayLike, calendar: CalendarLike | None, years: YearsLike | None) -> Date:
+    if isinstance(start, Date):
+        return start.to_calendar(start.calendar if calendar is None else calendar, years)
+    return Date.of_day(day_number_of(start), Calendar.ISO if calendar is None else calendar, Years.PUBLISHED if years is None else years)
+
+
+def _duration(unit: Unit, amount: int) -> Duration:
+    parts = [amount if unit is it else 0 for it in (Unit.YEARS, Unit.MONTHS, Unit.WEEKS, Unit.DAYS)]
+    return Duration(parts[0], parts[1], parts[2], parts[3])
+
+
+def _units_before(start: Date, unit: Unit, first: int) -> int:
+    """Returns how many units can be added to the start so that the sum doesn't lie behind `first`, but for the last one."""
+    if first <= start.day_number:
+        return 0
+    if unit is Unit.YEARS:
+        return max(0, Date.of_day(first, start.calendar, start.years).extended_year - start.extended_year)
+    apart = start.until(first, unit)
+    return {Unit.MONTHS: apart.months, Unit.WEEKS: apart.weeks, Unit.DAYS: apart.days}[unit]
+
+
+def _recurrences(start: Date, unit: Unit, every: int, window: Window, skip: bool) -> Iterator[Occurrence]:
+    for at in count(_units_before(start, unit, window.first) // every):
+        try:
+            date = start.add(_duration(unit, at * every), Overflow.CONSTRAIN)
+        except OutOfRange:
+            return
+        if date.day_number > window.last:
+            return
+        if date.day_number >= window.first and not (skip and _moved(start, unit, at * every)):
+            yield Occurrence(at, date)
+
+
+def _moved(start: Date, unit: Unit, amount: int) -> bool:
+    """Returns whether a sum has to use another month or day than the start's."""
+    try:
+        start.add(_duration(unit, amount), Overflow.REJECT)
+    except (MonthNotInYear, InvalidDay):
+        return True
+    return False
