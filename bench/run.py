@@ -7,6 +7,7 @@
 - `holidays`: a book of a hundred rules over a century.
 - `from_c`: a conversion from C beside the same in Rattle (build first: the above, and bindings/c/build.sh).
 - `arrays`: columns of dates from C and in NumPy beside the loop in Rattle (build first: the same).
+- `beside`: columns in NumPy beside libraries of Python that Debian has (run it by /usr/bin/python3).
 - `from_rust`: a conversion, a sum and a difference from Rust beside the same in Rattle (build first: the same).
 
 Nothing else should run beside it.
@@ -16,7 +17,7 @@ import importlib
 import sys
 from pathlib import Path
 
-NAMES = ["operations", "requests", "lists", "holidays", "from_c", "arrays", "from_rust"]
+NAMES = ["operations", "requests", "lists", "holidays", "from_c", "arrays", "beside", "from_rust"]
 
 
 def main() -> int:
