@@ -14,5 +14,5 @@ heap=$(dirname "$(dirname "$(readlink -f "$rt")")")/c/liblibc_c.a
 
 make_fresh "$archive" icu_calendar_c --progress
 cp "$heap" "$crate/out/"
-"${CC:-cc}" -shared -o "$shared" -Wl,--whole-archive "$archive" -Wl,--no-whole-archive "$heap" -Wl,--exclude-libs,liblibc_c.a
+"${CC:-cc}" -shared -o "$shared" -Wl,-soname,libicu_calendar.so -Wl,--whole-archive "$archive" -Wl,--no-whole-archive "$heap" -Wl,--exclude-libs,liblibc_c.a
 echo "$shared"
