@@ -92,7 +92,7 @@ TEXT
 python_for_wheel() {
   local it
   for it in "${PYTHON:-python3}" python3 /usr/bin/python3; do
-    if "$it" -c 'import pip, setuptools, wheel' 2>/dev/null; then
+    if "$it" -c 'import setuptools, wheel' 2>/dev/null; then
       echo "$it"
       return
     fi
@@ -105,12 +105,14 @@ put_python() {
   local python place=$tree/share/calspan/python
   mkdir -p "$place"
   if [ -f "$top/bindings/python/pyproject.toml" ]; then
-    python=$(python_for_wheel) || fail "the wheel needs a Python with pip, setuptools and wheel"
+    python=$(python_for_wheel) || fail "the wheel needs a Python with setuptools and wheel"
     # A copy, so that the build leaves nothing beside the sources.
     mkdir "$room/package"
     (cd "$top" && git ls-files bindings/python | xargs -d '\n' cp --parents -t "$room/package")
-    ICU_CALENDAR_LIBRARY=$shared PIP_DISABLE_PIP_VERSION_CHECK=1 "$python" -m pip wheel --quiet --no-deps --no-index --no-build-isolation \
-      --wheel-dir "$place" "$room/package/bindings/python" >&2
+    (cd "$room/package/bindings/python" && ICU_CALENDAR_LIBRARY=$shared "$python" -c '
+import sys
+import setuptools.build_meta
+setuptools.build_meta.build_wheel(sys.argv[1])' "$place" >&2)
   else
     mkdir "$place/icu_calendar"
     install -m 644 "$top"/bindings/python/icu_calendar/*.py "$shared" "$place/icu_calendar"
