@@ -1,10 +1,12 @@
 #!/usr/bin/env bash
-# Answers request lines on all processors, in their order, with GNU parallel: examples/parallel.sh [ROWS..] < REQUESTS
-# Each block of lines is a run of its own, behind the row lines of the files ROWS. The status is the greatest of these runs. The number in
-# `err line N` counts in the run: the row lines first, then the lines of the block (docs/MANUAL.md). CALSPAN is another program in place of
-# ./calspan. BLOCK is the size of a block: by default a file is cut evenly, into blocks of at most 14 MB, which leaves room for rows.
+# Answers lines on all processors, in their order, with GNU parallel: examples/parallel.sh [ROWS..] < LINES
+# COMMAND is `span`, or a `convert` with its words. Each block of lines is a run of its own, behind the row lines of the files ROWS, and the
+# status is the greatest of these runs. The number in `err line N` counts in the run: the row lines first, then the lines of the block
+# (docs/MANUAL.md). CALSPAN is another program in place of ./calspan. BLOCK is the size of a block: by default a file is cut evenly, for
+# `span` into blocks of at most 14 MB, which leaves room for rows.
 set -u
 top=$(cd "$(dirname "${BASH_SOURCE[0]}")/.." && pwd)
+[[ ${COMMAND-} == convert* ]] && is_convert=1 || is_convert=0
 most=14000000
 least=1000000
 room=$(mktemp -d) || exit 70
@@ -12,19 +14,30 @@ trap 'rm -rf "$room"' EXIT
 export ROWS=$room/rows
 cat "$@" </dev/null >"$ROWS" || exit 2
 # The first run builds the program where it must; the others need no script.
-"${CALSPAN:-$top/calspan}" span <"$ROWS" || exit
+export COMMAND=${COMMAND:-span}
+# shellcheck disable=SC2086
+"${CALSPAN:-$top/calspan}" $COMMAND <"$ROWS" || exit
 export CALSPAN=${CALSPAN:-$top/crates/calspan/out/calspan}
+
+# Answers the lines of a block. An empty line ends the rows of `convert`, so that no line of the block is taken for one; its answer is dropped.
+answer() {
+  set -o pipefail
+  case $COMMAND in
+    convert*) cat "$ROWS" <(echo) - | "$CALSPAN" $COMMAND | tail -n +2 ;;
+    *) cat "$ROWS" - | "$CALSPAN" $COMMAND ;;
+  esac
+}
+export -f answer
 
 # A file is read in parts, each by the run that answers it, if nothing of it is read yet. Any other input is cut by one process.
 if [ -f /dev/stdin ] && grep -q '^pos:[[:space:]]*0$' /proc/self/fdinfo/0; then
   part=$(($(stat -L -c %s /dev/stdin) / $(nproc) + 1))
-  block=$((part > most ? most : part < least ? least : part))
+  block=$((part > most && ! is_convert ? most : part < least ? least : part))
   how=(--pipepart --arg-file "/proc/$$/fd/0")
 else
   block=$most
   how=(--pipe)
 fi
-# shellcheck disable=SC2016
-parallel --will-cite "${how[@]}" --keep-order --block "${BLOCK:-$block}" --joblog "$room/log" 'cat "$ROWS" - | "$CALSPAN" span'
+PARALLEL_SHELL=$BASH parallel --will-cite "${how[@]}" --keep-order --block "${BLOCK:-$block}" --joblog "$room/log" answer
 [ $? -le 101 ] || exit 70
 awk 'NR > 1 { it = $8 ? 128 + $8 : $7 } it > most { most = it } END { exit most }' "$room/log"
