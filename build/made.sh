@@ -1,6 +1,7 @@
 # shellcheck shell=bash
 # For the scripts that build: whether what was made of a crate is fresh, and runs of commands that end when the script is ended.
 # `top` is the folder of the checkout.
+: "${top:?}"
 
 # Prints the lines of crates.txt of a crate and of all that it stands on, without comments. A library stands before those above it.
 lines_below() {

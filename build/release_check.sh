@@ -41,7 +41,9 @@ done
 answers() {
   local status=0
   alone "$program" span <"$top/$1" >"$room/got" || status=$?
-  [ "$status" -le 1 ] && cmp "$room/got" "$top/$2" || fail "the installed program answers $1 otherwise, with status $status"
+  if [ "$status" -gt 1 ] || ! cmp "$room/got" "$top/$2"; then
+    fail "the installed program answers $1 otherwise, with status $status"
+  fi
 }
 
 answers examples/first.txt examples/first.out

@@ -20,6 +20,8 @@ export COMMAND=${COMMAND:-span}
 export CALSPAN=${CALSPAN:-$top/crates/calspan/out/calspan}
 
 # Answers the lines of a block. An empty line ends the rows of `convert`, so that no line of the block is taken for one; its answer is dropped.
+# COMMAND is several words.
+# shellcheck disable=SC2086
 answer() {
   set -o pipefail
   case $COMMAND in
