@@ -2,7 +2,7 @@
 """Proves and builds the program `calspan`: each crate that it stands on once, crates that don't stand on one another side by side.
 With names of libraries as arguments, it proves these and what they stand on in its place; of a static library it builds the archive, and of
 the one for WebAssembly the module `bindings/web/icu_calendar.wasm`. With
-`--progress` first, it says on standard error how far it is: how many of the crates are proved, and how many minutes have gone.
+`--progress` first, it says on standard error how many crates have to be proved and how long that takes, and then how far it is.
 
 A crate is built as soon as the crates below it are. Where one crate has by far the longest chain of others behind it, the chain decides
 when the program is there: so that crate has all processors, and others run beside it with less right to them. The libraries have
@@ -11,6 +11,8 @@ the user's store (`build/store.py`), which all checkouts share: a later build pr
 a library differs. What `rt ci` left in this checkout is taken over.
 """
 
+import contextlib
+import ctypes
 import hashlib
 import math
 import os
@@ -39,6 +41,11 @@ MOST_JOBS = 4
 PEER = 0.5
 # How far a build steps back (`nice`) that the program doesn't wait for yet.
 LAST_RIGHT = 10
+# How many times as fast several jobs prove one crate as one job does, measured over the longest chain.
+SPEED_OF_JOBS = 1.6
+# `prctl(PR_SET_PDEATHSIG, ..)` of Linux: the signal that a process gets when its parent ends.
+PR_SET_PDEATHSIG = 1
+LIBC = ctypes.CDLL(None)
 
 
 class Kit(NamedTuple):
@@ -69,6 +76,10 @@ def kit() -> Kit:
         toolchain=top / "toolchain",
         sum=hashlib.sha256((top / "KIT-ID").read_bytes()).hexdigest(),
     )
+
+
+def end_with_parent() -> None:
+    LIBC.prctl(PR_SET_PDEATHSIG, signal.SIGTERM)
 
 
 def lines_of_crates() -> list[tuple[str, str]]:
@@ -217,6 +228,15 @@ class Build:
     def say(self, what: str) -> None:
         print(f"== {time.monotonic() - self.began:.0f} s: {what}", flush=True)
 
+    def show_work(self) -> None:
+        """Says how many crates have to be proved, and how long that takes if no other program needs the processors."""
+        whole = sum(self.seconds[it] for it in self.left) / self.processors
+        chain = max(longest_chains({it: self.crates[it] for it in self.crates if it in self.left}, self.seconds).values())
+        minutes = math.ceil(max(whole, chain / SPEED_OF_JOBS) / 60)
+        crates = "1 crate has" if len(self.left) == 1 else f"{len(self.left)} crates have"
+        on = "1 free processor" if self.processors == 1 else f"{self.processors} free processors"
+        print(f"calspan: {crates} to be proved, which takes about {minutes} min on {on}", file=sys.stderr, flush=True)
+
     def show_progress(self) -> None:
         minutes = (time.monotonic() - self.began) / 60
         print(f"calspan: {len(self.view.sums)} of {len(self.crates)} crates proved, {minutes:.0f} minutes gone", file=sys.stderr, flush=True)
@@ -251,7 +271,15 @@ class Build:
         words = ["nice", "-n", str(niceness), *command(name, self.crates, self.tools, self.room, jobs)]
         self.say(f"{name}, {jobs} jobs")
         with (self.room / f"{name}.log").open("w") as log:
-            process = subprocess.Popen(words, cwd=TOP / "crates" / name, stdin=subprocess.DEVNULL, stdout=log, stderr=log)
+            process = subprocess.Popen(
+                words,
+                cwd=TOP / "crates" / name,
+                stdin=subprocess.DEVNULL,
+                stdout=log,
+                stderr=log,
+                process_group=0,
+                preexec_fn=end_with_parent,
+            )
         self.running[name] = process, jobs, key
         self.left.remove(name)
 
@@ -272,6 +300,8 @@ class Build:
         with self.view.store.proving():
             try:
                 self.find_made()
+                if self.left and self.shows_progress:
+                    self.show_work()
                 return self.built()
             finally:
                 self.stop()
@@ -293,7 +323,8 @@ class Build:
     def stop(self) -> None:
         """Ends the builds under way, where another one failed or this program is to end."""
         for process, _, _ in self.running.values():
-            process.terminate()
+            with contextlib.suppress(ProcessLookupError):
+                os.killpg(process.pid, signal.SIGTERM)
         for process, _, _ in self.running.values():
             process.wait()
 
@@ -303,7 +334,7 @@ def link(tools: Kit, room: Path) -> int:
     program = TOP / "crates" / PROGRAM / "out" / PROGRAM
     program.parent.mkdir(parents=True, exist_ok=True)
     words = [tools.linker, "--target", TARGET, "--toolchain", tools.toolchain, "-o", program, made(PROGRAM, room), *tools.c_libraries]
-    return subprocess.run(words, stdin=subprocess.DEVNULL).returncode
+    return subprocess.run(words, stdin=subprocess.DEVNULL, stderr=subprocess.STDOUT).returncode
 
 
 def link_module(tools: Kit, archive: Path) -> int:
@@ -333,7 +364,8 @@ def build(kept: store.Store, tops: list[str], shows_progress: bool) -> int:
 
 
 def main(words: list[str]) -> int:
-    signal.signal(signal.SIGTERM, lambda number, _: sys.exit(128 + number))
+    for it in (signal.SIGTERM, signal.SIGINT, signal.SIGHUP):
+        signal.signal(it, lambda number, _: sys.exit(128 + number))
     shows_progress = words[:1] == ["--progress"]
     tops = words[1:] if shows_progress else words
     with store.opened() as kept:

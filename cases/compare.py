@@ -21,7 +21,7 @@ from lists import cases_of, compare_lists, compare_words
 HERE = Path(__file__).resolve().parent
 TABLES = HERE / "tables"
 LISTS = HERE / "lists.jsonl"
-PROGRAM = [str(HERE.parent / "calspan"), "span"]
+PROGRAM = [lists.PROGRAM, "span"]
 STATUSES = {name: int(status) for name, status in (line.split() for line in (TABLES / "statuses").read_text().splitlines())}
 TABLE_REFUSED = 6
 NAMES = ["first_path", "arithmetic", "bags", "grammar", "solar", "hebrew", "hijri", "east_asian", "type1"]
@@ -208,9 +208,10 @@ def main() -> int:
     if given.program:
         PROGRAM[0] = lists.PROGRAM = given.program
         print(f"cases: {compare_cases()}")
-    elif path:
-        # The script builds the program where a source is newer; lists are asked of what it built.
-        subprocess.run(PROGRAM, stdin=subprocess.DEVNULL, check=False)
+        return 0
+    # The script builds the program where a source is newer; what it built is asked.
+    subprocess.run([lists.SCRIPT, "span"], stdin=subprocess.DEVNULL, check=True)
+    if path:
         print(f"cases: {compare_lists(path)}")
     else:
         compare_all()

@@ -2,17 +2,24 @@
 """Runs the linked program once for each exit status, and compares the status and what is written.
 
 A read fails on a folder as standard input, a write on /dev/full, and memory for a book under a limit of the process's memory.
+The script `calspan` has to end as the program does, with the same output, and to say on standard error in one line why the status is above 1.
+A signal to the script has to end the program, too.
 """
 
+import re
 import resource
+import select
+import signal
 import subprocess
 import sys
 import tempfile
+import time
 from pathlib import Path
 from typing import NamedTuple
 
 TOP = Path(__file__).resolve().parent.parent
 PROGRAM = TOP / "crates/calspan/out/calspan"
+SCRIPT = TOP / "calspan"
 LIMIT = 16777216
 # A process of this many bytes of memory starts, and can't hold a book of half as many.
 LITTLE_MEMORY = 24 << 20
@@ -22,7 +29,7 @@ ROW = b"row china 2024\n"
 
 class Run(NamedTuple):
     status: int
-    words: list[str]
+    words: list[str | bytes]
     source: bytes | None
     begins: bytes
 
@@ -48,6 +55,41 @@ def ends_with(wanted: int, begins: bytes, words: list[str], **options) -> bool:
     return False
 
 
+def says_why(run: Run) -> bool:
+    """Whether the script ends as the program does, and says why. It rejects words that are no command by itself, with its usage."""
+    source = {"stdin": subprocess.DEVNULL} if run.source is None else {"input": run.source}
+    it = subprocess.run([SCRIPT, *run.words], timeout=60, check=False, capture_output=True, **source)
+    said = it.stderr.decode(errors="replace")
+    is_said = bool(re.fullmatch("calspan: .*; see docs/MANUAL.md\n", said)) if run.status > 1 else not said
+    if it.returncode == run.status and it.stdout.startswith(run.begins) and (run.begins or not it.stdout) and is_said:
+        return True
+    print(f"script, {run.words}: status {it.returncode} in place of {run.status}, {it.stdout[:80]!r}, {said!r}", file=sys.stderr)
+    return False
+
+
+def ends_with_script() -> bool:
+    """Whether the program ends when a signal ends the script: it would keep the output open, and wait for more input."""
+    with subprocess.Popen([SCRIPT, "span"], stdin=subprocess.PIPE, stdout=subprocess.PIPE) as run:
+        children, most = Path(f"/proc/{run.pid}/task/{run.pid}/children"), time.monotonic() + 30
+        while not any(map(is_program, children.read_text().split())) and time.monotonic() < most:
+            time.sleep(0.01)
+        run.send_signal(signal.SIGTERM)
+        has_ended = bool(select.select([run.stdout], [], [], 30)[0])
+        run.stdin.close()
+    if has_ended and run.returncode == -signal.SIGTERM:
+        return True
+    print(f"script: status {run.returncode} after SIGTERM, and the program {'ends' if has_ended else 'goes on'}", file=sys.stderr)
+    return False
+
+
+def is_program(pid: str) -> bool:
+    """Whether a process is the program by now. One that has ended is none."""
+    try:
+        return Path(f"/proc/{pid}/exe").resolve() == PROGRAM
+    except OSError:
+        return False
+
+
 def limit_memory() -> None:
     resource.setrlimit(resource.RLIMIT_AS, (LITTLE_MEMORY, LITTLE_MEMORY))
 
@@ -66,6 +108,9 @@ def main() -> int:
         good.append(ends_with(4, b"", ["gen", "1"], stdout=full, stdin=subprocess.DEVNULL))
     book = b"fixed,A,iso,M01,1,exact\n" * (LITTLE_MEMORY // 48)
     good.append(ends_with(5, b"", ["holidays", "1", "2"], stdout=subprocess.PIPE, input=book, preexec_fn=limit_memory))
+    good += [says_why(it) for it in RUNS if it.status != 2]
+    good.append(says_why(Run(2, ["recur", "iso", "iso", "days", "1", "skip", "1", "2", b"era=\xff"], None, b"")))
+    good.append(ends_with_script())
     print(f"statuses: {len(good)} runs, {good.count(False)} end otherwise")
     return int(not all(good))
 

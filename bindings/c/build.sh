@@ -7,14 +7,12 @@ top=$(cd "$(dirname "${BASH_SOURCE[0]}")/../.." && pwd)
 crate=$top/crates/icu_calendar_c
 archive=$crate/out/libicu_calendar_c.a
 shared=$crate/out/libicu_calendar.so
+. "$top/build/made.sh"
 rt=$(command -v rt) || { echo "the toolchain's command rt is not on the PATH" >&2; exit 1; }
 # The toolchain's three functions over malloc, realloc and free.
 heap=$(dirname "$(dirname "$(readlink -f "$rt")")")/c/liblibc_c.a
 
-if [ ! -f "$archive" ] || [ -n "$(find "$top/crates.txt" "$top"/crates/*/src "$top"/crates/*/specs "$top"/crates/*/proofs -type f -newer "$archive" -print -quit 2>/dev/null)" ]; then
-  python3 "$top/build/program.py" icu_calendar_c
-  touch "$archive"
-fi
+make_fresh "$archive" icu_calendar_c --progress
 cp "$heap" "$crate/out/"
-"${CC:-cc}" -shared -o "$shared" -Wl,--whole-archive "$archive" -Wl,--no-whole-archive "$heap" -Wl,--exclude-libs,liblibc_c.a
+"${CC:-cc}" -shared -o "$shared" -Wl,-soname,libicu_calendar.so -Wl,--whole-archive "$archive" -Wl,--no-whole-archive "$heap" -Wl,--exclude-libs,liblibc_c.a
 echo "$shared"

@@ -4,10 +4,8 @@
 set -eu
 top=$(cd "$(dirname "${BASH_SOURCE[0]}")/../.." && pwd)
 module=$top/bindings/web/icu_calendar.wasm
+. "$top/build/made.sh"
 
-if [ ! -f "$module" ] || [ -n "$(find "$top/crates.txt" "$top"/crates/*/src "$top"/crates/*/specs "$top"/crates/*/proofs -type f -newer "$module" -print -quit 2>/dev/null)" ]; then
-  python3 "$top/build/program.py" icu_calendar_wasm
-  touch "$module"
-fi
+make_fresh "$module" icu_calendar_wasm --progress
 python3 "$top/bindings/web/one_file.py" "$module" > "$top/bindings/web/calendars.html"
 echo "$module"
