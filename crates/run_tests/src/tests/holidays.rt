@@ -87,7 +87,7 @@ fn rows_before_a_book_replace_computed_years(rt: HostRuntime) -> Result<(), Fail
 const BAD_ROWS: [(&[u8], &[u8]); 3] = [
     (b"row hijri 1446\nfixed,X", b"table line 1 syntax\n"),
     (
-        b"# a\n\nrow hijri 1446 738000 sllslslslsls\nfixed,X",
+        b"# a\n\nrow hijri 1446 739074 slllsllsslss\nfixed,X",
         b"table hijri 1 join\n",
     ),
     (b"row era 2040 13 1 later 7\n", b"table line 1 range\n"),
