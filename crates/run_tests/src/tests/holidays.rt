@@ -90,7 +90,10 @@ const BAD_ROWS: [(&[u8], &[u8]); 3] = [
         b"# a\n\nrow hijri 1446 739074 slllsllsslss\nfixed,X",
         b"table hijri 1 join\n",
     ),
-    (b"row era 2000 1 1 later 7\n", b"table line 1 range\n"),
+    (
+        b"row hijri 1446 738000 sllslslslsls\n",
+        b"table line 1 range\n",
+    ),
 ];
 
 #[test]
