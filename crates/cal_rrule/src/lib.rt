@@ -1,7 +1,19 @@
 //! The occurrences of recurrence rules of iCalendar over the dates of any calendar (RFC 5545; RFC 7529).
 #![tactic(auto)]
 
+mod asked;
+mod day_blocks;
+mod looks;
+mod month_days;
+mod month_row;
 mod named_days;
+mod named_masks;
 mod occurrence;
+mod probes;
+mod rule_periods;
+mod set_positions;
+mod weekday_masks;
+mod year_days;
 
 pub use occurrence::Occurrence;
+pub use rule_periods::RulePeriods;

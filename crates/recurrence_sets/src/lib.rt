@@ -4,6 +4,7 @@
 #![tactic(auto)]
 
 mod day_bits;
+mod day_sets;
 mod period_days;
 
 pub use period_days::PeriodDays;
