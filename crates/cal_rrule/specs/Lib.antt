@@ -1,3 +1,4 @@
+pub mod Masks
 pub mod NamedDays
 pub mod Occurrences
 pub mod Periods

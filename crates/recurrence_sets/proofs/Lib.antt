@@ -1,1 +1,2 @@
 mod DayBitLemmas
+mod DaySetLemmas
