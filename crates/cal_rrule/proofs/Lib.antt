@@ -1,2 +1,3 @@
 mod MaskLemmas
 mod NamedDayLemmas
+mod NamedMaskLemmas

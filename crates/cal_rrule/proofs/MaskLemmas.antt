@@ -1,18 +1,19 @@
 -- Days that are added to a set.
-use Rattle.std.proofs.Common.{◌≡◌, ◌∙◌, ℕ, ◌⊎◌, ◌↔◌, ◌&&◌, ◌||◌, IsTrue, Bool, int_le, int_lt, ℤ, pos, ◌+ℤ◌, ◌≤ℤ◌, ◌<ℤ◌, refl, sym, subst, arith}
+use Rattle.std.proofs.Common.{◌≡◌, ◌∙◌, ℕ, ◌⊎◌, ◌↔◌, ◌&&◌, ◌||◌, IsTrue, Bool, true, false, int_le, int_lt, ℤ, pos, ◌+ℤ◌, ◌≤ℤ◌, ◌<ℤ◌, refl, sym, subst, arith}
+use mathlib.Core.Bool.{true≢false}
 use mathlib.Core.Logic.{inl, inr, ⊎_elim}
 use Rattle.std.specs.Ordering.{int_eq}
 use Rattle.std.proofs.lemmas.Bool.Decides.{Decides-and, Decides-at, Decides-int_eq, Decides-or}
-use Rattle.cal_days.proofs.Signed.{signed}
+use Rattle.cal_days.proofs.Signed.{by_bool, signed}
 use Rattle.cal_rrule.specs.Masks.{Adds, InRow}
 use Rattle.recurrence_sets.specs.PeriodBits.{has_day}
 use Rattle.recurrence_sets.specs.declared.period_days.PeriodDays.{PeriodDays}
 
-le_test : (a b : ℤ) → IsTrue (int_le a b) ↔ (a ≤ℤ b)
-le_test a b = (λ e. omega (arith, signed, e), λ h. omega (arith, signed, h))
+pub le_test : (a b : ℤ) → IsTrue (int_le a b) ↔ (a ≤ℤ b)
+le_test a b = (λ e. omega (arith, signed, e), λ h. by_bool (int_le a b) (λ e. e) (λ e. absurd (omega (arith, signed, e, h))))
 
-lt_test : (a b : ℤ) → IsTrue (int_lt a b) ↔ (a <ℤ b)
-lt_test a b = (λ e. omega (arith, signed, e), λ h. omega (arith, signed, h))
+pub lt_test : (a b : ℤ) → IsTrue (int_lt a b) ↔ (a <ℤ b)
+lt_test a b = (λ e. omega (arith, signed, e), λ h. by_bool (int_lt a b) (λ e. e) (λ e. absurd (omega (arith, signed, e, h))))
 
 -- one day
 pub adds-day : (old new : PeriodDays) (day : ℤ) → new.first ≡ old.first →
@@ -67,3 +68,20 @@ adds-then old mid new Is More one two = record {
       (λ h. ⊎_elim (λ q. inl (inr q)) (λ m. ⊎_elim (λ p. inl (inl p)) (λ o. inr o) (here.0 m)) (there.0 h),
       λ h. there.1 (⊎_elim (λ pq. ⊎_elim (λ p. inr (here.1 (inl p))) (λ q. inl q) pq) (λ o. inr (here.1 (inr o))) h));
 }
+
+-- the only day of a kind
+pub adds-only : (old new : PeriodDays) (day : ℤ) (Is : ℤ → Type 0) → Is day × ((n : ℤ) → Is n → n ≡ day) →
+    new.first ≡ old.first →
+    ((n : ℤ) → old.first ≤ℤ n → n <ℤ (old.first +ℤ pos 448) → has_day new n ≡ (int_eq n day || has_day old n)) →
+    Adds old new Is
+adds-only old new day Is only first days =
+    adds-as old new (λ n. n ≡ day) Is (adds-day old new day first days)
+    (λ n. (λ e. subst Is (sym e) only.0, only.1 n))
+
+-- under a test
+pub adds-if : (old new : PeriodDays) (b : Bool) (Is : ℤ → Type 0) → IsTrue b → Adds old new Is →
+    Adds old new (λ n. IsTrue b × Is n)
+adds-if old new b Is holds given = adds-as old new Is (λ n. IsTrue b × Is n) given (λ n. (λ p. (holds, p), λ q. q.1))
+
+pub adds-if_not : (days : PeriodDays) (b : Bool) (Is : ℤ → Type 0) → b ≡ false → Adds days days (λ n. IsTrue b × Is n)
+adds-if_not days b Is fails = adds-none days (λ n. IsTrue b × Is n) (λ n h. true≢false (sym h.0 ∙ fails))

@@ -20,9 +20,9 @@ pub record Adds (old new : PeriodDays) (Is : ℤ → Type 0) : Type 0 where
   pub days : (n : ℤ) → InRow old n → IsTrue (has_day new n) ↔ (Is n ⊎ IsTrue (has_day old n))
 
 -- a set has exactly the days of a kind, among some of the 448
-pub record Marks (days : PeriodDays) (from to : ℤ) (Is : ℤ → Type 0) : Type 0 where
-  pub first : days.first ≡ from
-  pub days : (n : ℤ) → from ≤ℤ n → n <ℤ to → IsTrue (has_day days n) ↔ Is n
+pub record Marks (set : PeriodDays) (from to : ℤ) (Is : ℤ → Type 0) : Type 0 where
+  pub first : set.first ≡ from
+  pub days : (n : ℤ) → from ≤ℤ n → n <ℤ to → IsTrue (has_day set n) ↔ Is n
 
 -- a place of a set names a day
 abbrev pub IsNamedBy : {words : ℕ} → PlaceSet words → Skip → Stretch → ℤ → Type 0

@@ -4,7 +4,7 @@ use crate::asked::Asked;
 use crate::looks::MonthLook;
 use crate::month_days::keeps_month;
 use crate::month_row::MonthRow;
-use crate::named_masks::add_all_named;
+use crate::named_masks::add_month_days;
 use crate::set_positions::keep_places;
 use crate::weekday_masks::add_every_seventh;
 use crate::year_days::{Span, add_rule_weekdays, week_of};
@@ -52,7 +52,7 @@ pub(crate) fn days_in_month<C: Calendar>(calendar: &C, asked: &Asked, look: &Mon
     add_steps(&mut days, look.first, look.end(), asked.day, i64::from(asked.rule.interval()));
     if !asked.missing.month_days {
         let mut named = PeriodDays::new(first);
-        add_all_named(&mut named, Skip::Omit, look.first, u16::from(look.days), asked.rule.month_days());
+        add_month_days(&mut named, Skip::Omit, first, u16::from(look.days), asked.rule.month_days());
         days.keep_common(&named);
     }
     if !asked.missing.weekdays {

@@ -3,7 +3,7 @@
 use crate::asked::Asked;
 use crate::looks::MonthLook;
 use crate::month_row::MonthRow;
-use crate::named_masks::{add_all_named, add_named};
+use crate::named_masks::{add_month_days, add_named};
 use crate::year_days::{Span, add_rule_weekdays};
 use cal_base::Calendar;
 use cal_days::RataDie;
@@ -19,12 +19,13 @@ pub(crate) fn keeps_month(asked: &Asked, look: &MonthLook) -> bool {
 fn add_days(days: &mut PeriodDays, asked: &Asked, look: &MonthLook) {
     let skip = asked.rule.skip();
     let length = u16::from(look.days);
+    let first = RataDie::new(look.first);
     if !asked.missing.month_days {
-        add_all_named(days, skip, look.first, length, asked.rule.month_days());
+        add_month_days(days, skip, first, length, asked.rule.month_days());
     } else if !asked.missing.weekdays {
         days.insert_days(RataDie::new(look.first), RataDie::new(look.end()));
     } else {
-        add_named(days, skip, look.first, length, Place::FromFront(u16::from(asked.day_of_month)));
+        add_named(days, skip, first, length, Place::FromFront(u16::from(asked.day_of_month)));
     }
 }
 

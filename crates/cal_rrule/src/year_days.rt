@@ -3,7 +3,7 @@
 use crate::asked::Asked;
 use crate::looks::{MonthLook, YearLook, year_after, year_before, year_near};
 use crate::month_row::{MonthRow, lacks_leap};
-use crate::named_masks::{add_all_named, add_named};
+use crate::named_masks::{add_month_days, add_named, add_year_days};
 use crate::weekday_masks::{add_every_seventh, add_weekdays};
 use cal_base::Calendar;
 use cal_days::RataDie;
@@ -40,13 +40,14 @@ fn is_named(asked: &Asked, months: &[MonthLook], place: usize, year: i32) -> boo
 }
 
 /// Adds the days that the rule names in a month.
-fn add_month_days(days: &mut PeriodDays, asked: &Asked, look: &MonthLook) {
+fn add_days_of_month(days: &mut PeriodDays, asked: &Asked, look: &MonthLook) {
     let length = u16::from(look.days);
     let skip = asked.rule.skip();
+    let first = RataDie::new(look.first);
     if !asked.missing.month_days {
-        add_all_named(days, skip, look.first, length, asked.rule.month_days());
+        add_month_days(days, skip, first, length, asked.rule.month_days());
     } else if asked.missing.days() {
-        add_named(days, skip, look.first, length, Place::FromFront(u16::from(asked.day_of_month)));
+        add_named(days, skip, first, length, Place::FromFront(u16::from(asked.day_of_month)));
     } else {
         days.insert_days(RataDie::new(look.first), RataDie::new(look.end()));
     }
@@ -56,7 +57,7 @@ fn add_month_days(days: &mut PeriodDays, asked: &Asked, look: &MonthLook) {
 fn add_year_months(days: &mut PeriodDays, asked: &Asked, months: &[MonthLook], year: i32) {
     for place in 0..months.len() {
         if is_named(asked, months, place, year) {
-            add_month_days(days, asked, &months[place]);
+            add_days_of_month(days, asked, &months[place]);
         }
     }
 }
@@ -98,7 +99,7 @@ pub(crate) fn named_in_year<C: Calendar>(calendar: &C, asked: &Asked, span: &Spa
     }
     if !asked.missing.year_days {
         let mut named = PeriodDays::new(first);
-        add_all_named(&mut named, asked.rule.skip(), year.first, year.days, asked.rule.year_days());
+        add_year_days(&mut named, asked.rule.skip(), RataDie::new(year.first), year.days, asked.rule.year_days());
         days.keep_common(&named);
     }
     if !asked.missing.weekdays {
