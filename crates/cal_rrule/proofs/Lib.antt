@@ -1,3 +1,7 @@
+mod AskedLemmas
+mod LookLemmas
 mod MaskLemmas
 mod NamedDayLemmas
 mod NamedMaskLemmas
+mod WeekdayLemmas
+mod WeekdayMaskLemmas

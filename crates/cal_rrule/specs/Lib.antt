@@ -1,3 +1,4 @@
+pub mod Looks
 pub mod Masks
 pub mod NamedDays
 pub mod Occurrences

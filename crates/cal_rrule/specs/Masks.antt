@@ -36,3 +36,25 @@ IsNamedBelow most set skip s n =
 -- a day of a stretch is one of some weekdays
 abbrev pub IsWeekdayIn : WeekdayPlaces → Stretch → ℤ → Type 0
 IsWeekdayIn set s n = InStretch s n × IsAmongWeekdays set s n
+
+-- a day lies a number of steps behind another: fewer than so many
+abbrev pub IsStep : ℤ → ℕ → ℕ → ℤ → Type 0
+IsStep from every count n = (k : ℕ) × (k < count) × (n ≡ from +ℤ pos (every * k))
+
+-- a day of a stretch that lies whole weeks and so many days behind the first one is one of some weekdays: of fewer weeks
+abbrev pub IsWeekdayBelow : WeekdayPlaces → Stretch → ℕ → ℕ → ℤ → Type 0
+IsWeekdayBelow set s offset weeks n =
+    (k : ℕ) × (k < weeks) × (n ≡ s.first +ℤ pos (offset + 7 * k)) × IsAmongWeekdays set s n
+
+-- the day that lies so many weeks and days behind the first one is among them
+abbrev pub IsWeekdayAt : WeekdayPlaces → Stretch → ℕ → ℕ → ℤ → Type 0
+IsWeekdayAt set s offset week n = (n ≡ s.first +ℤ pos (offset + 7 * week)) × IsAmongWeekdays set s n
+
+-- the same in the whole stretch
+abbrev pub IsWeekdayFrom : WeekdayPlaces → Stretch → ℕ → ℤ → Type 0
+IsWeekdayFrom set s offset n =
+    (k : ℕ) × (offset + 7 * k < s.days) × (n ≡ s.first +ℤ pos (offset + 7 * k)) × IsAmongWeekdays set s n
+
+-- and of some of the first seven days
+abbrev pub IsWeekdayBefore : WeekdayPlaces → Stretch → ℕ → ℤ → Type 0
+IsWeekdayBefore set s most n = (offset : ℕ) × (offset < most) × IsWeekdayFrom set s offset n

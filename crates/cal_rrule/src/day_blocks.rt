@@ -1,12 +1,12 @@
 //! The days of a month that DAILY and WEEKLY keep, as bits.
 
 use crate::asked::Asked;
-use crate::looks::MonthLook;
+use crate::month_look::MonthLook;
 use crate::month_days::keeps_month;
 use crate::month_row::MonthRow;
 use crate::named_masks::add_month_days;
 use crate::set_positions::keep_places;
-use crate::weekday_masks::add_every_seventh;
+use crate::weekday_masks::add_weekly;
 use crate::year_days::{Span, add_rule_weekdays, week_of};
 use cal_base::Calendar;
 use cal_days::RataDie;
@@ -22,7 +22,7 @@ fn first_step(from: i64, start: i64, every: i64) -> i64 {
 }
 
 /// Adds the days from one up to another that lie a multiple of some days behind a third.
-fn add_steps(days: &mut PeriodDays, from: i64, to: i64, start: i64, every: i64) {
+fn add_interval(days: &mut PeriodDays, from: i64, to: i64, start: i64, every: i64) {
     let mut day = first_step(from, start, every);
     if every == 1 {
         days.insert_days(RataDie::new(day), RataDie::new(to));
@@ -49,7 +49,7 @@ pub(crate) fn days_in_month<C: Calendar>(calendar: &C, asked: &Asked, look: &Mon
     if !keeps_month(asked, look) || !keeps_single(asked) {
         return days;
     }
-    add_steps(&mut days, look.first, look.end(), asked.day, i64::from(asked.rule.interval()));
+    add_interval(&mut days, look.first, look.end(), asked.day, i64::from(asked.rule.interval()));
     if !asked.missing.month_days {
         let mut named = PeriodDays::new(first);
         add_month_days(&mut named, Skip::Omit, first, u16::from(look.days), asked.rule.month_days());
@@ -68,11 +68,17 @@ pub(crate) fn days_in_month<C: Calendar>(calendar: &C, asked: &Asked, look: &Mon
     days
 }
 
+/// Adds the days with the start's weekday, from one day up to another.
+fn add_same_weekday(days: &mut PeriodDays, asked: &Asked, from: i64, to: i64) {
+    let day = from + (asked.day - from).rem_euclid(7);
+    add_weekly(days, RataDie::new(day), ((to - day + 6) / 7) as u16);
+}
+
 /// Returns the days that WEEKLY keeps, from one day up to another, in whatever week they are.
 fn days_of_weekdays<C: Calendar>(calendar: &C, asked: &Asked, from: i64, to: i64) -> PeriodDays {
     let mut days = PeriodDays::new(RataDie::new(from));
     if asked.missing.weekdays && asked.missing.months {
-        add_every_seventh(&mut days, from + (asked.day - from).rem_euclid(7), to);
+        add_same_weekday(&mut days, asked, from, to);
         return days;
     }
     let span = Span {
@@ -81,7 +87,7 @@ fn days_of_weekdays<C: Calendar>(calendar: &C, asked: &Asked, from: i64, to: i64
         row: MonthRow::over(calendar, from, to, 0),
     };
     if asked.missing.weekdays {
-        add_every_seventh(&mut days, from + (asked.day - from).rem_euclid(7), to);
+        add_same_weekday(&mut days, asked, from, to);
     } else {
         add_rule_weekdays(&mut days, calendar, asked, &span);
     }

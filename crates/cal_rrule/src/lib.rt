@@ -2,9 +2,12 @@
 #![tactic(auto)]
 
 mod asked;
+mod asking;
 mod day_blocks;
 mod looks;
+mod missing;
 mod month_days;
+mod month_look;
 mod month_row;
 mod named_days;
 mod named_masks;

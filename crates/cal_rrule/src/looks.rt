@@ -1,36 +1,38 @@
 //! Looks at months and years: their first days, their lengths and their names.
 
+ghost use Rattle.std.specs.Prelude.{◌≡◌, ◌+ℤ◌, pos};
+ghost use Rattle.cal_days.specs.Day.{IsValidDay, is_valid_day};
+ghost use Rattle.cal_rrule.specs.Looks.{IsMonthLook, look_stretch};
+ghost use Rattle.cal_rrule.specs.Stretches.{InStretch, end_of};
+
+use crate::month_look::MonthLook;
 use crate::probes::{days_of_month, month_in_place, months_of_year};
 use cal_base::Calendar;
 use cal_days::RataDie;
 use cal_days::ranges::{FIRST_VALID_DAY, LAST_VALID_DAY};
-use cal_types::Month;
-
 
 /// Returns whether a day is valid.
-pub(crate) fn is_valid(day: i64) -> bool {
+pub(crate) fn is_valid(day: i64) -> bool
+    ensures { result ≡ is_valid_day day }
+{
     FIRST_VALID_DAY <= day && day <= LAST_VALID_DAY
-}
-
-/// A month of a year: its place in it, its first day, its length and its name.
-#[derive(Clone, Copy)]
-pub(crate) struct MonthLook {
-    pub year: i32,
-    pub place: u8,
-    pub first: i64,
-    pub days: u8,
-    pub month: Month,
 }
 
 impl MonthLook {
     /// Returns the day behind the month.
-    pub(crate) fn end(&self) -> i64 {
+    pub(crate) fn end(&self) -> i64
+        ensures { result ≡ end_of (look_stretch self.now) }
+    {
         self.first + i64::from(self.days)
     }
 }
 
 /// Returns the month of a valid day.
-pub(crate) fn month_of<C: Calendar>(calendar: &C, day: i64) -> MonthLook {
+pub(crate) fn month_of<C: Calendar>(calendar: &C, day: i64) -> MonthLook
+    requires { IsValidDay day }
+    ensures look { IsMonthLook (C.system calendar.now).list result }
+    ensures within { InStretch (look_stretch result) day }
+{
     let date = calendar.from_rata_die(RataDie::new(day));
     let info = calendar.month(&date);
     MonthLook {

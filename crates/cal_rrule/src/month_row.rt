@@ -1,6 +1,7 @@
 //! Months in a row.
 
-use crate::looks::{MonthLook, month_after, month_before, month_near};
+use crate::looks::{month_after, month_before, month_near};
+use crate::month_look::MonthLook;
 use cal_base::Calendar;
 use cal_types::Month;
 

@@ -65,8 +65,8 @@ pub(crate) fn add_month_days(days: &mut PeriodDays, skip: Skip, first: RataDie, 
     requires { IsBetween (neg_ℤ (pos 4000000000)) (pos 4000000000) first }
     ensures { Adds days.old days.new (IsNamedBy set.now skip (stretch first length)) }
 {
-    let places = *set;
-    add_named_below(days, skip, first, length, &places, 64);
+    let words = set.words();
+    add_named_below(days, skip, first, length, set, 64 * words as u16);
 }
 
 /// Adds the days that days of the year name.
@@ -74,6 +74,6 @@ pub(crate) fn add_year_days(days: &mut PeriodDays, skip: Skip, first: RataDie, l
     requires { IsBetween (neg_ℤ (pos 4000000000)) (pos 4000000000) first }
     ensures { Adds days.old days.new (IsNamedBy set.now skip (stretch first length)) }
 {
-    let places = *set;
-    add_named_below(days, skip, first, length, &places, 448);
+    let words = set.words();
+    add_named_below(days, skip, first, length, set, 64 * words as u16);
 }

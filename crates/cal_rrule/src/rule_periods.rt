@@ -2,7 +2,8 @@
 
 use crate::asked::Asked;
 use crate::day_blocks::{days_in_month, days_of_weeks_in_month};
-use crate::looks::{MonthLook, YearLook, is_valid, month_after, month_of, year_after, year_before, year_of};
+use crate::looks::{YearLook, is_valid, month_after, month_of, year_after, year_before, year_of};
+use crate::month_look::MonthLook;
 use crate::month_days::days_of_month;
 use crate::set_positions::keep_places;
 use crate::year_days::{days_of_weeks, days_of_year, year_of_week};

@@ -1,81 +1,90 @@
 //! The days that BYDAY keeps, as bits.
 
+ghost use Rattle.std.specs.Prelude.{◌≡◌, ◌+◌, ◌*◌, ◌<◌, ◌↔◌, IsTrue, neg_ℤ, pos, ◌+ℤ◌, ℕ};
+ghost use Rattle.cal_days.specs.Day.{IsBetween};
+ghost use Rattle.cal_rule.specs.Sets.{has_weekday};
+ghost use Rattle.cal_rrule.specs.Masks.{Adds, IsStep, IsWeekdayAt, IsWeekdayFrom, IsWeekdayIn};
+ghost use Rattle.cal_rrule.specs.NamedDays.{stretch};
+ghost use Rattle.cal_rrule.specs.Weeks.{IsAmongWeekdays};
+
 use cal_days::RataDie;
 use cal_rule::{Place, WeekdayPlace, WeekdayPlaces};
 use cal_types::Weekday;
 use recurrence_sets::PeriodDays;
 
-/// The greatest number of an ordinal.
-const MOST: u16 = 63;
-
-/// Returns whether a set has a weekday with an ordinal.
-fn has_ordinal(set: &WeekdayPlaces, day: Weekday, place: Place) -> bool {
-    set.contains(WeekdayPlace {
-        day,
-        ordinal: Some(place),
-    })
-}
-
-/// Returns whether a set has a weekday without an ordinal.
-fn has_every(set: &WeekdayPlaces, day: Weekday) -> bool {
-    set.contains(WeekdayPlace { day, ordinal: None })
-}
-
-/// Returns whether a set has a weekday, with any ordinal or without one.
-fn has_some(set: &WeekdayPlaces, day: Weekday) -> bool {
-    if has_every(set, day) {
-        return true;
-    }
-    for number in 0..MOST + 1 {
-        if has_ordinal(set, day, Place::FromFront(number)) || has_ordinal(set, day, Place::FromBack(number)) {
-            return true;
-        }
-    }
-    false
-}
-
-/// Returns whether a set has no weekday.
-pub(crate) fn is_empty(set: &WeekdayPlaces) -> bool {
-    for day in 0..7isize {
-        if has_some(set, Weekday::from_days_since_sunday(day)) {
-            return false;
-        }
-    }
-    true
-}
-
-/// Adds every seventh day, from one up to another, which isn't added itself.
-pub(crate) fn add_every_seventh(days: &mut PeriodDays, from: i64, to: i64) {
-    let mut day = from;
-    while day < to {
-        days.insert_day(RataDie::new(day));
-        day += 7;
+/// Adds every seventh day, so many of them, from a first one on.
+pub(crate) fn add_weekly(days: &mut PeriodDays, from: RataDie, count: u16)
+    requires { IsBetween (neg_ℤ (pos 4000000000)) (pos 4000000000) from }
+    ensures { Adds days.old days.new (IsStep from 7 count) }
+{
+    for step in 0..count {
+        days.insert_day(RataDie::new(from.to_i64_date() + 7 * i64::from(step)));
     }
 }
 
-/// Adds the days of a stretch with one weekday, those that a set has, from the first of these days on.
-fn add_weekday(days: &mut PeriodDays, set: &WeekdayPlaces, from: i64, end: i64) {
-    if from >= end {
-        return;
+/// Returns whether a set has a weekday with an ordinal, or without one.
+fn has(set: &WeekdayPlaces, day: Weekday, ordinal: Option<Place>) -> bool
+    ensures { result ≡ has_weekday set.now (record { day = day; ordinal = ordinal }) }
+{
+    set.contains(WeekdayPlace { day, ordinal })
+}
+
+/// Returns whether a set has a day of a stretch: the day that lies so many weeks and some days behind the first one.
+fn is_among(set: &WeekdayPlaces, first: RataDie, length: u16, offset: u16, week: u16) -> bool
+    requires first { IsBetween (neg_ℤ (pos 4000000000)) (pos 4000000000) first }
+    requires offset { offset < 7 }
+    requires within { offset + 7 * week < length }
+    requires length { length < 60000 }
+    ensures { IsTrue result
+        ↔ IsAmongWeekdays set.now (stretch first length) (first +ℤ pos (offset + 7 * week)) }
+{
+    let weekday = Weekday::from(RataDie::new(first.to_i64_date() + i64::from(offset)));
+    let behind = (length - offset + 6) / 7 - week;
+    has(set, weekday, None)
+        | has(set, weekday, Some(Place::FromFront(week + 1)))
+        | has(set, weekday, Some(Place::FromBack(behind)))
+}
+
+/// Adds the day that lies so many weeks and some days behind the first one of a stretch, if a set has it.
+fn add_if_among(
+    days: &mut PeriodDays,
+    set: &WeekdayPlaces,
+    first: RataDie,
+    length: u16,
+    offset: u16,
+    week: u16,
+)
+    requires first { IsBetween (neg_ℤ (pos 4000000000)) (pos 4000000000) first }
+    requires offset { offset < 7 }
+    requires within { offset + 7 * week < length }
+    requires length { length < 60000 }
+    ensures { Adds days.old days.new (IsWeekdayAt set.now (stretch first length) offset week) }
+{
+    if is_among(set, first, length, offset, week) {
+        let ahead = i64::from(offset) + 7 * i64::from(week);
+        days.insert_day(RataDie::new(first.to_i64_date() + ahead));
     }
-    let weekday = Weekday::from_days_since_sunday(from as isize);
-    if has_every(set, weekday) {
-        add_every_seventh(days, from, end);
-        return;
-    }
-    let count = ((end - from + 6) / 7) as u16;
-    for place in 0..count {
-        if has_ordinal(set, weekday, Place::FromFront(place + 1))
-            || has_ordinal(set, weekday, Place::FromBack(count - place))
-        {
-            days.insert_day(RataDie::new(from + 7 * i64::from(place)));
-        }
+}
+
+/// Adds the days of a stretch that a set has and that lie whole weeks behind one of the first seven days.
+fn add_weekday(days: &mut PeriodDays, set: &WeekdayPlaces, first: RataDie, length: u16, offset: u16)
+    requires first { IsBetween (neg_ℤ (pos 4000000000)) (pos 4000000000) first }
+    requires offset { offset < 7 }
+    requires length { length < 60000 }
+    ensures { Adds days.old days.new (IsWeekdayFrom set.now (stretch first length) offset) }
+{
+    for week in 0..(length + 6 - offset) / 7 {
+        add_if_among(days, set, first, length, offset, week);
     }
 }
 
 /// Adds the days of a stretch that a set of weekdays has, by their place in the stretch.
-pub(crate) fn add_weekdays(days: &mut PeriodDays, set: &WeekdayPlaces, first: i64, end: i64) {
-    for offset in 0..7i64 {
-        add_weekday(days, set, first + offset, end);
+pub(crate) fn add_weekdays(days: &mut PeriodDays, set: &WeekdayPlaces, first: RataDie, length: u16)
+    requires first { IsBetween (neg_ℤ (pos 4000000000)) (pos 4000000000) first }
+    requires length { length < 60000 }
+    ensures { Adds days.old days.new (IsWeekdayIn set.now (stretch first length)) }
+{
+    for offset in 0..7 {
+        add_weekday(days, set, first, length, offset);
     }
 }

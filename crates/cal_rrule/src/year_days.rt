@@ -1,10 +1,11 @@
 //! The days that a year names, as bits.
 
 use crate::asked::Asked;
-use crate::looks::{MonthLook, YearLook, year_after, year_before, year_near};
+use crate::looks::{YearLook, year_after, year_before, year_near};
+use crate::month_look::MonthLook;
 use crate::month_row::{MonthRow, lacks_leap};
 use crate::named_masks::{add_month_days, add_named, add_year_days};
-use crate::weekday_masks::{add_every_seventh, add_weekdays};
+use crate::weekday_masks::{add_weekdays, add_weekly};
 use cal_base::Calendar;
 use cal_days::RataDie;
 use cal_rule::{Place, Skip};
@@ -76,13 +77,14 @@ pub(crate) fn add_rule_weekdays<C: Calendar>(days: &mut PeriodDays, calendar: &C
     if !asked.counts_in_year() {
         let months = span.row.months();
         for place in 0..months.len() {
-            add_weekdays(days, set, months[place].first, months[place].end());
+            let look = months[place];
+            add_weekdays(days, set, RataDie::new(look.first), u16::from(look.days));
         }
         return;
     }
     let mut year = year_near(calendar, span.from);
     while year.first < span.to {
-        add_weekdays(days, set, year.first, year.end());
+        add_weekdays(days, set, RataDie::new(year.first), year.days);
         year = year_after(calendar, &year);
     }
 }
@@ -175,7 +177,8 @@ pub(crate) fn days_of_weeks<C: Calendar>(calendar: &C, asked: &Asked, year: &Yea
     keep_weeks(&mut days, asked, from, count);
     if asked.missing.year_days && asked.missing.month_days && asked.missing.weekdays {
         let mut same = PeriodDays::new(RataDie::new(from));
-        add_every_seventh(&mut same, from + (asked.day - from).rem_euclid(7), to);
+        let day = from + (asked.day - from).rem_euclid(7);
+        add_weekly(&mut same, RataDie::new(day), count);
         days.keep_common(&same);
     }
     days

@@ -1,0 +1,60 @@
+-- Months of a calendar as they are looked at, and what is known of a rule and its start.
+use Rattle.std.specs.Prelude.{◌≡◌, ◌↔◌, IsTrue, ℕ, ℤ}
+use Rattle.cal_types.specs.CalendarList.{CalendarList, Date, HasPlace, date, day_number, month_at, month_length}
+use Rattle.cal_types.specs.Month.{MonthParts}
+use Rattle.cal_types.specs.MonthParts.{month_parts}
+use Rattle.cal_rule.specs.declared.frequency.Frequency.TheVariants.{Yearly}
+use Rattle.cal_rule.specs.Sets.{has_month, has_place}
+use Rattle.cal_rule.specs.declared.place_set.Place.TheVariants.{FromFront}
+use Rattle.cal_rule.specs.declared.rule.RecurrenceRule.{RecurrenceRule}
+use Rattle.cal_rrule.specs.Masks.{IsNamedBy}
+use Rattle.cal_rrule.specs.Periods.{IsMissing, NoDays, NoMonthDays, NoMonths, NoWeekdays, NoWeeks, NoYearDays}
+use Rattle.cal_rrule.specs.Stretches.{InStretch, NamesDay, Stretch}
+use Rattle.cal_rrule.specs.declared.asked.Asked.{Asked}
+use Rattle.cal_rrule.specs.declared.missing.Missing.{Missing}
+use Rattle.cal_rrule.specs.declared.month_look.MonthLook.{MonthLook}
+
+-- what is said of a month is so in a calendar
+pub record IsMonthLook (c : CalendarList) (look : MonthLook) : Type 0 where
+  pub is_place : HasPlace c look.year look.place
+  pub is_first : look.first ≡ day_number c (date look.year look.place 1)
+  pub is_length : look.days ≡ month_length c look.year look.place
+  pub is_month : month_parts look.month ≡ month_at c look.year look.place
+
+-- its days
+abbrev pub look_stretch : MonthLook → Stretch
+look_stretch look = record { first = look.first; days = look.days }
+
+-- the parts that a rule lacks
+pub record AreMissing (rule : RecurrenceRule) (missing : Missing) : Type 0 where
+  pub no_months : IsTrue missing.months ↔ NoMonths rule
+  pub no_month_days : IsTrue missing.month_days ↔ NoMonthDays rule
+  pub no_year_days : IsTrue missing.year_days ↔ NoYearDays rule
+  pub no_weeks : IsTrue missing.weeks ↔ NoWeeks rule
+  pub no_weekdays : IsTrue missing.weekdays ↔ NoWeekdays rule
+  pub no_positions : IsTrue missing.positions ↔ IsMissing has_place rule.positions
+
+-- what is said of a rule and its start is so in a calendar
+pub record IsAsked (c : CalendarList) (t : Date) (asked : Asked) : Type 0 where
+  pub are_missing : AreMissing asked.rule asked.missing
+  pub on_day : asked.day ≡ day_number c t
+  pub on_day_of_month : asked.day_of_month ≡ t.day
+  pub in_month : month_parts asked.month.month ≡ month_at c t.year t.month
+  pub in_year : asked.month.year ≡ t.year
+  pub in_place : asked.month.place ≡ t.month
+  pub is_look : IsMonthLook c asked.month
+
+-- the days that a rule names in a month, whatever their weekdays are: the start's day where it names none
+abbrev pub IsNamedOfMonth : RecurrenceRule → ℕ → Stretch → ℤ → Type 0
+IsNamedOfMonth rule day s n =
+    (¬ (NoMonthDays rule) → IsNamedBy rule.month_days rule.skip s n)
+    × (NoMonthDays rule → ¬ (NoWeekdays rule) → InStretch s n)
+    × (NoMonthDays rule → NoWeekdays rule → NamesDay rule.skip s (FromFront day) n)
+
+-- BYMONTH has a month, where it is there
+abbrev pub KeepsMonth : RecurrenceRule → MonthParts → Type 0
+KeepsMonth rule m = ¬ (NoMonths rule) → IsTrue (has_month rule.months m)
+
+-- weekdays are counted in the month
+abbrev pub CountsInMonths : RecurrenceRule → Type 0
+CountsInMonths rule = ¬ ((rule.frequency ≡ Yearly) × NoMonths rule)
