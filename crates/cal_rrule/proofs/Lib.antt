@@ -1,6 +1,7 @@
 mod AskedLemmas
 mod LookLemmas
 mod MaskLemmas
+mod MonthDayLemmas
 mod NamedDayLemmas
 mod NamedMaskLemmas
 mod WeekdayLemmas

@@ -1,9 +1,9 @@
 -- Looks at months.
-use Rattle.std.proofs.Common.{◌≡◌, ◌∙◌, ℕ, false, ◌+◌, ◌-◌, ◌≤◌, ◌<◌, ◌↔◌, ◌⊎◌, ℤ, pos, negsuc, ◌+ℤ◌, ◌-ℤ◌, ◌≤ℤ◌, ◌<ℤ◌, refl, sym, ap, subst, arith}
+use Rattle.std.proofs.Common.{◌≡◌, ◌∙◌, ℕ, false, ◌+◌, ◌-◌, ◌≤◌, ◌<◌, ◌↔◌, ◌⊎◌, ℤ, pos, negsuc, ◌+ℤ◌, ◌-ℤ◌, ◌≤ℤ◌, ◌<ℤ◌, int_lt, refl, sym, ap, subst, arith}
 use mathlib.Core.Bool.{true≢false}
 use mathlib.Core.Logic.{inl, inr, ⊎_elim}
-use Rattle.cal_days.proofs.Signed.{signed}
-use Rattle.cal_types.specs.CalendarList.{CalendarList, Date, HasPlace, IsDate, IsOn, date, day_number, days_before, month_at, month_length, start_of_year}
+use Rattle.cal_days.proofs.Signed.{by_bool, signed}
+use Rattle.cal_types.specs.CalendarList.{CalendarList, Date, HasPlace, IsDate, IsLawful, IsOn, date, day_number, days_before, month_at, month_length, start_of_year}
 use Rattle.cal_types.specs.MonthParts.{month_parts}
 use Rattle.cal_types.proofs.ListLemmas.{on-rest, on-unique}
 use Rattle.cal_rule.specs.declared.rule.RecurrenceRule.{RecurrenceRule}
@@ -37,15 +37,15 @@ pub look-within : (c : CalendarList) (n : ℤ) (t : Date) (look : MonthLook) →
 look-within c n t look on first days =
     (omega (arith, signed, first, on.date.day.0), omega (arith, signed, first, days, on.date.day.1))
 
+abbrev made : ℤ → ℕ → Stretch
+made f d = record { first = f; days = d }
+
 -- the days that are looked at are those of the month
 pub look-stretch : (c : CalendarList) (look : MonthLook) → IsMonthLook c look →
     look_stretch look ≡ month_stretch c (look.year, look.place)
 look-stretch c look is =
     ap (λ (f : ℤ). made f look.days) is.is_first
     ∙ ap (λ (d : ℕ). made (day_number c (date look.year look.place 1)) d) is.is_length
-  where
-    abbrev made : ℤ → ℕ → Stretch
-    made f d = record { first = f; days = d }
 
 -- a day of a month that is looked at is on a date of it
 pub look-on : (c : CalendarList) (look : MonthLook) (n : ℤ) → IsMonthLook c look → InStretch (look_stretch look) n →
@@ -98,3 +98,49 @@ look-marks c rule look old new is counts small first none adds = record {
       (λ h. ⊎_elim (λ p. same.0 p.1) (λ q. absurd (true≢false (sym q ∙ none n))) (here.0 h),
       λ h. here.1 (inl ((from, to), same.1 h)));
 }
+
+-- a month has a day
+pub some : (c : CalendarList) → IsLawful c → (a : MonthLook) → IsMonthLook c a → 1 ≤ a.days
+some c law a is = omega (arith, is.is_length, (law.lengths a.year a.place is.is_place).0)
+
+-- two months with a common day are the same
+look-same : (c : CalendarList) (a b : MonthLook) (n : ℤ) → IsMonthLook c a → IsMonthLook c b →
+    InStretch (look_stretch a) n → InStretch (look_stretch b) n → look_stretch a ≡ look_stretch b
+look-same c a b n one two in_one in_two =
+    let own = look-on c a n one in_one in
+    let at = look-date c b n (date a.year a.place own.0) two in_two own.1 in
+    look-stretch c a one ∙ ap (λ (y : ℤ). month_stretch c (y, a.place)) at.0
+    ∙ ap (λ (i : ℕ). month_stretch c (b.year, i)) at.1 ∙ sym (look-stretch c b two)
+
+-- the month of the day behind a month begins there
+pub look-joins : (c : CalendarList) → IsLawful c → (a b : MonthLook) → IsMonthLook c a → IsMonthLook c b →
+    InStretch (look_stretch b) (end_of (look_stretch a)) → b.first ≡ end_of (look_stretch a)
+look-joins c law a b one two within =
+    by_bool (int_lt b.first (end_of (look_stretch a)))
+    (λ e. absurd (apart (omega (arith, signed, e)) (some c law a one)))
+    (λ e. omega (arith, signed, e, within.0))
+  where
+    apart : b.first <ℤ end_of (look_stretch a) → 1 ≤ a.days → ⊥
+    apart low some =
+        let last = end_of (look_stretch a) -ℤ pos 1 in
+        let in_one : InStretch (look_stretch a) last = (omega (arith, signed, some), omega (arith, signed)) in
+        let in_two : InStretch (look_stretch b) last = (omega (arith, signed, low), omega (arith, signed, within.1)) in
+        let same = look-same c a b last one two in_one in_two in
+        let ends : end_of (look_stretch a) ≡ end_of (look_stretch b) = ap end_of same in
+        omega (arith, signed, ends, within.1)
+
+-- and the month of the day before a month ends there
+pub look-meets : (c : CalendarList) → IsLawful c → (a b : MonthLook) → IsMonthLook c a → IsMonthLook c b →
+    InStretch (look_stretch b) (a.first -ℤ pos 1) → end_of (look_stretch b) ≡ a.first
+look-meets c law a b one two within =
+    by_bool (int_lt a.first (end_of (look_stretch b)))
+    (λ e. absurd (apart (omega (arith, signed, e)) (some c law a one)))
+    (λ e. omega (arith, signed, e, within.1))
+  where
+    apart : a.first <ℤ end_of (look_stretch b) → 1 ≤ a.days → ⊥
+    apart low some =
+        let in_one : InStretch (look_stretch a) a.first = (omega (arith, signed), omega (arith, signed, some)) in
+        let in_two : InStretch (look_stretch b) a.first = (omega (arith, signed, within.0), low) in
+        let same = look-same c a b a.first one two in_one in_two in
+        let begins : a.first ≡ b.first = ap (λ (s : Stretch). s.first) same in
+        omega (arith, signed, begins, within.0)

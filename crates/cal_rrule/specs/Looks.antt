@@ -1,5 +1,5 @@
 -- Months of a calendar as they are looked at, and what is known of a rule and its start.
-use Rattle.std.specs.Prelude.{◌≡◌, ◌↔◌, IsTrue, ℕ, ℤ}
+use Rattle.std.specs.Prelude.{◌≡◌, ◌↔◌, IsTrue, ℕ, ℤ, pos, ◌-ℤ◌, ◌+ℤ◌, ◌≤ℤ◌, ◌<ℤ◌}
 use Rattle.cal_types.specs.CalendarList.{CalendarList, Date, HasPlace, date, day_number, month_at, month_length}
 use Rattle.cal_types.specs.Month.{MonthParts}
 use Rattle.cal_types.specs.MonthParts.{month_parts}
@@ -9,7 +9,9 @@ use Rattle.cal_rule.specs.declared.place_set.Place.TheVariants.{FromFront}
 use Rattle.cal_rule.specs.declared.rule.RecurrenceRule.{RecurrenceRule}
 use Rattle.cal_rrule.specs.Masks.{IsNamedBy}
 use Rattle.cal_rrule.specs.Periods.{IsMissing, NoDays, NoMonthDays, NoMonths, NoWeekdays, NoWeeks, NoYearDays}
-use Rattle.cal_rrule.specs.Stretches.{InStretch, NamesDay, Stretch}
+use Rattle.cal_rule.specs.declared.skip.Skip.{Skip}
+use Rattle.cal_rule.specs.declared.skip.Skip.TheVariants.{Omit, Backward, Forward}
+use Rattle.cal_rrule.specs.Stretches.{InStretch, NamesDay, Stretch, end_of}
 use Rattle.cal_rrule.specs.declared.asked.Asked.{Asked}
 use Rattle.cal_rrule.specs.declared.missing.Missing.{Missing}
 use Rattle.cal_rrule.specs.declared.month_look.MonthLook.{MonthLook}
@@ -58,3 +60,13 @@ KeepsMonth rule m = ¬ (NoMonths rule) → IsTrue (has_month rule.months m)
 -- weekdays are counted in the month
 abbrev pub CountsInMonths : RecurrenceRule → Type 0
 CountsInMonths rule = ¬ ((rule.frequency ≡ Yearly) × NoMonths rule)
+
+-- the days that a place may name in a stretch
+abbrev pub Reaches : Skip → Stretch → ℤ → Type 0
+Reaches Omit s n = InStretch s n
+Reaches Backward s n = ((s.first -ℤ pos 1) ≤ℤ n) × (n <ℤ end_of s)
+Reaches Forward s n = (s.first ≤ℤ n) × (n <ℤ (end_of s +ℤ pos 1))
+
+-- the days that a rule names in a month, and BYMONTH keeps, whatever their weekdays are
+abbrev pub IsKeptOfMonth : RecurrenceRule → MonthParts → ℕ → Stretch → ℤ → Type 0
+IsKeptOfMonth rule m day s n = KeepsMonth rule m × IsNamedOfMonth rule day s n

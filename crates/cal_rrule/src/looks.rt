@@ -45,11 +45,24 @@ pub(crate) fn month_of<C: Calendar>(calendar: &C, day: i64) -> MonthLook
 }
 
 /// Returns the month after a month.
-pub(crate) fn month_after<C: Calendar>(calendar: &C, look: &MonthLook) -> MonthLook {
+pub(crate) fn month_after<C: Calendar>(calendar: &C, look: &MonthLook) -> MonthLook
+    requires { IsMonthLook (C.system calendar.now).list look.now }
+    ensures look { IsMonthLook (C.system calendar.now).list result }
+    ensures joins { result.first ≡ end_of (look_stretch look.now) }
+{
     let first = look.end();
     if is_valid(first) {
         return month_of(calendar, first);
     }
+    probed_month_after(calendar, look)
+}
+
+/// The same for a month behind the valid days.
+fn probed_month_after<C: Calendar>(calendar: &C, look: &MonthLook) -> MonthLook
+    requires { IsMonthLook (C.system calendar.now).list look.now }
+    ensures look { IsMonthLook (C.system calendar.now).list result }
+    ensures joins { result.first ≡ end_of (look_stretch look.now) }
+{
     let (year, place) = if look.place < months_of_year(calendar, look.year) {
         (look.year, look.place + 1)
     } else {
@@ -58,17 +71,31 @@ pub(crate) fn month_after<C: Calendar>(calendar: &C, look: &MonthLook) -> MonthL
     MonthLook {
         year,
         place,
-        first,
+        first: look.end(),
         days: days_of_month(calendar, year, place),
         month: month_in_place(calendar, year, place),
     }
 }
 
 /// Returns the month before a month.
-pub(crate) fn month_before<C: Calendar>(calendar: &C, look: &MonthLook) -> MonthLook {
-    if is_valid(look.first - 1) {
-        return month_of(calendar, look.first - 1);
+pub(crate) fn month_before<C: Calendar>(calendar: &C, look: &MonthLook) -> MonthLook
+    requires { IsMonthLook (C.system calendar.now).list look.now }
+    ensures look { IsMonthLook (C.system calendar.now).list result }
+    ensures joins { end_of (look_stretch result) ≡ look.now.first }
+{
+    let last = look.first - 1;
+    if is_valid(last) {
+        return month_of(calendar, last);
     }
+    probed_month_before(calendar, look)
+}
+
+/// The same for a month before the valid days.
+fn probed_month_before<C: Calendar>(calendar: &C, look: &MonthLook) -> MonthLook
+    requires { IsMonthLook (C.system calendar.now).list look.now }
+    ensures look { IsMonthLook (C.system calendar.now).list result }
+    ensures joins { end_of (look_stretch result) ≡ look.now.first }
+{
     let (year, place) = if look.place > 1 {
         (look.year, look.place - 1)
     } else {

@@ -1,6 +1,6 @@
 //! Months as they are looked at.
 
-ghost use Rattle.std.specs.Prelude.{neg_ℤ, pos};
+ghost use Rattle.std.specs.Prelude.{◌≤◌, neg_ℤ, pos};
 ghost use Rattle.cal_days.specs.Day.{IsBetween};
 
 use cal_types::Month;
@@ -13,5 +13,6 @@ pub(crate) struct MonthLook {
     pub first: i64,
     pub days: u8,
     pub month: Month,
-    ghost near: { IsBetween (neg_ℤ (pos 3000000000)) (pos 3000000000) first },
+    ghost short: { days ≤ 31 },
+    ghost near: { IsBetween (neg_ℤ (pos 1000000000)) (pos 1000000000) first },
 }

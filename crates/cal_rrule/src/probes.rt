@@ -1,5 +1,10 @@
 //! Months of years whose days needn't be valid, by asking which dates exist.
 
+ghost use Rattle.std.specs.Prelude.{◌≡◌};
+ghost use Rattle.cal_days.specs.Day.{IsFieldYear};
+ghost use Rattle.cal_types.specs.CalendarList.{HasPlace, month_at, month_count, month_length};
+ghost use Rattle.cal_types.specs.MonthParts.{month_parts};
+
 use cal_base::Calendar;
 use cal_types::{DateFields, DateFromFieldsError, DateFromFieldsOptions, Month, Overflow};
 
@@ -23,30 +28,40 @@ fn has_date<C: Calendar>(calendar: &C, year: i32, place: u8, month: Option<Month
 }
 
 /// Returns the number of months of a year.
-pub(crate) fn months_of_year<C: Calendar>(calendar: &C, year: i32) -> u8 {
+pub(crate) fn months_of_year<C: Calendar>(calendar: &C, year: i32) -> u8
+    requires { IsFieldYear year }
+    ensures { result ≡ month_count (C.system calendar.now).list year }
+{
     if has_date(calendar, year, 13, None, 1) { 13 } else { 12 }
 }
 
 /// Returns the number of days of the month in a place of a year.
-pub(crate) fn days_of_month<C: Calendar>(calendar: &C, year: i32, place: u8) -> u8 {
-    let mut days = 31;
-    while days > 1 && !has_date(calendar, year, place, None, days) {
-        days -= 1;
+pub(crate) fn days_of_month<C: Calendar>(calendar: &C, year: i32, place: u8) -> u8
+    requires place { HasPlace (C.system calendar.now).list year place }
+    requires year { IsFieldYear year }
+    ensures { result ≡ month_length (C.system calendar.now).list year place }
+{
+    for fewer in 0..30u8 {
+        if has_date(calendar, year, place, None, 31 - fewer) {
+            return 31 - fewer;
+        }
     }
-    days
+    1
 }
 
 /// Returns the month in a place of a year.
-pub(crate) fn month_in_place<C: Calendar>(calendar: &C, year: i32, place: u8) -> Month {
-    let mut number = 1;
-    while number < 99 {
+pub(crate) fn month_in_place<C: Calendar>(calendar: &C, year: i32, place: u8) -> Month
+    requires place { HasPlace (C.system calendar.now).list year place }
+    requires year { IsFieldYear year }
+    ensures { month_parts result ≡ month_at (C.system calendar.now).list year place }
+{
+    for number in 0..99u8 {
         if has_date(calendar, year, place, Some(Month::new(number)), 1) {
             return Month::new(number);
         }
         if has_date(calendar, year, place, Some(Month::leap(number)), 1) {
             return Month::leap(number);
         }
-        number += 1;
     }
     Month::new(99)
 }
