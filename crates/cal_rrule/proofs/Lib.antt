@@ -1,4 +1,6 @@
 mod AskedLemmas
+mod DayBlockLemmas
+mod IntervalLemmas
 mod LookLemmas
 mod MaskLemmas
 mod MonthDayLemmas

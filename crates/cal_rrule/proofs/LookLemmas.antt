@@ -32,10 +32,10 @@ look-of c n t look on year place first days month = record {
     begins = omega (arith, signed, on.day, on.date.day.0)
 
 -- the day is one of the month
-pub look-within : (c : CalendarList) (n : ℤ) (t : Date) (look : MonthLook) → IsOn c n t →
-    look.first ≡ n +ℤ pos 1 -ℤ pos t.day → look.days ≡ month_length c t.year t.month → InStretch (look_stretch look) n
-look-within c n t look on first days =
-    (omega (arith, signed, first, on.date.day.0), omega (arith, signed, first, days, on.date.day.1))
+pub look-within : (c : CalendarList) (n : ℤ) (t : Date) (first : ℤ) (days : ℕ) → IsOn c n t →
+    first ≡ n +ℤ pos 1 -ℤ pos t.day → days ≡ month_length c t.year t.month → (first ≤ℤ n) × (n <ℤ (first +ℤ pos days))
+look-within c n t first days on begins length =
+    (omega (arith, signed, begins, on.date.day.0), omega (arith, signed, begins, length, on.date.day.1))
 
 abbrev made : ℤ → ℕ → Stretch
 made f d = record { first = f; days = d }
@@ -59,7 +59,7 @@ look-on c look n is within = by_offset (n -ℤ look.first) refl
     by_offset (negsuc r) e = absurd (omega (arith, signed, e, within.0))
 
 -- the dates of two days in a month that is looked at
-look-date : (c : CalendarList) (look : MonthLook) (n : ℤ) (t : Date) → IsMonthLook c look → InStretch (look_stretch look) n →
+pub look-date : (c : CalendarList) (look : MonthLook) (n : ℤ) (t : Date) → IsMonthLook c look → InStretch (look_stretch look) n →
     IsOn c n t → (t.year ≡ look.year) × (t.month ≡ look.place)
 look-date c look n t is within on =
     let own = look-on c look n is within in

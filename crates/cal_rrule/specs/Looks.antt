@@ -1,14 +1,14 @@
 -- Months of a calendar as they are looked at, and what is known of a rule and its start.
-use Rattle.std.specs.Prelude.{◌≡◌, ◌↔◌, IsTrue, ℕ, ℤ, pos, ◌-ℤ◌, ◌+ℤ◌, ◌≤ℤ◌, ◌<ℤ◌}
+use Rattle.std.specs.Prelude.{◌≡◌, ◌↔◌, ◌⊎◌, ◌*◌, IsTrue, ℕ, ℤ, pos, ◌-ℤ◌, ◌+ℤ◌, ◌≤ℤ◌, ◌<ℤ◌}
 use Rattle.cal_types.specs.CalendarList.{CalendarList, Date, HasPlace, date, day_number, month_at, month_length}
 use Rattle.cal_types.specs.Month.{MonthParts}
 use Rattle.cal_types.specs.MonthParts.{month_parts}
 use Rattle.cal_rule.specs.declared.frequency.Frequency.TheVariants.{Yearly}
 use Rattle.cal_rule.specs.Sets.{has_month, has_place}
-use Rattle.cal_rule.specs.declared.place_set.Place.TheVariants.{FromFront}
+use Rattle.cal_rule.specs.declared.place_set.Place.TheVariants.{FromFront, FromBack}
 use Rattle.cal_rule.specs.declared.rule.RecurrenceRule.{RecurrenceRule}
 use Rattle.cal_rrule.specs.Masks.{IsNamedBy}
-use Rattle.cal_rrule.specs.Periods.{IsMissing, NoDays, NoMonthDays, NoMonths, NoWeekdays, NoWeeks, NoYearDays}
+use Rattle.cal_rrule.specs.Periods.{IsKeptDay, IsMissing, NoDays, NoMonthDays, NoMonths, NoWeekdays, NoWeeks, NoYearDays}
 use Rattle.cal_rule.specs.declared.skip.Skip.{Skip}
 use Rattle.cal_rule.specs.declared.skip.Skip.TheVariants.{Omit, Backward, Forward}
 use Rattle.cal_rrule.specs.Stretches.{InStretch, NamesDay, Stretch, end_of}
@@ -70,3 +70,17 @@ Reaches Forward s n = (s.first ≤ℤ n) × (n <ℤ (end_of s +ℤ pos 1))
 -- the days that a rule names in a month, and BYMONTH keeps, whatever their weekdays are
 abbrev pub IsKeptOfMonth : RecurrenceRule → MonthParts → ℕ → Stretch → ℤ → Type 0
 IsKeptOfMonth rule m day s n = KeepsMonth rule m × IsNamedOfMonth rule day s n
+
+-- BYSETPOS keeps a day that is alone, where it is there
+abbrev pub KeepsSingle : RecurrenceRule → Type 0
+KeepsSingle rule =
+    ¬ (IsMissing has_place rule.positions) →
+    IsTrue (has_place rule.positions (FromFront 1)) ⊎ IsTrue (has_place rule.positions (FromBack 1))
+
+-- a day lies a multiple of some days behind a start
+abbrev pub IsMultiple : ℤ → ℕ → ℤ → Type 0
+IsMultiple start every n = (k : ℕ) × (n ≡ start +ℤ pos (k * every))
+
+-- a day that DAILY keeps and BYSETPOS, too, where the start is a day
+abbrev pub IsDailyDay : CalendarList → RecurrenceRule → ℤ → ℤ → Type 0
+IsDailyDay c rule start n = IsMultiple start rule.interval n × IsKeptDay c rule n × KeepsSingle rule

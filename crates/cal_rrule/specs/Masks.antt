@@ -1,5 +1,5 @@
 -- Days as bits, in words of days.
-use Rattle.std.specs.Prelude.{◌≡◌, ℕ, ◌<◌, ◌+◌, ◌*◌, ◌⊎◌, ◌↔◌, IsTrue, Bool, ℤ, pos, ◌+ℤ◌, ◌≤ℤ◌, ◌<ℤ◌}
+use Rattle.std.specs.Prelude.{◌≡◌, ℕ, ◌<◌, ◌≤◌, ◌+◌, ◌*◌, ◌⊎◌, ◌↔◌, IsTrue, Bool, ℤ, pos, ◌+ℤ◌, ◌≤ℤ◌, ◌<ℤ◌}
 use Rattle.cal_rule.specs.Sets.{has_place, number_of}
 use Rattle.cal_rule.specs.declared.place_set.Place.{Place}
 use Rattle.cal_rule.specs.declared.place_set.PlaceSet.{PlaceSet}
@@ -58,3 +58,12 @@ IsWeekdayFrom set s offset n =
 -- and of some of the first seven days
 abbrev pub IsWeekdayBefore : WeekdayPlaces → Stretch → ℕ → ℤ → Type 0
 IsWeekdayBefore set s most n = (offset : ℕ) × (offset < most) × IsWeekdayFrom set s offset n
+
+-- a day lies a multiple of some days behind a start, from one day up to another
+abbrev pub IsInterval : ℤ → ℕ → ℤ → ℤ → ℤ → Type 0
+IsInterval start every from to n = (k : ℕ) × (n ≡ start +ℤ pos (k * every)) × (from ≤ℤ n) × (n <ℤ to)
+
+-- the same by the numbers of steps, from one up to another
+abbrev pub IsIntervalBelow : ℤ → ℕ → ℕ → ℕ → ℤ → ℤ → Type 0
+IsIntervalBelow start every low high to n =
+    (k : ℕ) × (low ≤ k) × (k < high) × (n ≡ start +ℤ pos (k * every)) × (n <ℤ to)

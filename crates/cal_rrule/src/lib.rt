@@ -4,6 +4,7 @@
 mod asked;
 mod asking;
 mod day_blocks;
+mod intervals;
 mod looks;
 mod missing;
 mod month_days;

@@ -54,7 +54,8 @@ pub(crate) fn add_weekdays_of_month(days: &mut PeriodDays, asked: &Asked, look: 
 
 /// Returns the days of a month on which BYDAY holds, if weekdays are counted in the month.
 pub(crate) fn weekdays_of_month(asked: &Asked, look: &MonthLook) -> PeriodDays
-    ensures { (c : CalendarList) → IsMonthLook c look.now → CountsInMonths asked.now.rule →
+    ensures first { result.first ≡ look.now.first }
+    ensures days { (c : CalendarList) → IsMonthLook c look.now → CountsInMonths asked.now.rule →
         Marks result look.now.first (end_of (look_stretch look.now)) (IsOfWeekdays c asked.now.rule) }
 {
     let mut days = PeriodDays::new(RataDie::new(look.first));

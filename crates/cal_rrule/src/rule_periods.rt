@@ -163,7 +163,7 @@ impl<C: Calendar> RulePeriods<C> {
             }
             Frequency::Daily => {
                 let look = month_numbered(&self.calendar, &self.asked.month, period)?;
-                Some(days_in_month(&self.calendar, &self.asked, &look))
+                Some(days_in_month(&self.asked, &look))
             }
         }
     }

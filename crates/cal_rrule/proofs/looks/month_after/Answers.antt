@@ -8,4 +8,5 @@ pub returns-then-is_valid-clause-joins : goal.returns-then-is_valid-clause-joins
 returns-then-is_valid-clause-joins g c =
     let list = (g.C.Calendar.system c.args.calendar.now).list in
     look-joins list (g.met.C.Calendar.lawful c.args.calendar.now) c.args.look.now c.month_of.result c.requires c.month_of.ensures.look
-    (rw c.end-first.ensures at c.month_of.ensures.within)
+    (omega (arith, signed, c.end-first.ensures, c.month_of.ensures.within.0, c.args.look.now.near, c.args.look.now.short),
+    omega (arith, signed, c.end-first.ensures, c.month_of.ensures.within.1, c.args.look.now.near, c.args.look.now.short))

@@ -24,4 +24,11 @@ returns-clause-within g c =
     let at : c.new.result ≡ c.args.day = omega (arith, signed) in
     let on = subst (λ (n : ℤ). IsOn list n t) at c.from_rata_die-date.ensures.on in
     let day : c.from.result ≡ pos t.day = c.from.ensures ∙ ap pos c.day_of_month.ensures in
-    look-within list c.args.day t _ on (omega (arith, signed, day)) c.days_in_month.ensures
+    look-within list c.args.day t _ _ on (omega (arith, signed, day)) c.days_in_month.ensures
+
+pub invariant_of-result-clause-short : goal.invariant_of-result-clause-short
+invariant_of-result-clause-short g c =
+    let list = (g.C.Calendar.system c.args.calendar.now).list in
+    let t = g.C.Calendar.date_of c.args.calendar.now c.from_rata_die-date.result in
+    let most = ((g.met.C.Calendar.lawful c.args.calendar.now).lengths t.year t.month c.from_rata_die-date.ensures.on.date.place).1 in
+    omega (arith, c.days_in_month.ensures, most)
