@@ -1,4 +1,5 @@
 mod AskedLemmas
+mod DailyLemmas
 mod DayBlockLemmas
 mod IntervalLemmas
 mod LookLemmas
@@ -8,3 +9,4 @@ mod NamedDayLemmas
 mod NamedMaskLemmas
 mod WeekdayLemmas
 mod WeekdayMaskLemmas
+mod YearLookLemmas

@@ -1,6 +1,6 @@
 -- Months of a calendar as they are looked at, and what is known of a rule and its start.
 use Rattle.std.specs.Prelude.{◌≡◌, ◌↔◌, ◌⊎◌, ◌*◌, IsTrue, ℕ, ℤ, pos, ◌-ℤ◌, ◌+ℤ◌, ◌≤ℤ◌, ◌<ℤ◌}
-use Rattle.cal_types.specs.CalendarList.{CalendarList, Date, HasPlace, date, day_number, month_at, month_length}
+use Rattle.cal_types.specs.CalendarList.{CalendarList, Date, HasPlace, date, day_number, month_at, month_length, start_of_year, year_length}
 use Rattle.cal_types.specs.Month.{MonthParts}
 use Rattle.cal_types.specs.MonthParts.{month_parts}
 use Rattle.cal_rule.specs.declared.frequency.Frequency.TheVariants.{Yearly}
@@ -8,13 +8,15 @@ use Rattle.cal_rule.specs.Sets.{has_month, has_place}
 use Rattle.cal_rule.specs.declared.place_set.Place.TheVariants.{FromFront, FromBack}
 use Rattle.cal_rule.specs.declared.rule.RecurrenceRule.{RecurrenceRule}
 use Rattle.cal_rrule.specs.Masks.{IsNamedBy}
-use Rattle.cal_rrule.specs.Periods.{IsKeptDay, IsMissing, NoDays, NoMonthDays, NoMonths, NoWeekdays, NoWeeks, NoYearDays}
+use Rattle.cal_rrule.specs.Periods.{Given, IsKeptDay, IsMissing, NoDays, NoMonthDays, NoMonths, NoWeekdays, NoWeeks, NoYearDays}
 use Rattle.cal_rule.specs.declared.skip.Skip.{Skip}
 use Rattle.cal_rule.specs.declared.skip.Skip.TheVariants.{Omit, Backward, Forward}
 use Rattle.cal_rrule.specs.Stretches.{InStretch, NamesDay, Stretch, end_of}
 use Rattle.cal_rrule.specs.declared.asked.Asked.{Asked}
 use Rattle.cal_rrule.specs.declared.missing.Missing.{Missing}
 use Rattle.cal_rrule.specs.declared.month_look.MonthLook.{MonthLook}
+use Rattle.cal_rrule.specs.declared.year_look.YearLook.{YearLook}
+use Rattle.cal_rule.specs.declared.place_set.Place.{Place}
 
 -- what is said of a month is so in a calendar
 pub record IsMonthLook (c : CalendarList) (look : MonthLook) : Type 0 where
@@ -84,3 +86,24 @@ IsMultiple start every n = (k : ℕ) × (n ≡ start +ℤ pos (k * every))
 -- a day that DAILY keeps and BYSETPOS, too, where the start is a day
 abbrev pub IsDailyDay : CalendarList → RecurrenceRule → ℤ → ℤ → Type 0
 IsDailyDay c rule start n = IsMultiple start rule.interval n × IsKeptDay c rule n × KeepsSingle rule
+
+-- what is said of a year is so in a calendar
+pub record IsYearLook (c : CalendarList) (look : YearLook) : Type 0 where
+  pub is_start : look.first ≡ start_of_year c look.year
+  pub is_whole : look.days ≡ year_length c look.year
+
+-- its days
+abbrev pub look_year : YearLook → Stretch
+look_year look = record { first = look.first; days = look.days }
+
+-- weekdays are counted in the year
+abbrev pub CountsInYears : RecurrenceRule → Type 0
+CountsInYears rule = (rule.frequency ≡ Yearly) × NoMonths rule
+
+-- a day of a month that a rule names in a year is one that the rule names in it, where the start's day of the month is
+-- one
+abbrev pub IsNamedInYearMonth : RecurrenceRule → ℕ → Stretch → ℤ → Type 0
+IsNamedInYearMonth rule day s n =
+    Given (NoMonthDays rule × ¬ (NoDays rule))
+    ((d : Place) × (IsTrue (has_place rule.month_days d) ⊎ (NoDays rule × (d ≡ FromFront day))) × NamesDay rule.skip s d n)
+    (InStretch s n)

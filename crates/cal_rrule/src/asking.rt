@@ -1,6 +1,8 @@
 //! What a rule and its start say.
 
+ghost use Rattle.std.specs.Prelude.{◌↔◌, IsTrue};
 ghost use Rattle.cal_rrule.specs.Looks.{AreMissing};
+ghost use Rattle.cal_rrule.specs.Periods.{NoDays};
 
 use crate::asked::Asked;
 use crate::missing::Missing;
@@ -24,8 +26,10 @@ pub(crate) fn missing_of(rule: &RecurrenceRule) -> Missing
 
 impl Missing {
     /// Returns whether no part names days of a year.
-    pub(crate) fn days(&self) -> bool {
-        self.weeks && self.year_days && self.month_days && self.weekdays
+    pub(crate) fn days(&self) -> bool
+        ensures { (rule : RecurrenceRule) → AreMissing rule self.now → IsTrue result ↔ NoDays rule }
+    {
+        (self.weeks & self.year_days) & (self.month_days & self.weekdays)
     }
 }
 

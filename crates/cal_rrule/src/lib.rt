@@ -3,6 +3,7 @@
 
 mod asked;
 mod asking;
+mod daily;
 mod day_blocks;
 mod intervals;
 mod looks;
@@ -18,6 +19,8 @@ mod rule_periods;
 mod set_positions;
 mod weekday_masks;
 mod year_days;
+mod year_look;
+mod year_months;
 
 pub use occurrence::Occurrence;
 pub use rule_periods::RulePeriods;

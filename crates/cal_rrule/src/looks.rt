@@ -2,10 +2,11 @@
 
 ghost use Rattle.std.specs.Prelude.{◌≡◌, ◌+ℤ◌, pos};
 ghost use Rattle.cal_days.specs.Day.{IsValidDay, is_valid_day};
-ghost use Rattle.cal_rrule.specs.Looks.{IsMonthLook, look_stretch};
+ghost use Rattle.cal_rrule.specs.Looks.{IsMonthLook, IsYearLook, look_stretch, look_year};
 ghost use Rattle.cal_rrule.specs.Stretches.{InStretch, end_of};
 
 use crate::month_look::MonthLook;
+use crate::year_look::YearLook;
 use crate::probes::{days_of_month, month_in_place, months_of_year};
 use cal_base::Calendar;
 use cal_days::RataDie;
@@ -123,23 +124,21 @@ pub(crate) fn month_near<C: Calendar>(calendar: &C, day: i64) -> MonthLook {
     look
 }
 
-/// A year: its first day and its length.
-#[derive(Clone, Copy)]
-pub(crate) struct YearLook {
-    pub year: i32,
-    pub first: i64,
-    pub days: u16,
-}
-
 impl YearLook {
     /// Returns the day behind the year.
-    pub(crate) fn end(&self) -> i64 {
+    pub(crate) fn end(&self) -> i64
+        ensures { result ≡ end_of (look_year self.now) }
+    {
         self.first + i64::from(self.days)
     }
 }
 
 /// Returns the year of a valid day.
-pub(crate) fn year_of<C: Calendar>(calendar: &C, day: i64) -> YearLook {
+pub(crate) fn year_of<C: Calendar>(calendar: &C, day: i64) -> YearLook
+    requires { IsValidDay day }
+    ensures look { IsYearLook (C.system calendar.now).list result }
+    ensures within { InStretch (look_year result) day }
+{
     let date = calendar.from_rata_die(RataDie::new(day));
     YearLook {
         year: calendar.extended_year(&date),

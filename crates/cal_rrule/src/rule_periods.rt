@@ -1,9 +1,11 @@
 //! The days of a rule's periods, by blocks.
 
 use crate::asked::Asked;
-use crate::day_blocks::{days_in_month, days_of_weeks_in_month};
-use crate::looks::{YearLook, is_valid, month_after, month_of, year_after, year_before, year_of};
+use crate::daily::kept_in_month;
+use crate::day_blocks::days_of_weeks_in_month;
+use crate::looks::{is_valid, month_after, month_of, year_after, year_before, year_of};
 use crate::month_look::MonthLook;
+use crate::year_look::YearLook;
 use crate::month_days::days_of_month;
 use crate::set_positions::keep_places;
 use crate::year_days::{days_of_weeks, days_of_year, year_of_week};
@@ -163,7 +165,7 @@ impl<C: Calendar> RulePeriods<C> {
             }
             Frequency::Daily => {
                 let look = month_numbered(&self.calendar, &self.asked.month, period)?;
-                Some(days_in_month(&self.asked, &look))
+                Some(kept_in_month(&self.asked, &look))
             }
         }
     }

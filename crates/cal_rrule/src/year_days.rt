@@ -1,10 +1,12 @@
 //! The days that a year names, as bits.
 
 use crate::asked::Asked;
-use crate::looks::{YearLook, year_after, year_before, year_near};
+use crate::looks::{year_after, year_before, year_near};
 use crate::month_look::MonthLook;
+use crate::year_look::YearLook;
 use crate::month_row::{MonthRow, lacks_leap};
-use crate::named_masks::{add_month_days, add_named, add_year_days};
+use crate::named_masks::add_year_days;
+use crate::year_months::add_days_of_month;
 use crate::weekday_masks::{add_weekdays, add_weekly};
 use cal_base::Calendar;
 use cal_days::RataDie;
@@ -38,20 +40,6 @@ fn is_named(asked: &Asked, months: &[MonthLook], place: usize, year: i32) -> boo
         return look.year == year;
     }
     (look.year == year && asked.says_month(look.month)) || replaces(asked, months, place, year)
-}
-
-/// Adds the days that the rule names in a month.
-fn add_days_of_month(days: &mut PeriodDays, asked: &Asked, look: &MonthLook) {
-    let length = u16::from(look.days);
-    let skip = asked.rule.skip();
-    let first = RataDie::new(look.first);
-    if !asked.missing.month_days {
-        add_month_days(days, skip, first, length, asked.rule.month_days());
-    } else if asked.missing.days() {
-        add_named(days, skip, first, length, Place::FromFront(u16::from(asked.day_of_month)));
-    } else {
-        days.insert_days(RataDie::new(look.first), RataDie::new(look.end()));
-    }
 }
 
 /// Adds the days of the months that the rule names in a year.
