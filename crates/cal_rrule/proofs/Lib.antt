@@ -5,6 +5,7 @@ mod IntervalLemmas
 mod LookLemmas
 mod MaskLemmas
 mod MonthDayLemmas
+mod MonthStepLemmas
 mod NamedDayLemmas
 mod NamedMaskLemmas
 mod WeekdayLemmas

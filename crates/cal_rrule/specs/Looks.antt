@@ -1,6 +1,7 @@
 -- Months of a calendar as they are looked at, and what is known of a rule and its start.
-use Rattle.std.specs.Prelude.{◌≡◌, ◌↔◌, ◌⊎◌, ◌*◌, IsTrue, ℕ, ℤ, pos, ◌-ℤ◌, ◌+ℤ◌, ◌≤ℤ◌, ◌<ℤ◌}
-use Rattle.cal_types.specs.CalendarList.{CalendarList, Date, HasPlace, date, day_number, month_at, month_length, start_of_year, year_length}
+use Rattle.std.specs.Prelude.{◌≡◌, ◌↔◌, Option, MatchOption, ◌⊎◌, ◌*◌, IsTrue, ℕ, ℤ, pos, ◌-ℤ◌, ◌+ℤ◌, ◌≤ℤ◌, ◌<ℤ◌}
+use Rattle.cal_days.specs.Day.{IsValidDay}
+use Rattle.cal_types.specs.CalendarList.{CalendarList, Date, HasPlace, IsMonthsAfter, date, day_number, month_at, month_length, start_of_year, year_length}
 use Rattle.cal_types.specs.Month.{MonthParts}
 use Rattle.cal_types.specs.MonthParts.{month_parts}
 use Rattle.cal_rule.specs.declared.frequency.Frequency.TheVariants.{Yearly}
@@ -107,3 +108,10 @@ IsNamedInYearMonth rule day s n =
     Given (NoMonthDays rule × ¬ (NoDays rule))
     ((d : Place) × (IsTrue (has_place rule.month_days d) ⊎ (NoDays rule × (d ≡ FromFront day))) × NamesDay rule.skip s d n)
     (InStretch s n)
+
+-- what was found is the month so many months after a month, or the first day of that month isn't valid
+abbrev pub IsMonthFound : CalendarList → MonthLook → ℕ → Option MonthLook → Type 0
+IsMonthFound c look months found =
+    MatchOption found
+    ((z : ℤ) (j : ℕ) → IsMonthsAfter c look.year look.place (pos months) z j → ¬ (IsValidDay (day_number c (date z j 1))))
+    (λ m. IsMonthLook c m × IsMonthsAfter c look.year look.place (pos months) m.year m.place)

@@ -11,6 +11,7 @@ mod missing;
 mod month_days;
 mod month_look;
 mod month_row;
+mod month_steps;
 mod named_days;
 mod named_masks;
 mod occurrence;

@@ -5,6 +5,7 @@ use crate::daily::kept_in_month;
 use crate::day_blocks::days_of_weeks_in_month;
 use crate::looks::{is_valid, month_after, month_of, year_after, year_before, year_of};
 use crate::month_look::MonthLook;
+use crate::month_steps::months_after;
 use crate::year_look::YearLook;
 use crate::month_days::days_of_month;
 use crate::set_positions::keep_places;
@@ -13,7 +14,7 @@ use cal_base::Calendar;
 use cal_days::RataDie;
 use cal_days::ranges::{FIRST_VALID_DAY, LAST_VALID_DAY};
 use cal_rule::{Frequency, RecurrenceRule};
-use cal_types::{DateAddOptions, DateDuration, DateFields, DateFromFieldsOptions, Overflow};
+use cal_types::{DateFields, DateFromFieldsOptions, Overflow};
 use recurrence_sets::PeriodDays;
 
 /// The days of the periods of a rule that starts on a day, in a calendar.
@@ -62,42 +63,30 @@ fn year_numbered<C: Calendar>(calendar: &C, number: i32) -> Option<YearLook> {
     None
 }
 
-/// Returns the month so many months after a month whose first day is valid, if its first day is valid, too.
-fn months_after<C: Calendar>(calendar: &C, first: i64, months: u32) -> Option<MonthLook> {
-    let date = calendar.from_rata_die(RataDie::new(first));
-    let duration = DateDuration {
-        months,
-        ..DateDuration::default()
-    };
-    let options = DateAddOptions {
-        overflow: Some(Overflow::Constrain),
-    };
-    match calendar.add(&date, duration, options) {
-        Ok(date) => Some(month_of(calendar, calendar.to_rata_die(&date).to_i64_date())),
-        Err(_) => None,
-    }
-}
-
 /// Returns the month so many months after a month, if the month or the day before it has a valid day.
 fn month_numbered<C: Calendar>(calendar: &C, month: &MonthLook, months: u32) -> Option<MonthLook> {
     if months == 0 {
         return Some(*month);
     }
-    let next = month.end();
-    if !is_valid(next) {
+    let behind = month.end();
+    if !is_valid(behind) {
         return if months == 1 {
             Some(month_after(calendar, month))
         } else {
             None
         };
     }
-    if let Some(look) = months_after(calendar, next, months - 1) {
+    if months > 27040000 {
+        return None;
+    }
+    let next = month_of(calendar, behind);
+    if let Some(look) = months_after(calendar, &next, months - 1) {
         return Some(look);
     }
     if months < 2 {
         return None;
     }
-    match months_after(calendar, next, months - 2) {
+    match months_after(calendar, &next, months - 2) {
         None => None,
         Some(look) => Some(month_after(calendar, &look)),
     }
