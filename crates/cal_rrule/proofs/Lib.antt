@@ -1,4 +1,5 @@
 mod AskedLemmas
+mod DailyBlockLemmas
 mod DailyLemmas
 mod DayBlockLemmas
 mod IntervalLemmas

@@ -1,6 +1,7 @@
 -- The month that lies so many months after a month, as adding months finds it.
 use Rattle.std.proofs.Common.{◌≡◌, ◌∙◌, ℕ, ◌+◌, ◌-◌, ◌*◌, ◌≤◌, ◌<◌, ◌&&◌, nat_le, nat_lt, min, Bool, true, false, Option, Some, None, MatchOption, Result, Ok, Err, ℤ, pos, ◌+ℤ◌, ◌-ℤ◌, ◌≤ℤ◌, ◌<ℤ◌, refl, sym, ap, subst, arith}
 use mathlib.Core.Bool.{true≢false}
+use mathlib.Core.Logic.{◌⊎◌, inl, inr}
 use Rattle.std.specs.Bool.{MatchBool}
 use Rattle.std.proofs.lemmas.Bool.Decides.{nat_tests}
 use Rattle.cal_days.specs.Day.{IsValidDay, is_field_year, is_valid_day}
@@ -9,13 +10,13 @@ use Rattle.cal_days.proofs.Signed.{signed}
 use Rattle.cal_errors.specs.declared.errors.DateAddError.{DateAddError}
 use Rattle.cal_errors.specs.declared.errors.DateAddError.TheVariants as fault
 use Rattle.cal_types.specs.Adding.{IsSum, IsSumFromMonth, IsValidOn, is_addable}
-use Rattle.cal_types.specs.CalendarList.{CalendarList, Date, HasPlace, IsDate, IsLawful, IsMonthsAfter, IsOn, date, day_number, month_at, month_length, month_number, spot}
+use Rattle.cal_types.specs.CalendarList.{CalendarList, Date, HasPlace, IsBefore, IsDate, IsLawful, IsMonthsAfter, IsOn, date, day_number, month_at, month_count, month_length, month_number, spot}
 use Rattle.cal_types.specs.Difference.{toward}
 use Rattle.cal_types.specs.declared.duration.DateDuration.{DateDuration}
 use Rattle.cal_types.specs.declared.options.Overflow.TheVariants.{Constrain}
-use Rattle.cal_types.proofs.ListLemmas.{month_number-injective, on-rest, on-unique, place_of-own, spot-own}
-use Rattle.cal_rrule.specs.Looks.{IsMonthFound, IsMonthLook, look_stretch}
-use Rattle.cal_rrule.specs.Stretches.{InStretch}
+use Rattle.cal_types.proofs.ListLemmas.{by_place_order, day_number-first, day_number-rises, days_before-end, days_before-next, month-finds, month_number-injective, month_number-next, month_number-order, month_number-place, on-unique, place_of-own, spot-own, start_of_year-next}
+use Rattle.cal_rrule.specs.Looks.{IsMonthFound, IsMonthHeld, IsMonthLook, look_stretch}
+use Rattle.cal_rrule.specs.Stretches.{InStretch, end_of}
 use Rattle.cal_rrule.specs.declared.month_look.MonthLook.{MonthLook}
 use Rattle.cal_rrule.proofs.LookLemmas.{look-date}
 
@@ -167,3 +168,137 @@ month-none c look months error sum z j after valid =
 
     same : day_number c (date z j 1) ≡ day_number c (date sum.0 sum.1 1)
     same = ap (λ (y : ℤ). day_number c (date y j 1)) at.0 ∙ ap (λ (i : ℕ). day_number c (date sum.0 i 1)) at.1
+
+-- the month after a month, in the sequence of months, begins on the day behind it
+next-first : (c : CalendarList) → IsLawful c → (y : ℤ) (i : ℕ) → HasPlace c y i →
+    (z : ℤ) × (j : ℕ) × IsMonthsAfter c y i (pos 1) z j
+    × (day_number c (date z j 1) ≡ day_number c (date y i 1) +ℤ pos (month_length c y i))
+next-first c law y i place = by_end (nat_lt i (month_count c y)) refl
+  where
+    by_end : (b : Bool) → nat_lt i (month_count c y) ≡ b → (z : ℤ) × (j : ℕ) × IsMonthsAfter c y i (pos 1) z j
+        × (day_number c (date z j 1) ≡ day_number c (date y i 1) +ℤ pos (month_length c y i))
+    by_end true e =
+        let low : i < month_count c y = grind (arith, nat_tests, e) in
+        (y, i + 1, record {
+          place = (omega arith, omega (arith, low));
+          moved = omega (arith, signed, month_number-place c y i place.0, month_number-place c y (i + 1) (omega arith));
+        }, omega (arith, signed, days_before-next c y i place))
+    by_end false e =
+        let last : month_count c y ≤ i = grind (arith, nat_tests, e) in
+        (y +ℤ pos 1, 1, record {
+          place = (omega arith, omega (arith, law.count (y +ℤ pos 1)));
+          moved = omega (arith, signed, place, last, month_number-place c y i place.0, month_number-next c y);
+        }, omega (arith, signed, day_number-first c (y +ℤ pos 1), start_of_year-next c y, days_before-next c y i place,
+            days_before-end c y (i + 1) (omega (arith, last))))
+
+-- a look at the month of the day behind a month is one at the month after it
+look-next : (c : CalendarList) → IsLawful c → (a b : MonthLook) → IsMonthLook c a → IsMonthLook c b →
+    InStretch (look_stretch b) (end_of (look_stretch a)) → IsMonthsAfter c a.year a.place (pos 1) b.year b.place
+look-next c law a b one two within =
+    let next = next-first c law a.year a.place one.is_place in
+    let same : day_number c (date next.0 next.1 1) ≡ end_of (look_stretch a) =
+        omega (arith, signed, next.3, one.is_first, one.is_length) in
+    let on = subst (λ (n : ℤ). IsOn c n (date next.0 next.1 1)) same (first-on c law next.0 next.1 next.2.place) in
+    let at = look-date c b (end_of (look_stretch a)) (date next.0 next.1 1) two within on in
+    subst (λ (j : ℕ). IsMonthsAfter c a.year a.place (pos 1) b.year j) at.1
+    (subst (λ (z : ℤ). IsMonthsAfter c a.year a.place (pos 1) z next.1) at.0 next.2)
+
+-- some months after a month begin behind it
+pub look-later : (c : CalendarList) → IsLawful c → (a : MonthLook) (months : ℕ) (z : ℤ) (j : ℕ) → IsMonthLook c a → 0 < months →
+    IsMonthsAfter c a.year a.place (pos months) z j → end_of (look_stretch a) ≤ℤ day_number c (date z j 1)
+look-later c law a months z j is more after =
+    by_place_order a.year a.place z j before
+    (λ h. absurd (omega (arith, signed, after.moved, more, month_number-order c z j a.year a.place after.place is.is_place h)))
+    (λ years places. absurd (omega (arith, signed, after.moved, more, same years places)))
+  where
+    same : a.year ≡ z → a.place ≡ j → month_number c a.year a.place ≡ month_number c z j
+    same years places = ap (λ (y : ℤ). month_number c y a.place) years ∙ ap (λ (i : ℕ). month_number c z i) places
+
+    last : IsDate c (date a.year a.place (month_length c a.year a.place))
+    last = record { place = is.is_place; day = ((law.lengths a.year a.place is.is_place).0, omega arith) }
+
+    first : IsDate c (date z j 1)
+    first = record { place = after.place; day = (omega arith, (law.lengths z j after.place).0) }
+
+    order : (a.year <ℤ z) ⊎ ((a.year ≡ z) × (a.place < j)) →
+        IsBefore (a.year, a.place, month_length c a.year a.place) (z, j, 1)
+    order (inl years) = inl years
+    order (inr p) = inr (p.0, inl p.1)
+
+    before : (a.year <ℤ z) ⊎ ((a.year ≡ z) × (a.place < j)) → end_of (look_stretch a) ≤ℤ day_number c (date z j 1)
+    before h =
+        let rises = day_number-rises c (date a.year a.place (month_length c a.year a.place)) (date z j 1) last first (order h) in
+        omega (arith, signed, rises, is.is_first, is.is_length, (law.lengths a.year a.place is.is_place).0)
+
+-- months after the next month are one more after the month
+one-more : (c : CalendarList) (a b : MonthLook) (rest months : ℕ) (z : ℤ) (j : ℕ) → months ≡ rest + 1 →
+    IsMonthsAfter c a.year a.place (pos 1) b.year b.place →
+    IsMonthsAfter c a.year a.place (pos months) z j → IsMonthsAfter c b.year b.place (pos rest) z j
+one-more c a b rest months z j is next after =
+    record { place = after.place; moved = omega (arith, signed, after.moved, next.moved, is) }
+
+more-one : (c : CalendarList) (a b : MonthLook) (rest months : ℕ) (z : ℤ) (j : ℕ) → months ≡ rest + 1 →
+    IsMonthsAfter c a.year a.place (pos 1) b.year b.place →
+    IsMonthsAfter c b.year b.place (pos rest) z j → IsMonthsAfter c a.year a.place (pos months) z j
+more-one c a b rest months z j is next after =
+    record { place = after.place; moved = omega (arith, signed, after.moved, next.moved, is) }
+
+-- the month itself
+pub held-zero : (c : CalendarList) (a : MonthLook) (months : ℕ) → IsMonthLook c a → months ≡ 0 → IsMonthHeld c a months (Some a)
+held-zero c a months is none = (is, record { place = is.is_place; moved = omega (arith, signed, none) })
+
+-- the day behind the month isn't valid
+pub held-none : (c : CalendarList) → IsLawful c → (a : MonthLook) (months : ℕ) (s : ℤ) → IsMonthLook c a → 0 < months →
+    IsValidDay s → InStretch (look_stretch a) s → is_valid_day (end_of (look_stretch a)) ≡ false → IsMonthHeld c a months None
+held-none c law a months s is more valid within fails z j after n above here =
+    let later = look-later c law a months z j is more after in
+    let end_valid : IsValidDay (end_of (look_stretch a)) =
+        (omega (arith, signed, valid.0, within.1), omega (arith, signed, later, above, here.1)) in
+    true≢false (sym (true-is_between _ _ (end_of (look_stretch a)) end_valid) ∙ fails)
+
+-- a month from the next one on
+pub held-next : (c : CalendarList) → IsLawful c → (a b : MonthLook) (months rest : ℕ) (s : ℤ) (r : Option MonthLook) →
+    IsMonthLook c a → IsMonthLook c b → months ≡ rest + 1 → IsValidDay s → InStretch (look_stretch a) s →
+    InStretch (look_stretch b) (end_of (look_stretch a)) → IsMonthFound c b rest r → IsMonthHeld c a months r
+held-next c law a b months rest s (Some m) one two is valid within behind given =
+    (given.0, more-one c a b rest months m.year m.place is (look-next c law a b one two behind) given.1)
+held-next c law a b months rest s None one two is valid within behind given = λ z j after n above here.
+    let next = look-next c law a b one two behind in
+    let later = look-later c law a months z j one (omega (arith, is)) after in
+    given z j (one-more c a b rest months z j is next after)
+    (omega (arith, signed, valid.0, within.1, later), omega (arith, signed, above, here.1))
+
+-- the month so many months after a month
+month-at : (c : CalendarList) → IsLawful c → (a : MonthLook) (months : ℕ) →
+    (z : ℤ) × (j : ℕ) × IsMonthsAfter c a.year a.place (pos months) z j
+month-at c law a months =
+    let found_at = month-finds c law (month_number c a.year a.place +ℤ pos months) in
+    (found_at.0, found_at.1, record { place = found_at.2; moved = found_at.3 })
+
+-- later months begin later
+month-order : (c : CalendarList) → IsLawful c → (a : MonthLook) (months later : ℕ) (z : ℤ) (j : ℕ) (y : ℤ) (i : ℕ) →
+    months ≤ later → IsMonthsAfter c a.year a.place (pos months) z j → IsMonthsAfter c a.year a.place (pos later) y i →
+    day_number c (date z j 1) ≤ℤ day_number c (date y i 1)
+month-order c law a months later z j y i order one two =
+    by_place_order z j y i
+    (λ h. omega (arith, signed, day_number-rises c (date z j 1) (date y i 1) (first z j one.place) (first y i two.place) (before h)))
+    (λ h. absurd (omega (arith, signed, one.moved, two.moved, order, month_number-order c y i z j two.place one.place h)))
+    (λ years places. let same : day_number c (date z j 1) ≡ day_number c (date y i 1) =
+        ap (λ (x : ℤ). day_number c (date x j 1)) years ∙ ap (λ (k : ℕ). day_number c (date y k 1)) places in
+        omega (arith, signed, same))
+  where
+    first : (x : ℤ) (k : ℕ) → HasPlace c x k → IsDate c (date x k 1)
+    first x k place = record { place = place; day = (omega arith, (law.lengths x k place).0) }
+
+    before : (z <ℤ y) ⊎ ((z ≡ y) × (j < i)) → IsBefore (z, j, 1) (y, i, 1)
+    before (inl years) = inl years
+    before (inr p) = inr (p.0, inl p.1)
+
+-- so no later month has a valid day if a month has none
+pub held-later : (c : CalendarList) → IsLawful c → (a : MonthLook) (months : ℕ) → IsMonthHeld c a months None →
+    (later : ℕ) → months ≤ later → (z : ℤ) (j : ℕ) → IsMonthsAfter c a.year a.place (pos later) z j →
+    (n : ℤ) → day_number c (date z j 1) ≤ℤ n → IsValidDay n → ⊥
+held-later c law a months none later order z j after n above valid =
+    let here = month-at c law a months in
+    let begins = month-order c law a months later here.0 here.1 z j order here.2 after in
+    none here.0 here.1 here.2 n (omega (arith, signed, begins, above)) valid

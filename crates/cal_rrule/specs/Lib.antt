@@ -1,3 +1,4 @@
+pub mod DailyBlocks
 pub mod Looks
 pub mod Masks
 pub mod NamedDays

@@ -115,3 +115,11 @@ IsMonthFound c look months found =
     MatchOption found
     ((z : ℤ) (j : ℕ) → IsMonthsAfter c look.year look.place (pos months) z j → ¬ (IsValidDay (day_number c (date z j 1))))
     (λ m. IsMonthLook c m × IsMonthsAfter c look.year look.place (pos months) m.year m.place)
+
+-- what was found is the month so many months after a month, or that month has no valid day
+abbrev pub IsMonthHeld : CalendarList → MonthLook → ℕ → Option MonthLook → Type 0
+IsMonthHeld c look months found =
+    MatchOption found
+    ((z : ℤ) (j : ℕ) → IsMonthsAfter c look.year look.place (pos months) z j →
+    (n : ℤ) → day_number c (date z j 1) ≤ℤ n → ¬ (IsValidDay n))
+    (λ m. IsMonthLook c m × IsMonthsAfter c look.year look.place (pos months) m.year m.place)

@@ -87,7 +87,8 @@ pub(crate) fn days_in_month(asked: &Asked, look: &MonthLook) -> PeriodDays
     requires missing { AreMissing asked.now.rule asked.now.missing }
     requires every { 0 < asked.now.rule.interval }
     requires day { IsBetween (neg_ℤ (pos 2000000000)) (pos 2000000000) asked.now.day }
-    ensures { (c : CalendarList) → IsMonthLook c look.now → CountsInMonths asked.now.rule →
+    ensures first { result.first ≡ look.now.first }
+    ensures days { (c : CalendarList) → IsMonthLook c look.now → CountsInMonths asked.now.rule →
         let s = look_stretch look.now in
         Marks result s.first (end_of s) (IsDailyDay c asked.now.rule asked.now.day) }
 {

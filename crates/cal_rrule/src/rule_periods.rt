@@ -1,7 +1,7 @@
 //! The days of a rule's periods, by blocks.
 
 use crate::asked::Asked;
-use crate::daily::kept_in_month;
+use crate::daily::daily_block;
 use crate::day_blocks::days_of_weeks_in_month;
 use crate::looks::{is_valid, month_after, month_of, year_after, year_before, year_of};
 use crate::month_look::MonthLook;
@@ -153,8 +153,10 @@ impl<C: Calendar> RulePeriods<C> {
                 Some(days_of_weeks_in_month(&self.calendar, &self.asked, &look))
             }
             Frequency::Daily => {
-                let look = month_numbered(&self.calendar, &self.asked.month, period)?;
-                Some(kept_in_month(&self.asked, &look))
+                if period > 27040000 {
+                    return None;
+                }
+                daily_block(&self.calendar, &self.asked, period)
             }
         }
     }
