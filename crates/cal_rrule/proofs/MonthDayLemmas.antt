@@ -1,10 +1,13 @@
 -- The days that a month names.
-use Rattle.std.proofs.Common.{◌≡◌, ◌∙◌, ℕ, ◌+◌, ◌≤◌, ◌<◌, ◌↔◌, ◌⊎◌, ◌&&◌, IsTrue, Bool, true, false, int_lt, ℤ, pos, ◌+ℤ◌, ◌-ℤ◌, ◌≤ℤ◌, ◌<ℤ◌, refl, sym, ap, subst, arith}
+use Rattle.std.proofs.Common.{◌≡◌, ◌∙◌, ℕ, ◌+◌, ◌*◌, ◌≤◌, ◌<◌, ◌↔◌, ◌⊎◌, ◌&&◌, IsTrue, Bool, true, false, int_lt, ℤ, pos, ◌+ℤ◌, ◌-ℤ◌, ◌≤ℤ◌, ◌<ℤ◌, refl, sym, ap, subst, arith}
 use mathlib.Core.Bool.{true≢false}
 use mathlib.Core.Logic.{inl, inr, ⊎_elim}
 use Rattle.std.proofs.lemmas.Bool.Decides.{Decides-and, Decides-at}
 use Rattle.cal_days.proofs.Signed.{by_bool, signed}
-use Rattle.cal_types.specs.CalendarList.{CalendarList, Date, IsLawful}
+use Rattle.cal_types.specs.CalendarList.{CalendarList, Date, IsLawful, IsMonthsAfter}
+use Rattle.cal_types.proofs.ListLemmas.{month_number-injective}
+use Rattle.cal_rule.specs.declared.frequency.Frequency.{Frequency}
+use Rattle.cal_rule.specs.declared.frequency.Frequency.TheVariants.{Yearly, Monthly}
 use Rattle.cal_types.specs.Month.{MonthParts}
 use Rattle.cal_types.specs.MonthParts.{month_parts}
 use Rattle.cal_rule.specs.Sets.{has_month}
@@ -15,7 +18,7 @@ use Rattle.cal_rule.specs.declared.skip.Skip.{Skip}
 use Rattle.cal_rule.specs.declared.skip.Skip.TheVariants.{Omit, Backward, Forward}
 use Rattle.cal_rrule.specs.Looks.{AreMissing, CountsInMonths, IsKeptOfMonth, IsMonthLook, IsNamedOfMonth, KeepsMonth, Reaches, look_stretch}
 use Rattle.cal_rrule.specs.Masks.{Adds, InRow, IsNamedBy, IsWeekdayIn, Marks}
-use Rattle.cal_rrule.specs.Periods.{IsNamedInMonth, IsOfWeekdays, NoMonthDays, NoWeekdays}
+use Rattle.cal_rrule.specs.Periods.{IsNamedInMonth, IsOfPeriod, IsOfPeriods, IsOfWeekdays, NoMonthDays, NoWeekdays}
 use Rattle.cal_rrule.specs.Stretches.{InStretch, NamesDay, Stretch, end_of, month_stretch}
 use Rattle.cal_rrule.specs.declared.missing.Missing.{Missing}
 use Rattle.cal_rrule.specs.declared.month_look.MonthLook.{MonthLook}
@@ -199,3 +202,26 @@ apart-before a b n meets p q = omega (arith, signed, meets, p.0, q.1)
 
 pub apart-behind : (a b : Stretch) (n : ℤ) → b.first ≡ end_of a → InStretch a n → InStretch b n → ⊥
 apart-behind a b n joins p q = omega (arith, signed, joins, p.1, q.0)
+
+-- MONTHLY counts weekdays in months
+pub monthly-months : (rule : RecurrenceRule) → rule.frequency ≡ Monthly → CountsInMonths rule
+monthly-months rule monthly h = never (sym monthly ∙ h.0)
+  where
+    never : ◌≡◌ {A = Frequency} Monthly Yearly → ⊥
+    never e = cc
+
+-- the days that a month names are those of its period
+pub period-month : (c : CalendarList) (rule : RecurrenceRule) (t : Date) (k : ℕ) (look : MonthLook) (n : ℤ) →
+    rule.frequency ≡ Monthly → IsMonthsAfter c t.year t.month (pos (k * rule.interval)) look.year look.place →
+    IsNamedInMonth c rule t (look.year, look.place) n ↔ IsOfPeriod c rule t k n
+period-month c rule t k look n monthly after = (
+  λ named. subst (λ (f : Frequency). IsOfPeriods f c rule t (k * rule.interval) n) (sym monthly)
+      ((look.year, look.place), after, named),
+  λ h. by_found (subst (λ (f : Frequency). IsOfPeriods f c rule t (k * rule.interval) n) monthly h),
+)
+  where
+    by_found : IsOfPeriods Monthly c rule t (k * rule.interval) n → IsNamedInMonth c rule t (look.year, look.place) n
+    by_found p =
+        let at = month_number-injective c p.0.0 p.0.1 look.year look.place p.1.place after.place (p.1.moved ∙ sym after.moved) in
+        subst (λ (i : ℕ). IsNamedInMonth c rule t (look.year, i) n) at.1
+        (subst (λ (y : ℤ). IsNamedInMonth c rule t (y, p.0.1) n) at.0 p.2)

@@ -1,11 +1,12 @@
 //! The days that a month names, as bits.
 
-ghost use Rattle.std.specs.Prelude.{◌≡◌, ◌↔◌, ◌-ℤ◌, ◌+ℤ◌, IsTrue, ℤ, pos};
-ghost use Rattle.cal_types.specs.CalendarList.{CalendarList, Date};
+ghost use Rattle.std.specs.Prelude.{◌≡◌, ◌↔◌, ◌*◌, ℕ, ◌-ℤ◌, ◌+ℤ◌, IsTrue, ℤ, pos};
+ghost use Rattle.cal_types.specs.CalendarList.{CalendarList, Date, IsMonthsAfter};
+ghost use Rattle.cal_rule.specs.declared.frequency.Frequency.TheVariants.{Monthly};
 ghost use Rattle.cal_types.specs.MonthParts.{month_parts};
 ghost use Rattle.cal_rrule.specs.Looks.{AreMissing, CountsInMonths, IsMonthLook, IsKeptOfMonth, IsNamedOfMonth, KeepsMonth, Reaches, look_stretch};
 ghost use Rattle.cal_rrule.specs.Masks.{Adds, IsWeekdayIn, Marks};
-ghost use Rattle.cal_rrule.specs.Periods.{IsNamedInMonth, IsOfWeekdays};
+ghost use Rattle.cal_rrule.specs.Periods.{IsNamedInMonth, IsOfPeriod, IsOfWeekdays};
 ghost use Rattle.recurrence_sets.specs.PeriodBits.{has_day};
 ghost use Rattle.cal_rrule.specs.Stretches.{end_of};
 
@@ -118,4 +119,17 @@ pub(crate) fn days_of_month<C: Calendar>(calendar: &C, asked: &Asked, look: &Mon
     let weekdays = weekdays_about(calendar, asked, look);
     days.keep_common(&weekdays);
     days
+}
+
+/// Returns the days of the period of MONTHLY that is a month, before BYSETPOS.
+pub(crate) fn days_of_period<C: Calendar>(calendar: &C, asked: &Asked, look: &MonthLook) -> PeriodDays
+    requires look { IsMonthLook (C.system calendar.now).list look.now }
+    requires missing { AreMissing asked.now.rule asked.now.missing }
+    requires monthly { asked.now.rule.frequency ≡ Monthly }
+    ensures { let list = (C.system calendar.now).list in let s = look_stretch look.now in let rule = asked.now.rule in
+        (t : Date) (k : ℕ) → t.day ≡ asked.now.day_of_month →
+        IsMonthsAfter list t.year t.month (pos (k * rule.interval)) look.now.year look.now.place →
+        Marks result (s.first -ℤ pos 1) (end_of s +ℤ pos 1) (IsOfPeriod list rule t k) }
+{
+    days_of_month(calendar, asked, look)
 }

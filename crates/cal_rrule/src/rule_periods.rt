@@ -7,7 +7,7 @@ use crate::looks::{is_valid, month_after, month_of, year_after, year_before, yea
 use crate::month_look::MonthLook;
 use crate::month_steps::months_after;
 use crate::year_look::YearLook;
-use crate::month_days::days_of_month;
+use crate::month_days::days_of_period;
 use crate::set_positions::keep_places;
 use crate::year_days::{days_of_weeks, days_of_year, year_of_week};
 use cal_base::Calendar;
@@ -132,7 +132,7 @@ impl<C: Calendar> RulePeriods<C> {
     fn month_block(&self, period: u32) -> Option<PeriodDays> {
         let months = self.steps(period, self.asked.rule.interval())?;
         let look = month_numbered(&self.calendar, &self.asked.month, months)?;
-        Some(days_of_month(&self.calendar, &self.asked, &look))
+        Some(days_of_period(&self.calendar, &self.asked, &look))
     }
 
     /// Keeps the places that BYSETPOS has.
