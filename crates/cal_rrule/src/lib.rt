@@ -12,6 +12,7 @@ mod month_days;
 mod month_look;
 mod month_row;
 mod month_steps;
+mod monthly;
 mod named_days;
 mod named_masks;
 mod occurrence;

@@ -13,6 +13,7 @@ ghost use Rattle.cal_rrule.specs.Stretches.{end_of};
 use crate::asked::Asked;
 use crate::month_look::MonthLook;
 use crate::looks::{month_after, month_before};
+use crate::monthly::period_under_omit;
 use crate::named_masks::{add_month_days, add_named};
 use crate::weekday_masks::add_weekdays;
 use cal_base::Calendar;
@@ -65,7 +66,7 @@ pub(crate) fn weekdays_of_month(asked: &Asked, look: &MonthLook) -> PeriodDays
 }
 
 /// Returns the days that a month names and BYMONTH keeps, whatever their weekdays are.
-fn kept_of_month(asked: &Asked, look: &MonthLook) -> PeriodDays
+pub(crate) fn kept_of_month(asked: &Asked, look: &MonthLook) -> PeriodDays
     requires { AreMissing asked.now.rule asked.now.missing }
     ensures { let s = look_stretch look.now in
         Marks result (s.first -ℤ pos 1) (end_of s +ℤ pos 1)
@@ -131,5 +132,8 @@ pub(crate) fn days_of_period<C: Calendar>(calendar: &C, asked: &Asked, look: &Mo
         IsMonthsAfter list t.year t.month (pos (k * rule.interval)) look.now.year look.now.place →
         Marks result (s.first -ℤ pos 1) (end_of s +ℤ pos 1) (IsOfPeriod list rule t k) }
 {
-    days_of_month(calendar, asked, look)
+    match asked.rule.skip() {
+        Skip::Omit => period_under_omit(asked, look),
+        _ => days_of_month(calendar, asked, look),
+    }
 }
