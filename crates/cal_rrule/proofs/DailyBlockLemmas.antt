@@ -28,32 +28,33 @@ kept-marks old new first end Is marks same both = record {
       let low : old.first ≤ℤ n = omega (arith, signed, marks.first, above) in
       let high : n <ℤ (old.first +ℤ pos 448) = omega (arith, signed, marks.first, below) in
       let parts = Decides-at (has_day new n) (has_day old n && (int_le first n && int_lt n end)) (both n low high)
-          (Decides-and (has_day old n) (int_le first n && int_lt n end) (λ x. x, λ x. x)
-          (Decides-and (int_le first n) (int_lt n end) (le_test first n) (lt_test n end))) in
-      (λ h. let p = parts.0 h in (p.1, (marks.days n p.1.0 p.1.1).0 p.0),
-      λ q. parts.1 ((marks.days n q.0.0 q.0.1).1 q.1, q.0));
+      (Decides-and (has_day old n) (int_le first n && int_lt n end) (λ x. x, λ x. x)
+      (Decides-and (int_le first n) (int_lt n end) (le_test first n) (lt_test n end))) in (
+        λ h. let p = parts.0 h in (p.1, (marks.days n p.1.0 p.1.1).0 p.0),
+        λ q. parts.1 ((marks.days n q.0.0 q.0.1).1 q.1, q.0),
+      );
 }
 
 -- the days of the month that was found are those of the block
 module _ (c : CalendarList) (rule : RecurrenceRule) (t : Date) (month look : MonthLook) (block : ℕ) (days : PeriodDays)
     (is : IsMonthLook c look) (after : IsMonthsAfter c month.year month.place (pos block) look.year look.place)
     (marks : Marks days look.first (look.first +ℤ pos 448) (λ n. InStretch (look_stretch look) n × ((k : ℕ) × IsKept c rule t k n))) where
-
   -- a day of the block is in the month
   in_month : (n : ℤ) → IsOfDailyBlock c rule t month block n → InStretch (look_stretch look) n
   in_month n p =
       let at = month_number-injective c p.0.0 p.0.1 look.year look.place p.1.place after.place (p.1.moved ∙ sym after.moved) in
       let same : month_stretch c p.0 ≡ look_stretch look =
-          ap (λ (y : ℤ). month_stretch c (y, p.0.1)) at.0 ∙ ap (λ (i : ℕ). month_stretch c (look.year, i)) at.1
-          ∙ sym (look-stretch c look is) in
+      ap (λ (y : ℤ). month_stretch c (y, p.0.1)) at.0 ∙ ap (λ (i : ℕ). month_stretch c (look.year, i)) at.1
+      ∙ sym (look-stretch c look is) in
       subst (λ (s : Stretch). InStretch s n) same p.2
 
   pub block-days : (n : ℤ) → InRow days n → IsTrue (has_day days n) ↔ IsOfDailyBlock c rule t month block n
   block-days n row =
-      let here = marks.days n (omega (arith, signed, marks.first, row.0)) (omega (arith, signed, marks.first, row.1)) in
-      (λ h. let p = here.0 h in
-          ((look.year, look.place), after, subst (λ (s : Stretch). InStretch s n) (look-stretch c look is) p.0, p.1.0, p.1.1),
-      λ p. here.1 (in_month n p, (p.3, p.4)))
+      let here = marks.days n (omega (arith, signed, marks.first, row.0)) (omega (arith, signed, marks.first, row.1)) in (
+        λ h. let p = here.0 h in
+            ((look.year, look.place), after, subst (λ (s : Stretch). InStretch s n) (look-stretch c look is) p.0, p.1.0, p.1.1),
+        λ p. here.1 (in_month n p, (p.3, p.4)),
+      )
 
   pub block-row : look.days ≤ 31 → (n : ℤ) → IsOfDailyBlock c rule t month block n → InRow days n
   block-row short n p =

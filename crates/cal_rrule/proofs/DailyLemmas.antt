@@ -16,10 +16,14 @@ use Rattle.cal_rrule.specs.declared.missing.Missing.{Missing}
 use Rattle.cal_rrule.proofs.AskedLemmas.{there-by}
 
 count-none : (Is : ℤ → Type 0) → ((m : ℤ) → Is m → ⊥) → HasCount Is 0
-count-none Is none = ([], record {
-  rising = λ i j d low within. absurd (omega (arith, within));
-  exact = λ m. (λ h. absurd (omega (arith, h.1)), λ is. absurd (none m is));
-}, refl)
+count-none Is none = (
+  [],
+  record {
+    rising = λ i j d low within. absurd (omega (arith, within));
+    exact = λ m. (λ h. absurd (omega (arith, h.1)), λ is. absurd (none m is));
+  },
+  refl,
+)
 
 count-zero : (Is : ℤ → Type 0) → ((m : ℤ) → Is m → ⊥) → (i : ℕ) (days : List ℤ) → AreDays Is days → length days ≡ i → i ≡ 0
 count-zero Is none i [] are same = sym same
@@ -51,7 +55,6 @@ daily-months rule daily h = never (sym daily ∙ h.0)
 
 module _ (c : CalendarList) (rule : RecurrenceRule) (t : Date) (missing : Missing) (are : AreMissing rule missing)
     (daily : rule.frequency ≡ Daily) (start : ℤ) (at : start ≡ day_number c t) (n : ℤ) where
-
   of-daily : (k : ℕ) (m : ℤ) → IsOfPeriod c rule t k m → (m ≡ day_number c t +ℤ pos (k * rule.interval)) × IsKeptDay c rule m
   of-daily k m h = subst (λ (f : Frequency). IsOfPeriods f c rule t (k * rule.interval) m) daily h
 
@@ -63,11 +66,17 @@ module _ (c : CalendarList) (rule : RecurrenceRule) (t : Date) (missing : Missin
 
   -- a day that DAILY keeps is kept of a period
   pub daily-kept : IsDailyDay c rule start n → (k : ℕ) × IsKept c rule t k n
-  daily-kept h = (h.0.0, (to-daily h.0.0 n is h.1, by_bool missing.positions
-      (λ e. inl (are.no_positions.0 e))
-      (λ e. inr (⊎_elim (λ p. (FromFront 1, p, front-one (IsOfPeriod c rule t h.0.0) n (only h.0.0 is)))
-      (λ p. (FromBack 1, p, back-one (IsOfPeriod c rule t h.0.0) n (only h.0.0 is)))
-      (h.2 (there-by (IsMissing has_place rule.positions) missing.positions are.no_positions e))))))
+  daily-kept h = (
+    h.0.0,
+    (
+      to-daily h.0.0 n is h.1,
+      by_bool missing.positions
+          (λ e. inl (are.no_positions.0 e))
+          (λ e. inr (⊎_elim (λ p. (FromFront 1, p, front-one (IsOfPeriod c rule t h.0.0) n (only h.0.0 is)))
+          (λ p. (FromBack 1, p, back-one (IsOfPeriod c rule t h.0.0) n (only h.0.0 is)))
+          (h.2 (there-by (IsMissing has_place rule.positions) missing.positions are.no_positions e)))),
+    ),
+  )
     where
       is : n ≡ day_number c t +ℤ pos (h.0.0 * rule.interval)
       is = h.0.1 ∙ ap (λ (m : ℤ). m +ℤ pos (h.0.0 * rule.interval)) at

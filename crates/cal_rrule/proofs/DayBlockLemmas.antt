@@ -27,9 +27,10 @@ pub single : (rule : RecurrenceRule) (b front back : Bool) → IsTrue b ↔ IsMi
     IsTrue (b || (front || back)) ↔ KeepsSingle rule
 single rule b front back same f g =
     let test = missing-or (IsMissing has_place rule.positions) b (front || back) same in
-    let either = Decides-or front back (λ x. x, λ x. x) (λ x. x, λ x. x) in
-    (λ h there. ⊎_elim (λ p. inl (sym f ∙ p)) (λ q. inr (sym g ∙ q)) (either.0 (test.0 h there)),
-    λ keeps. test.1 (λ there. either.1 (⊎_elim (λ p. inl (f ∙ p)) (λ q. inr (g ∙ q)) (keeps there))))
+    let either = Decides-or front back (λ x. x, λ x. x) (λ x. x, λ x. x) in (
+      λ h there. ⊎_elim (λ p. inl (sym f ∙ p)) (λ q. inr (sym g ∙ q)) (either.0 (test.0 h there)),
+      λ keeps. test.1 (λ there. either.1 (⊎_elim (λ p. inl (f ∙ p)) (λ q. inr (g ∙ q)) (keeps there))),
+    )
 
 -- the days of an interval in a month
 pub interval-marks : (old new : PeriodDays) (start from to : ℤ) (every : ℕ) → old.first ≡ from →
@@ -39,24 +40,26 @@ interval-marks old new start from to every first none adds few = record {
   first = adds.first ∙ first;
   days = λ n above below.
       let row : InRow old n = (omega (arith, signed, first, above), omega (arith, signed, first, below, few)) in
-      let here = adds.days n row in
-      (λ h. ⊎_elim (λ p. (p.0, p.1)) (λ q. absurd (true≢false (sym q ∙ none n))) (here.0 h),
-      λ p. here.1 (inl (p.0, p.1, above, below)));
+      let here = adds.days n row in (
+        λ h. ⊎_elim (λ p. (p.0, p.1)) (λ q. absurd (true≢false (sym q ∙ none n))) (here.0 h),
+        λ p. here.1 (inl (p.0, p.1, above, below)),
+      );
 }
 
 module _ (c : CalendarList) (rule : RecurrenceRule) (look : MonthLook) (is : IsMonthLook c look) (n : ℤ)
     (within : InStretch (look_stretch look) n) where
-
   -- BYMONTH of a day of the month
   pub look-months : KeepsMonth rule (month_parts look.month) ↔ (¬ (NoMonths rule) → IsOfMonths c rule n)
   look-months = (
-    λ keeps there. let own = look-on c look n is within in
-        (date look.year look.place own.0, own.1,
-        subst (λ (m : MonthParts). IsTrue (has_month rule.months m)) is.is_month (keeps there)),
+    λ keeps there. let own = look-on c look n is within in (
+      date look.year look.place own.0,
+      own.1,
+      subst (λ (m : MonthParts). IsTrue (has_month rule.months m)) is.is_month (keeps there),
+    ),
     λ holds there. let of = holds there in
         let at = look-date c look n of.0 is within of.1 in
         let same : month_at c of.0.year of.0.month ≡ month_parts look.month =
-            ap (λ (y : ℤ). month_at c y of.0.month) at.0 ∙ ap (λ (i : ℕ). month_at c look.year i) at.1 ∙ sym is.is_month in
+        ap (λ (y : ℤ). month_at c y of.0.month) at.0 ∙ ap (λ (i : ℕ). month_at c look.year i) at.1 ∙ sym is.is_month in
         subst (λ (m : MonthParts). IsTrue (has_month rule.months m)) same of.2,
   )
 
@@ -68,8 +71,8 @@ module _ (c : CalendarList) (rule : RecurrenceRule) (look : MonthLook) (is : IsM
         (date look.year look.place own.0, own.1, there.0, there.1, there.2),
     λ of. let at = look-date c look n of.0 is within of.1 in
         let same : month_stretch c (of.0.year, of.0.month) ≡ look_stretch look =
-            ap (λ (y : ℤ). month_stretch c (y, of.0.month)) at.0
-            ∙ ap (λ (i : ℕ). month_stretch c (look.year, i)) at.1 ∙ sym (look-stretch c look is) in
+        ap (λ (y : ℤ). month_stretch c (y, of.0.month)) at.0
+        ∙ ap (λ (i : ℕ). month_stretch c (look.year, i)) at.1 ∙ sym (look-stretch c look is) in
         subst (λ (s : Stretch). IsNamedBy rule.month_days Omit s n) same (of.2, of.3, of.4),
   )
 
@@ -102,8 +105,10 @@ pub daily-none : (c : CalendarList) (rule : RecurrenceRule) (look : MonthLook) (
     Marks days look.first (end_of (look_stretch look)) (IsDailyDay c rule start)
 daily-none c rule look start days is first none keeps = record {
   first = first;
-  days = λ n above below. (λ h. absurd (true≢false (sym h ∙ none n)),
-      λ p. absurd (keeps ((look-months c rule look is n (above, below)).1 p.1.month) p.2));
+  days = λ n above below. (
+    λ h. absurd (true≢false (sym h ∙ none n)),
+    λ p. absurd (keeps ((look-months c rule look is n (above, below)).1 p.1.month) p.2),
+  );
 }
 
 -- and one of which it keeps days
@@ -122,10 +127,11 @@ daily-some c rule look start one two three is keeps alone marks first_two first_
       let days = month_days n (above, below) in
       let named = weekdays n (above, below) in
       let multiple = marks.days n above below in
-      let months = look-months c rule look is n (above, below) in
-      (λ h. let outer = named.0 h in let inner = days.0 outer.0 in
-          (multiple.0 inner.0, record { month = months.0 keeps; month_day = inner.1; weekday = outer.1 }, alone),
-      λ p. named.1 (days.1 (multiple.1 p.0, p.1.month_day), p.1.weekday));
+      let months = look-months c rule look is n (above, below) in (
+        λ h. let outer = named.0 h in let inner = days.0 outer.0 in
+            (multiple.0 inner.0, record { month = months.0 keeps; month_day = inner.1; weekday = outer.1 }, alone),
+        λ p. named.1 (days.1 (multiple.1 p.0, p.1.month_day), p.1.weekday),
+      );
 }
 
 -- two tests that hold, and not both of them

@@ -53,9 +53,11 @@ pub look-on : (c : CalendarList) (look : MonthLook) (n : ℤ) → IsMonthLook c 
 look-on c look n is within = by_offset (n -ℤ look.first) refl
   where
     by_offset : (z : ℤ) → n -ℤ look.first ≡ z → (d : ℕ) × IsOn c n (date look.year look.place d)
-    by_offset (pos r) e =
-        (r + 1, on-rest c look.year look.place r n is.is_place (omega (arith, signed, e, is.is_first))
-        (omega (arith, signed, e, within.1, is.is_length)))
+    by_offset (pos r) e = (
+      r + 1,
+      on-rest c look.year look.place r n is.is_place (omega (arith, signed, e, is.is_first))
+          (omega (arith, signed, e, within.1, is.is_length)),
+    )
     by_offset (negsuc r) e = absurd (omega (arith, signed, e, within.0))
 
 -- the dates of two days in a month that is looked at
@@ -71,16 +73,19 @@ pub look-weekdays : (c : CalendarList) (rule : RecurrenceRule) (look : MonthLook
     CountsInMonths rule → InStretch (look_stretch look) n →
     IsAmongWeekdays rule.weekdays (look_stretch look) n ↔ IsOfWeekdays c rule n
 look-weekdays c rule look n is counts within = (
-  λ h. let own = look-on c look n is within in
-      (date look.year look.place own.0, own.1, month_stretch c (look.year, look.place),
-      (λ _. refl, λ m. absurd (counts m)),
-      subst (λ (s : Stretch). IsAmongWeekdays rule.weekdays s n) (look-stretch c look is) h),
+  λ h. let own = look-on c look n is within in (
+    date look.year look.place own.0,
+    own.1,
+    month_stretch c (look.year, look.place),
+    (λ _. refl, λ m. absurd (counts m)),
+    subst (λ (s : Stretch). IsAmongWeekdays rule.weekdays s n) (look-stretch c look is) h,
+  ),
   λ h. let at = look-date c look n h.0 is within h.1 in
       let named : h.2 ≡ month_stretch c (h.0.year, h.0.month) = h.3.0 counts in
       let same : h.2 ≡ look_stretch look = named
-          ∙ ap (λ (y : ℤ). month_stretch c (y, h.0.month)) at.0
-          ∙ ap (λ (i : ℕ). month_stretch c (look.year, i)) at.1
-          ∙ sym (look-stretch c look is) in
+      ∙ ap (λ (y : ℤ). month_stretch c (y, h.0.month)) at.0
+      ∙ ap (λ (i : ℕ). month_stretch c (look.year, i)) at.1
+      ∙ sym (look-stretch c look is) in
       subst (λ (s : Stretch). IsAmongWeekdays rule.weekdays s n) same h.4,
 )
 
@@ -94,9 +99,10 @@ look-marks c rule look old new is counts small first none adds = record {
   days = λ n from to.
       let row : InRow old n = (omega (arith, signed, first, from), omega (arith, signed, first, to, small)) in
       let here = adds.days n row in
-      let same = look-weekdays c rule look n is counts (from, to) in
-      (λ h. ⊎_elim (λ p. same.0 p.1) (λ q. absurd (true≢false (sym q ∙ none n))) (here.0 h),
-      λ h. here.1 (inl ((from, to), same.1 h)));
+      let same = look-weekdays c rule look n is counts (from, to) in (
+        λ h. ⊎_elim (λ p. same.0 p.1) (λ q. absurd (true≢false (sym q ∙ none n))) (here.0 h),
+        λ h. here.1 (inl ((from, to), same.1 h)),
+      );
 }
 
 -- a month has a day

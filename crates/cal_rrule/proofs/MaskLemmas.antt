@@ -49,9 +49,10 @@ pub adds-as : (old new : PeriodDays) (Is Other : ℤ → Type 0) → Adds old ne
     Adds old new Other
 adds-as old new Is Other given same = record {
   first = given.first;
-  days = λ n row.
-      (λ h. ⊎_elim (λ p. inl ((same n).0 p)) (λ q. inr q) ((given.days n row).0 h),
-      λ h. (given.days n row).1 (⊎_elim (λ p. inl ((same n).1 p)) (λ q. inr q) h));
+  days = λ n row. (
+    λ h. ⊎_elim (λ p. inl ((same n).0 p)) (λ q. inr q) ((given.days n row).0 h),
+    λ h. (given.days n row).1 (⊎_elim (λ p. inl ((same n).1 p)) (λ q. inr q) h),
+  );
 }
 
 row_at : (f g : ℤ) (n : ℤ) → g ≡ f → (f ≤ℤ n) × (n <ℤ (f +ℤ pos 448)) → (g ≤ℤ n) × (n <ℤ (g +ℤ pos 448))
@@ -64,9 +65,10 @@ adds-then old mid new Is More one two = record {
   first = two.first ∙ one.first;
   days = λ n row.
       let here = one.days n row in
-      let there = two.days n (row_at old.first mid.first n one.first row) in
-      (λ h. ⊎_elim (λ q. inl (inr q)) (λ m. ⊎_elim (λ p. inl (inl p)) (λ o. inr o) (here.0 m)) (there.0 h),
-      λ h. there.1 (⊎_elim (λ pq. ⊎_elim (λ p. inr (here.1 (inl p))) (λ q. inl q) pq) (λ o. inr (here.1 (inr o))) h));
+      let there = two.days n (row_at old.first mid.first n one.first row) in (
+        λ h. ⊎_elim (λ q. inl (inr q)) (λ m. ⊎_elim (λ p. inl (inl p)) (λ o. inr o) (here.0 m)) (there.0 h),
+        λ h. there.1 (⊎_elim (λ pq. ⊎_elim (λ p. inr (here.1 (inl p))) (λ q. inl q) pq) (λ o. inr (here.1 (inr o))) h),
+      );
 }
 
 -- the only day of a kind

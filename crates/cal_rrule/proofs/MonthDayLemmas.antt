@@ -104,10 +104,12 @@ module _ (c : CalendarList) (rule : RecurrenceRule) (t : Date) (look : MonthLook
       IsKeptOfMonth rule (month_parts look.month) t.day (look_stretch look) n
   named-out n named = (
     λ there. subst (λ (m : MonthParts). IsTrue (has_month rule.months m)) (sym is.is_month) (named.month there),
-    (λ there. subst (λ (s : Stretch). IsNamedBy rule.month_days rule.skip s n) (sym (look-stretch c look is)) (named.month_day there),
-    λ lacks there. subst (λ (s : Stretch). InStretch s n) (sym (look-stretch c look is)) (named.within lacks there),
-    λ lacks none. subst (λ (s : Stretch). NamesDay rule.skip s (FromFront t.day) n) (sym (look-stretch c look is))
-        (named.start_day lacks none)),
+    (
+      λ there. subst (λ (s : Stretch). IsNamedBy rule.month_days rule.skip s n) (sym (look-stretch c look is)) (named.month_day there),
+      λ lacks there. subst (λ (s : Stretch). InStretch s n) (sym (look-stretch c look is)) (named.within lacks there),
+      λ lacks none. subst (λ (s : Stretch). NamesDay rule.skip s (FromFront t.day) n) (sym (look-stretch c look is))
+          (named.start_day lacks none),
+    ),
   )
 
   -- without BYDAY
@@ -132,17 +134,18 @@ module _ (c : CalendarList) (rule : RecurrenceRule) (t : Date) (look : MonthLook
     first = first ∙ kept.first;
     days = λ n above below.
         let parts = Decides-at (has_day new n) (has_day old n && has_day weekdays n)
-            (both n (omega (arith, signed, kept.first, below, few)))
-            (Decides-and (has_day old n) (has_day weekdays n) (kept.days n above below) (λ x. x, λ x. x)) in
+        (both n (omega (arith, signed, kept.first, below, few)))
+        (Decides-and (has_day old n) (has_day weekdays n) (kept.days n above below) (λ x. x, λ x. x)) in
         let at = λ (p : IsKeptOfMonth rule (month_parts look.month) day (look_stretch look) n).
-            subst (λ (d : ℕ). IsKeptOfMonth rule (month_parts look.month) d (look_stretch look) n) (sym same) p in
+        subst (λ (d : ℕ). IsKeptOfMonth rule (month_parts look.month) d (look_stretch look) n) (sym same) p in
         let back = λ (p : IsKeptOfMonth rule (month_parts look.month) t.day (look_stretch look) n).
-            subst (λ (d : ℕ). IsKeptOfMonth rule (month_parts look.month) d (look_stretch look) n) same p in
-        (λ h. let both_are = parts.0 h in
-            named-in n (at both_are.0)
-            (λ _. (holds n (month-reach rule missing day (look_stretch look) n are both_are.0.1)).0 both_are.1),
-        λ named. let kept_is = back (named-out n named) in
-            parts.1 (kept_is, (holds n (month-reach rule missing day (look_stretch look) n are kept_is.1)).1 (named.weekday there)));
+        subst (λ (d : ℕ). IsKeptOfMonth rule (month_parts look.month) d (look_stretch look) n) same p in (
+          λ h. let both_are = parts.0 h in
+              named-in n (at both_are.0)
+              (λ _. (holds n (month-reach rule missing day (look_stretch look) n are both_are.0.1)).0 both_are.1),
+          λ named. let kept_is = back (named-out n named) in
+              parts.1 (kept_is, (holds n (month-reach rule missing day (look_stretch look) n are kept_is.1)).1 (named.weekday there)),
+        );
   }
 
 -- BYDAY in one month
@@ -153,9 +156,10 @@ pub about-one : (c : CalendarList) (rule : RecurrenceRule) (a : MonthLook) (old 
 about-one c rule a old new n is counts small first none adds within =
     let row : InRow old n = (omega (arith, signed, first, within.0), omega (arith, signed, first, within.1, small)) in
     let here = adds.days n row in
-    let same = look-weekdays c rule a n is counts within in
-    (λ h. ⊎_elim (λ p. same.0 p.1) (λ q. absurd (true≢false (sym q ∙ none n))) (here.0 h),
-    λ h. here.1 (inl (within, same.1 h)))
+    let same = look-weekdays c rule a n is counts within in (
+      λ h. ⊎_elim (λ p. same.0 p.1) (λ q. absurd (true≢false (sym q ∙ none n))) (here.0 h),
+      λ h. here.1 (inl (within, same.1 h)),
+    )
 
 -- and in two months that have no common day
 pub about-two : (c : CalendarList) (rule : RecurrenceRule) (a b : MonthLook) (old mid new : PeriodDays) (n : ℤ) →
@@ -176,13 +180,15 @@ about-two c rule a b old mid new n one two counts row none first_adds then_adds 
 
     by_side : InStretch (look_stretch a) n ⊎ InStretch (look_stretch b) n → IsTrue (has_day new n) ↔ IsOfWeekdays c rule n
     by_side (inl in_one) =
-        let same = look-weekdays c rule a n one counts in_one in
-        (λ h. ⊎_elim (λ p. absurd (apart in_one p.0)) (λ m. same.0 (of_mid m).1) (there.0 h),
-        λ h. there.1 (inr (here.1 (inl (in_one, same.1 h)))))
+        let same = look-weekdays c rule a n one counts in_one in (
+          λ h. ⊎_elim (λ p. absurd (apart in_one p.0)) (λ m. same.0 (of_mid m).1) (there.0 h),
+          λ h. there.1 (inr (here.1 (inl (in_one, same.1 h)))),
+        )
     by_side (inr in_two) =
-        let same = look-weekdays c rule b n two counts in_two in
-        (λ h. ⊎_elim (λ p. same.0 p.1) (λ m. absurd (apart (of_mid m).0 in_two)) (there.0 h),
-        λ h. there.1 (inl (in_two, same.1 h)))
+        let same = look-weekdays c rule b n two counts in_two in (
+          λ h. ⊎_elim (λ p. same.0 p.1) (λ m. absurd (apart (of_mid m).0 in_two)) (there.0 h),
+          λ h. there.1 (inl (in_two, same.1 h)),
+        )
 
 -- a day from the day before a month on is in the month before it or in the month
 pub reach-before : (a b : Stretch) (n : ℤ) → 1 ≤ b.days → end_of b ≡ a.first → (a.first -ℤ pos 1) ≤ℤ n → n <ℤ end_of a →

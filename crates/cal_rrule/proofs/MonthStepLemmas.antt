@@ -64,7 +64,6 @@ look-first c law look t is on =
 module _ (c : CalendarList) (law : IsLawful c) (shift : ℤ) (look : MonthLook) (t : Date) (is : IsMonthLook c look)
     (on : IsOn c look.first t) (field : is_field_year (t.year +ℤ shift) ≡ true) (months : ℕ) (few : months ≤ 27040000)
     (r : Result Date DateAddError) where
-
   year : ℤ
   year = t.year +ℤ toward false 0
 
@@ -141,9 +140,11 @@ pub month-found : (c : CalendarList) → IsLawful c → (look m : MonthLook) (mo
     × IsValidOn c (day_number c (date z j 1)) (Ok u) →
     n ≡ day_number c u → IsMonthLook c m → InStretch (look_stretch m) n →
     IsMonthLook c m × IsMonthsAfter c look.year look.place (pos months) m.year m.place
-month-found c law look m months u n sum is_day is within =
-    (is, subst (λ (j : ℕ). IsMonthsAfter c look.year look.place (pos months) m.year j) at.1
-    (subst (λ (z : ℤ). IsMonthsAfter c look.year look.place (pos months) z sum.1) at.0 sum.2))
+month-found c law look m months u n sum is_day is within = (
+  is,
+  subst (λ (j : ℕ). IsMonthsAfter c look.year look.place (pos months) m.year j) at.1
+      (subst (λ (z : ℤ). IsMonthsAfter c look.year look.place (pos months) z sum.1) at.0 sum.2),
+)
   where
     on : IsOn c (day_number c (date sum.0 sum.1 1)) u
     on = ok-on c (day_number c (date sum.0 sum.1 1)) u (is_valid_day (day_number c (date sum.0 sum.1 1))) sum.3
@@ -178,18 +179,32 @@ next-first c law y i place = by_end (nat_lt i (month_count c y)) refl
     by_end : (b : Bool) → nat_lt i (month_count c y) ≡ b → (z : ℤ) × (j : ℕ) × IsMonthsAfter c y i (pos 1) z j
         × (day_number c (date z j 1) ≡ day_number c (date y i 1) +ℤ pos (month_length c y i))
     by_end true e =
-        let low : i < month_count c y = grind (arith, nat_tests, e) in
-        (y, i + 1, record {
-          place = (omega arith, omega (arith, low));
-          moved = omega (arith, signed, month_number-place c y i place.0, month_number-place c y (i + 1) (omega arith));
-        }, omega (arith, signed, days_before-next c y i place))
+        let low : i < month_count c y = grind (arith, nat_tests, e) in (
+          y,
+          i + 1,
+          record {
+            place = (omega arith, omega (arith, low));
+            moved = omega (arith, signed, month_number-place c y i place.0, month_number-place c y (i + 1) (omega arith));
+          },
+          omega (arith, signed, days_before-next c y i place),
+        )
     by_end false e =
-        let last : month_count c y ≤ i = grind (arith, nat_tests, e) in
-        (y +ℤ pos 1, 1, record {
-          place = (omega arith, omega (arith, law.count (y +ℤ pos 1)));
-          moved = omega (arith, signed, place, last, month_number-place c y i place.0, month_number-next c y);
-        }, omega (arith, signed, day_number-first c (y +ℤ pos 1), start_of_year-next c y, days_before-next c y i place,
-            days_before-end c y (i + 1) (omega (arith, last))))
+        let last : month_count c y ≤ i = grind (arith, nat_tests, e) in (
+          y +ℤ pos 1,
+          1,
+          record {
+            place = (omega arith, omega (arith, law.count (y +ℤ pos 1)));
+            moved = omega (arith, signed, place, last, month_number-place c y i place.0, month_number-next c y);
+          },
+          omega (
+            arith,
+            signed,
+            day_number-first c (y +ℤ pos 1),
+            start_of_year-next c y,
+            days_before-next c y i place,
+            days_before-end c y (i + 1) (omega (arith, last)),
+          ),
+        )
 
 -- a look at the month of the day behind a month is one at the month after it
 look-next : (c : CalendarList) → IsLawful c → (a b : MonthLook) → IsMonthLook c a → IsMonthLook c b →
@@ -197,7 +212,7 @@ look-next : (c : CalendarList) → IsLawful c → (a b : MonthLook) → IsMonthL
 look-next c law a b one two within =
     let next = next-first c law a.year a.place one.is_place in
     let same : day_number c (date next.0 next.1 1) ≡ end_of (look_stretch a) =
-        omega (arith, signed, next.3, one.is_first, one.is_length) in
+    omega (arith, signed, next.3, one.is_first, one.is_length) in
     let on = subst (λ (n : ℤ). IsOn c n (date next.0 next.1 1)) same (first-on c law next.0 next.1 next.2.place) in
     let at = look-date c b (end_of (look_stretch a)) (date next.0 next.1 1) two within on in
     subst (λ (j : ℕ). IsMonthsAfter c a.year a.place (pos 1) b.year j) at.1
@@ -253,7 +268,7 @@ pub held-none : (c : CalendarList) → IsLawful c → (a : MonthLook) (months : 
 held-none c law a months s is more valid within fails z j after n above here =
     let later = look-later c law a months z j is more after in
     let end_valid : IsValidDay (end_of (look_stretch a)) =
-        (omega (arith, signed, valid.0, within.1), omega (arith, signed, later, above, here.1)) in
+    (omega (arith, signed, valid.0, within.1), omega (arith, signed, later, above, here.1)) in
     true≢false (sym (true-is_between _ _ (end_of (look_stretch a)) end_valid) ∙ fails)
 
 -- a month from the next one on
@@ -284,8 +299,8 @@ month-order c law a months later z j y i order one two =
     (λ h. omega (arith, signed, day_number-rises c (date z j 1) (date y i 1) (first z j one.place) (first y i two.place) (before h)))
     (λ h. absurd (omega (arith, signed, one.moved, two.moved, order, month_number-order c y i z j two.place one.place h)))
     (λ years places. let same : day_number c (date z j 1) ≡ day_number c (date y i 1) =
-        ap (λ (x : ℤ). day_number c (date x j 1)) years ∙ ap (λ (k : ℕ). day_number c (date y k 1)) places in
-        omega (arith, signed, same))
+    ap (λ (x : ℤ). day_number c (date x j 1)) years ∙ ap (λ (k : ℕ). day_number c (date y k 1)) places in
+    omega (arith, signed, same))
   where
     first : (x : ℤ) (k : ℕ) → HasPlace c x k → IsDate c (date x k 1)
     first x k place = record { place = place; day = (omega arith, (law.lengths x k place).0) }

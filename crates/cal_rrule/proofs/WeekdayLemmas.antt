@@ -35,7 +35,6 @@ weekday-of z day e = omega (arith, signed, e ∙ floor_mod-is z 7 (omega arith))
 
 module _ (s : Stretch) (offset week : ℕ) (n : ℤ) (low : offset < 7) (within : offset + 7 * week < s.days)
     (at : n ≡ s.first +ℤ pos (offset + 7 * week)) where
-
   inside : InStretch s n
   inside = (omega (arith, signed, at), omega (arith, signed, at, within))
 
@@ -79,8 +78,10 @@ module _ (s : Stretch) (offset week : ℕ) (n : ℤ) (low : offset < 7) (within 
     where
       every : Bool
       every = has_ordinal set (days_since_sunday day) None
+
       front : Bool
       front = has_ordinal set (days_since_sunday day) (Some (FromFront (week + 1)))
+
       back : Bool
       back = has_ordinal set (days_since_sunday day) (Some (FromBack behind))
 

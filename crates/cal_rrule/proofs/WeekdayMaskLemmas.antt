@@ -102,5 +102,7 @@ module _ (set : WeekdayPlaces) (s : Stretch) where
       Adds old new (IsWeekdayIn set s)
   weekday-all most old new seven all =
       adds-as old new (IsWeekdayBefore set s most) (IsWeekdayIn set s) all
-      (λ n. (λ p. ((omega (arith, signed, p.2.2), omega (arith, signed, p.2.1, p.2.2)), p.2.3),
-      λ p. subst (λ (m : ℕ). IsWeekdayBefore set s m n) (sym seven) (place_of_day n p.0 p.1 (n -ℤ s.first) refl)))
+      (λ n. (
+        λ p. ((omega (arith, signed, p.2.2), omega (arith, signed, p.2.1, p.2.2)), p.2.3),
+        λ p. subst (λ (m : ℕ). IsWeekdayBefore set s m n) (sym seven) (place_of_day n p.0 p.1 (n -ℤ s.first) refl),
+      ))

@@ -62,9 +62,13 @@ year-weekdays : (c : CalendarList) (rule : RecurrenceRule) (look : YearLook) (n 
 year-weekdays c rule look n is counts within = (
   λ h. let own = year-on c look n is within in
       let same : look_year look ≡ year_stretch c own.0.year =
-          year-stretch c look is ∙ ap (λ (y : ℤ). year_stretch c y) (sym own.2) in
-      (own.0, own.1, year_stretch c own.0.year, (λ none. absurd (none counts), λ _. refl),
-      subst (λ (s : Stretch). IsAmongWeekdays rule.weekdays s n) same h),
+      year-stretch c look is ∙ ap (λ (y : ℤ). year_stretch c y) (sym own.2) in (
+        own.0,
+        own.1,
+        year_stretch c own.0.year,
+        (λ none. absurd (none counts), λ _. refl),
+        subst (λ (s : Stretch). IsAmongWeekdays rule.weekdays s n) same h,
+      ),
   λ h. let own = year-on c look n is within in
       let date_is : h.0 ≡ own.0 = on-unique c n h.0 own.0 h.1 own.1 in
       let year_is : h.0.year ≡ look.year = ap (λ (u : Date). u.year) date_is ∙ own.2 in
@@ -82,9 +86,10 @@ year-marks c rule look old new is counts short first none adds = record {
   days = λ n from to.
       let row : InRow old n = (omega (arith, signed, first, from), omega (arith, signed, first, to, short)) in
       let here = adds.days n row in
-      let same = year-weekdays c rule look n is counts (from, to) in
-      (λ h. ⊎_elim (λ p. same.0 p.1) (λ q. absurd (true≢false (sym q ∙ none n))) (here.0 h),
-      λ h. here.1 (inl ((from, to), same.1 h)));
+      let same = year-weekdays c rule look n is counts (from, to) in (
+        λ h. ⊎_elim (λ p. same.0 p.1) (λ q. absurd (true≢false (sym q ∙ none n))) (here.0 h),
+        λ h. here.1 (inl ((from, to), same.1 h)),
+      );
 }
 
 -- no part names days
@@ -103,18 +108,22 @@ module _ (rule : RecurrenceRule) (day : ℕ) (s : Stretch) (old new : PeriodDays
   pub year-by_days : ¬ (NoMonthDays rule) → Adds old new (IsNamedBy rule.month_days rule.skip s) →
       Adds old new (IsNamedInYearMonth rule day s)
   year-by_days there adds = adds-as old new (IsNamedBy rule.month_days rule.skip s) (IsNamedInYearMonth rule day s) adds
-      (λ n. (λ p. (λ _. (p.0, inl p.1, p.2), λ both. absurd (there both.0)),
-      λ p. let q = p.0 (λ both. there both.0) in
-          ⊎_elim (λ has. (q.0, has, q.2)) (λ none. absurd (there none.0.2)) q.1))
+      (λ n. (
+        λ p. (λ _. (p.0, inl p.1, p.2), λ both. absurd (there both.0)),
+        λ p. let q = p.0 (λ both. there both.0) in
+            ⊎_elim (λ has. (q.0, has, q.2)) (λ none. absurd (there none.0.2)) q.1,
+      ))
 
   -- the start's day of the month
   pub year-by_start : NoMonthDays rule → NoDays rule → Adds old new (NamesDay rule.skip s (FromFront day)) →
       Adds old new (IsNamedInYearMonth rule day s)
   year-by_start lacks none adds = adds-as old new (NamesDay rule.skip s (FromFront day)) (IsNamedInYearMonth rule day s) adds
-      (λ n. (λ p. (λ _. (FromFront day, inr (none, refl), p), λ both. absurd (both.1 none)),
-      λ p. let q = p.0 (λ both. both.1 none) in
-          ⊎_elim (λ has. absurd (true≢false (sym has ∙ lacks q.0)))
-          (λ is. subst (λ (d : Place). NamesDay rule.skip s d n) is.1 q.2) q.1))
+      (λ n. (
+        λ p. (λ _. (FromFront day, inr (none, refl), p), λ both. absurd (both.1 none)),
+        λ p. let q = p.0 (λ both. both.1 none) in
+            ⊎_elim (λ has. absurd (true≢false (sym has ∙ lacks q.0)))
+            (λ is. subst (λ (d : Place). NamesDay rule.skip s d n) is.1 q.2) q.1,
+      ))
 
   -- all days of the month
   pub year-by_month : NoMonthDays rule → ¬ (NoDays rule) → Adds old new (InStretch s) →

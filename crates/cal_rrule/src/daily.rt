@@ -49,7 +49,11 @@ fn kept_in_block(asked: &Asked, look: &MonthLook) -> PeriodDays
 
 /// Returns the days of the month so many months after the start's that are kept of some period, under DAILY, or `None`
 /// if neither that month nor a later one has a valid day.
-pub(crate) fn daily_block<C: Calendar>(calendar: &C, asked: &Asked, period: u32) -> Option<PeriodDays>
+pub(crate) fn daily_block<C: Calendar>(
+    calendar: &C,
+    asked: &Asked,
+    period: u32,
+) -> Option<PeriodDays>
     requires look { IsMonthLook (C.system calendar.now).list asked.now.month }
     requires valid { IsValidDay asked.now.day }
     requires within { InStretch (look_stretch asked.now.month) asked.now.day }

@@ -10,9 +10,9 @@ ghost use Rattle.cal_rrule.specs.Stretches.{InStretch, end_of};
 ghost use Rattle.recurrence_sets.specs.PeriodBits.{has_day};
 
 use crate::asked::Asked;
-use crate::month_look::MonthLook;
 use crate::intervals::add_interval;
 use crate::month_days::{keeps_month, weekdays_of_month};
+use crate::month_look::MonthLook;
 use crate::month_row::MonthRow;
 use crate::named_masks::add_month_days;
 use crate::set_positions::keep_places;
@@ -44,7 +44,13 @@ fn interval_in_month(asked: &Asked, look: &MonthLook) -> PeriodDays
     let first = RataDie::new(look.first);
     let mut days = PeriodDays::new(first);
     let start = RataDie::new(asked.day);
-    add_interval(&mut days, first, RataDie::new(look.end()), start, asked.rule.interval());
+    add_interval(
+        &mut days,
+        first,
+        RataDie::new(look.end()),
+        start,
+        asked.rule.interval(),
+    );
     days
 }
 
@@ -62,7 +68,13 @@ fn keep_month_days(days: &mut PeriodDays, asked: &Asked, look: &MonthLook)
     }
     let first = RataDie::new(look.first);
     let mut named = PeriodDays::new(first);
-    add_month_days(&mut named, Skip::Omit, first, u16::from(look.days), asked.rule.month_days());
+    add_month_days(
+        &mut named,
+        Skip::Omit,
+        first,
+        u16::from(look.days),
+        asked.rule.month_days(),
+    );
     days.keep_common(&named);
 }
 
@@ -138,7 +150,10 @@ fn days_of_weekdays<C: Calendar>(calendar: &C, asked: &Asked, from: i64, to: i64
         let months = span.row.months();
         for place in 0..months.len() {
             if asked.rule.months().contains(months[place].month) {
-                named.insert_days(RataDie::new(months[place].first), RataDie::new(months[place].end()));
+                named.insert_days(
+                    RataDie::new(months[place].first),
+                    RataDie::new(months[place].end()),
+                );
             }
         }
         days.keep_common(&named);
@@ -147,7 +162,11 @@ fn days_of_weekdays<C: Calendar>(calendar: &C, asked: &Asked, from: i64, to: i64
 }
 
 /// Returns the days that WEEKLY keeps in the weeks that begin in a month, or, in the start's month, before its end.
-pub(crate) fn days_of_weeks_in_month<C: Calendar>(calendar: &C, asked: &Asked, look: &MonthLook) -> PeriodDays {
+pub(crate) fn days_of_weeks_in_month<C: Calendar>(
+    calendar: &C,
+    asked: &Asked,
+    look: &MonthLook,
+) -> PeriodDays {
     let start = week_of(asked, asked.day);
     let every = 7 * i64::from(asked.rule.interval());
     let from = if look.first <= asked.day {

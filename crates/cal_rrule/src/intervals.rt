@@ -54,7 +54,13 @@ fn steps_to(from: RataDie, start: RataDie, every: u32) -> u64
 }
 
 /// Adds the days from one up to another, which isn't added itself, that lie a multiple of some days behind a start.
-pub(crate) fn add_interval(days: &mut PeriodDays, from: RataDie, to: RataDie, start: RataDie, every: u32)
+pub(crate) fn add_interval(
+    days: &mut PeriodDays,
+    from: RataDie,
+    to: RataDie,
+    start: RataDie,
+    every: u32,
+)
     requires from { IsBetween (neg_ℤ (pos 2000000000)) (pos 2000000000) from }
     requires to { IsBetween (neg_ℤ (pos 2000000000)) (pos 2000000000) to }
     requires start { IsBetween (neg_ℤ (pos 2000000000)) (pos 2000000000) start }

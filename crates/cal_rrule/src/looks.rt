@@ -6,8 +6,8 @@ ghost use Rattle.cal_rrule.specs.Looks.{IsMonthLook, IsYearLook, look_stretch, l
 ghost use Rattle.cal_rrule.specs.Stretches.{InStretch, end_of};
 
 use crate::month_look::MonthLook;
-use crate::year_look::YearLook;
 use crate::probes::{days_of_month, month_in_place, months_of_year};
+use crate::year_look::YearLook;
 use cal_base::Calendar;
 use cal_days::RataDie;
 use cal_days::ranges::{FIRST_VALID_DAY, LAST_VALID_DAY};

@@ -11,8 +11,8 @@ ghost use Rattle.recurrence_sets.specs.PeriodBits.{has_day};
 ghost use Rattle.cal_rrule.specs.Stretches.{end_of};
 
 use crate::asked::Asked;
-use crate::month_look::MonthLook;
 use crate::looks::{month_after, month_before};
+use crate::month_look::MonthLook;
 use crate::monthly::period_under_omit;
 use crate::named_masks::{add_month_days, add_named};
 use crate::weekday_masks::add_weekdays;
@@ -43,7 +43,13 @@ fn add_days(days: &mut PeriodDays, asked: &Asked, look: &MonthLook)
     } else if !asked.missing.weekdays {
         days.insert_days(first, RataDie::new(look.end()));
     } else {
-        add_named(days, skip, first, length, Place::FromFront(u16::from(asked.day_of_month)));
+        add_named(
+            days,
+            skip,
+            first,
+            length,
+            Place::FromFront(u16::from(asked.day_of_month)),
+        );
     }
 }
 
@@ -51,7 +57,12 @@ fn add_days(days: &mut PeriodDays, asked: &Asked, look: &MonthLook)
 pub(crate) fn add_weekdays_of_month(days: &mut PeriodDays, asked: &Asked, look: &MonthLook)
     ensures { Adds days.old days.new (IsWeekdayIn asked.now.rule.weekdays (look_stretch look.now)) }
 {
-    add_weekdays(days, asked.rule.weekdays(), RataDie::new(look.first), u16::from(look.days));
+    add_weekdays(
+        days,
+        asked.rule.weekdays(),
+        RataDie::new(look.first),
+        u16::from(look.days),
+    );
 }
 
 /// Returns the days of a month on which BYDAY holds, if weekdays are counted in the month.
@@ -104,7 +115,11 @@ fn weekdays_about<C: Calendar>(calendar: &C, asked: &Asked, look: &MonthLook) ->
 }
 
 /// Returns the days that a month names, from the day before it to the day behind it.
-pub(crate) fn days_of_month<C: Calendar>(calendar: &C, asked: &Asked, look: &MonthLook) -> PeriodDays
+pub(crate) fn days_of_month<C: Calendar>(
+    calendar: &C,
+    asked: &Asked,
+    look: &MonthLook,
+) -> PeriodDays
     requires look { IsMonthLook (C.system calendar.now).list look.now }
     requires missing { AreMissing asked.now.rule asked.now.missing }
     requires counts { CountsInMonths asked.now.rule }
@@ -123,7 +138,11 @@ pub(crate) fn days_of_month<C: Calendar>(calendar: &C, asked: &Asked, look: &Mon
 }
 
 /// Returns the days of the period of MONTHLY that is a month, before BYSETPOS.
-pub(crate) fn days_of_period<C: Calendar>(calendar: &C, asked: &Asked, look: &MonthLook) -> PeriodDays
+pub(crate) fn days_of_period<C: Calendar>(
+    calendar: &C,
+    asked: &Asked,
+    look: &MonthLook,
+) -> PeriodDays
     requires look { IsMonthLook (C.system calendar.now).list look.now }
     requires missing { AreMissing asked.now.rule asked.now.missing }
     requires monthly { asked.now.rule.frequency ≡ Monthly }

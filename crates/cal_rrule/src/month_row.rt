@@ -76,7 +76,10 @@ pub(crate) fn lacks_leap(months: &[MonthLook], place: usize, year: i32) -> Optio
         return None;
     }
     let look = months[place];
-    if look.year != year || look.month.is_leap() || is_leap_of(months, place + 1, year, look.month.number()) {
+    if look.year != year
+        || look.month.is_leap()
+        || is_leap_of(months, place + 1, year, look.month.number())
+    {
         return None;
     }
     Some(look.month.number())

@@ -12,7 +12,11 @@ use cal_days::RataDie;
 use cal_types::{DateAddOptions, DateDuration, Overflow};
 
 /// Returns the month so many months after a month whose first day is valid, if its first day is valid, too.
-pub(crate) fn months_after<C: Calendar>(calendar: &C, look: &MonthLook, months: u32) -> Option<MonthLook>
+pub(crate) fn months_after<C: Calendar>(
+    calendar: &C,
+    look: &MonthLook,
+    months: u32,
+) -> Option<MonthLook>
     requires look { IsMonthLook (C.system calendar.now).list look.now }
     requires valid { IsValidDay look.now.first }
     requires few { months ≤ 27040000 }
@@ -37,7 +41,12 @@ pub(crate) fn months_after<C: Calendar>(calendar: &C, look: &MonthLook, months: 
 
 /// Returns the month so many months after a month with a valid day, or `None` if neither that month nor a later one has
 /// a valid day.
-pub(crate) fn month_ahead<C: Calendar>(calendar: &C, look: &MonthLook, day: RataDie, months: u32) -> Option<MonthLook>
+pub(crate) fn month_ahead<C: Calendar>(
+    calendar: &C,
+    look: &MonthLook,
+    day: RataDie,
+    months: u32,
+) -> Option<MonthLook>
     requires look { IsMonthLook (C.system calendar.now).list look.now }
     requires valid { IsValidDay day }
     requires within { InStretch (look_stretch look.now) day }

@@ -13,7 +13,13 @@ use cal_rule::{Place, PlaceSet, Skip};
 use recurrence_sets::PeriodDays;
 
 /// Adds the day that a place names in a stretch.
-pub(crate) fn add_named(days: &mut PeriodDays, skip: Skip, first: RataDie, length: u16, place: Place)
+pub(crate) fn add_named(
+    days: &mut PeriodDays,
+    skip: Skip,
+    first: RataDie,
+    length: u16,
+    place: Place,
+)
     requires { IsBetween (neg_ℤ (pos 4000000000)) (pos 4000000000) first }
     ensures { Adds days.old days.new (NamesDay skip (stretch first length) place) }
 {
@@ -61,7 +67,13 @@ fn add_named_below<const WORDS: usize>(
 }
 
 /// Adds the days that days of the month name.
-pub(crate) fn add_month_days(days: &mut PeriodDays, skip: Skip, first: RataDie, length: u16, set: &PlaceSet<1>)
+pub(crate) fn add_month_days(
+    days: &mut PeriodDays,
+    skip: Skip,
+    first: RataDie,
+    length: u16,
+    set: &PlaceSet<1>,
+)
     requires { IsBetween (neg_ℤ (pos 4000000000)) (pos 4000000000) first }
     ensures { Adds days.old days.new (IsNamedBy set.now skip (stretch first length)) }
 {
@@ -70,7 +82,13 @@ pub(crate) fn add_month_days(days: &mut PeriodDays, skip: Skip, first: RataDie, 
 }
 
 /// Adds the days that days of the year name.
-pub(crate) fn add_year_days(days: &mut PeriodDays, skip: Skip, first: RataDie, length: u16, set: &PlaceSet<7>)
+pub(crate) fn add_year_days(
+    days: &mut PeriodDays,
+    skip: Skip,
+    first: RataDie,
+    length: u16,
+    set: &PlaceSet<7>,
+)
     requires { IsBetween (neg_ℤ (pos 4000000000)) (pos 4000000000) first }
     ensures { Adds days.old days.new (IsNamedBy set.now skip (stretch first length)) }
 {

@@ -9,7 +9,13 @@ use cal_base::Calendar;
 use cal_types::{DateFields, DateFromFieldsError, DateFromFieldsOptions, Month, Overflow};
 
 /// Returns whether a year has a day, by an ordinal month, and by a month if one is given.
-fn has_date<C: Calendar>(calendar: &C, year: i32, place: u8, month: Option<Month>, day: u8) -> bool {
+fn has_date<C: Calendar>(
+    calendar: &C,
+    year: i32,
+    place: u8,
+    month: Option<Month>,
+    day: u8,
+) -> bool {
     let fields = DateFields {
         extended_year: Some(year),
         month,
@@ -32,7 +38,11 @@ pub(crate) fn months_of_year<C: Calendar>(calendar: &C, year: i32) -> u8
     requires { IsFieldYear year }
     ensures { result ≡ month_count (C.system calendar.now).list year }
 {
-    if has_date(calendar, year, 13, None, 1) { 13 } else { 12 }
+    if has_date(calendar, year, 13, None, 1) {
+        13
+    } else {
+        12
+    }
 }
 
 /// Returns the number of days of the month in a place of a year.

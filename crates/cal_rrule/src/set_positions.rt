@@ -17,7 +17,9 @@ pub(crate) fn keep_places(days: &PeriodDays, positions: &PlaceSet<7>) -> PeriodD
     let mut before: u16 = 0;
     for offset in 0..448i64 {
         if days.contains(RataDie::new(first + offset)) {
-            if positions.contains(Place::FromFront(before + 1)) || positions.contains(Place::FromBack(total - before)) {
+            if positions.contains(Place::FromFront(before + 1))
+                || positions.contains(Place::FromBack(total - before))
+            {
                 kept.insert_day(RataDie::new(first + offset));
             }
             before += 1;

@@ -3,11 +3,11 @@
 use crate::asked::Asked;
 use crate::looks::{year_after, year_before, year_near};
 use crate::month_look::MonthLook;
-use crate::year_look::YearLook;
 use crate::month_row::{MonthRow, lacks_leap};
 use crate::named_masks::add_year_days;
-use crate::year_months::add_days_of_month;
 use crate::weekday_masks::{add_weekdays, add_weekly};
+use crate::year_look::YearLook;
+use crate::year_months::add_days_of_month;
 use cal_base::Calendar;
 use cal_days::RataDie;
 use cal_rule::{Place, Skip};
@@ -60,7 +60,12 @@ pub(crate) struct Span {
 }
 
 /// Adds the days on which BYDAY holds.
-pub(crate) fn add_rule_weekdays<C: Calendar>(days: &mut PeriodDays, calendar: &C, asked: &Asked, span: &Span) {
+pub(crate) fn add_rule_weekdays<C: Calendar>(
+    days: &mut PeriodDays,
+    calendar: &C,
+    asked: &Asked,
+    span: &Span,
+) {
     let set = asked.rule.weekdays();
     if !asked.counts_in_year() {
         let months = span.row.months();
@@ -78,7 +83,12 @@ pub(crate) fn add_rule_weekdays<C: Calendar>(days: &mut PeriodDays, calendar: &C
 }
 
 /// Returns the days that a year names.
-pub(crate) fn named_in_year<C: Calendar>(calendar: &C, asked: &Asked, span: &Span, year: &YearLook) -> PeriodDays {
+pub(crate) fn named_in_year<C: Calendar>(
+    calendar: &C,
+    asked: &Asked,
+    span: &Span,
+    year: &YearLook,
+) -> PeriodDays {
     let first = RataDie::new(span.from);
     let end = RataDie::new(span.to);
     let mut days = PeriodDays::new(first);
@@ -89,7 +99,13 @@ pub(crate) fn named_in_year<C: Calendar>(calendar: &C, asked: &Asked, span: &Spa
     }
     if !asked.missing.year_days {
         let mut named = PeriodDays::new(first);
-        add_year_days(&mut named, asked.rule.skip(), RataDie::new(year.first), year.days, asked.rule.year_days());
+        add_year_days(
+            &mut named,
+            asked.rule.skip(),
+            RataDie::new(year.first),
+            year.days,
+            asked.rule.year_days(),
+        );
         days.keep_common(&named);
     }
     if !asked.missing.weekdays {
@@ -109,7 +125,11 @@ fn margin(asked: &Asked) -> u8 {
 }
 
 /// Returns the days of the period that is a year.
-pub(crate) fn days_of_year<C: Calendar>(calendar: &C, asked: &Asked, year: &YearLook) -> PeriodDays {
+pub(crate) fn days_of_year<C: Calendar>(
+    calendar: &C,
+    asked: &Asked,
+    year: &YearLook,
+) -> PeriodDays {
     let (before, behind) = match asked.rule.skip() {
         Skip::Omit => (0, 0),
         _ => (1, 32),
@@ -144,7 +164,9 @@ fn keep_weeks(days: &mut PeriodDays, asked: &Asked, first: i64, count: u16) {
     let set = asked.rule.weeks();
     let mut kept = PeriodDays::new(days.first);
     for place in 0..count {
-        if set.contains(Place::FromFront(place + 1)) || set.contains(Place::FromBack(count - place)) {
+        if set.contains(Place::FromFront(place + 1))
+            || set.contains(Place::FromBack(count - place))
+        {
             let week = first + 7 * i64::from(place);
             kept.insert_days(RataDie::new(week), RataDie::new(week + 7));
         }
@@ -153,7 +175,11 @@ fn keep_weeks(days: &mut PeriodDays, asked: &Asked, first: i64, count: u16) {
 }
 
 /// Returns the days of the period that is the weeks of a year.
-pub(crate) fn days_of_weeks<C: Calendar>(calendar: &C, asked: &Asked, year: &YearLook) -> PeriodDays {
+pub(crate) fn days_of_weeks<C: Calendar>(
+    calendar: &C,
+    asked: &Asked,
+    year: &YearLook,
+) -> PeriodDays {
     let from = week_of(asked, year.first + 3);
     let count = ((year.end() - 4 - from).div_euclid(7) + 1) as u16;
     let to = from + 7 * i64::from(count);

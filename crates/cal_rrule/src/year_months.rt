@@ -28,7 +28,13 @@ pub(crate) fn add_days_of_month(days: &mut PeriodDays, asked: &Asked, look: &Mon
     if !asked.missing.month_days {
         add_month_days(days, skip, first, length, asked.rule.month_days());
     } else if asked.missing.days() {
-        add_named(days, skip, first, length, Place::FromFront(u16::from(asked.day_of_month)));
+        add_named(
+            days,
+            skip,
+            first,
+            length,
+            Place::FromFront(u16::from(asked.day_of_month)),
+        );
     } else {
         days.insert_days(first, RataDie::new(look.end()));
     }
@@ -41,6 +47,11 @@ pub(crate) fn weekdays_of_year(asked: &Asked, look: &YearLook) -> PeriodDays
         Marks result look.now.first (end_of (look_year look.now)) (IsOfWeekdays c asked.now.rule) }
 {
     let mut days = PeriodDays::new(RataDie::new(look.first));
-    add_weekdays(&mut days, asked.rule.weekdays(), RataDie::new(look.first), look.days);
+    add_weekdays(
+        &mut days,
+        asked.rule.weekdays(),
+        RataDie::new(look.first),
+        look.days,
+    );
     days
 }

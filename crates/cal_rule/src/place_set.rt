@@ -60,7 +60,11 @@ impl<const WORDS: usize> PlaceSet<WORDS> {
     {
         let front: &[u64] = &self.front;
         let back: &[u64] = &self.back;
-        if front.len() < back.len() { front.len() } else { back.len() }
+        if front.len() < back.len() {
+            front.len()
+        } else {
+            back.len()
+        }
     }
 
     /// Adds a place.

@@ -12,6 +12,7 @@ returns-in-Some g c = λ t at.
     let list = (g.C.Calendar.system c.args.calendar.now).list in
     let a = c.args.asked.now in
     let look = c.in-Some.look in
-    let marks = c.kept_in_block.ensures list t c.in-Some.ensures.0 at in
-    (block-days list a.rule t a.month look c.args.period c.kept_in_block.result c.in-Some.ensures.0 c.in-Some.ensures.1 marks,
-    block-row list a.rule t a.month look c.args.period c.kept_in_block.result c.in-Some.ensures.0 c.in-Some.ensures.1 marks look.short)
+    let marks = c.kept_in_block.ensures list t c.in-Some.ensures.0 at in (
+      block-days list a.rule t a.month look c.args.period c.kept_in_block.result c.in-Some.ensures.0 c.in-Some.ensures.1 marks,
+      block-row list a.rule t a.month look c.args.period c.kept_in_block.result c.in-Some.ensures.0 c.in-Some.ensures.1 marks look.short,
+    )

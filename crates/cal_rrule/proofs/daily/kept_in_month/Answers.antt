@@ -13,5 +13,7 @@ returns-clause-days c = λ list t is at.
     marks-as c.days_in_month.result look.first (end_of (look_stretch look)) (IsDailyDay list a.rule a.day)
     (λ n. (k : ℕ) × IsKept list a.rule t k n)
     (c.days_in_month.ensures.days list is (daily-months a.rule c.requires.daily))
-    (λ n. (daily-kept list a.rule t a.missing c.requires.missing c.requires.daily a.day at n,
-    λ p. kept-daily list a.rule t a.missing c.requires.missing c.requires.daily a.day at n p.0 p.1))
+    (λ n. (
+      daily-kept list a.rule t a.missing c.requires.missing c.requires.daily a.day at n,
+      λ p. kept-daily list a.rule t a.missing c.requires.missing c.requires.daily a.day at n p.0 p.1,
+    ))
