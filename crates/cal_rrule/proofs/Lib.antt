@@ -9,6 +9,7 @@ mod MonthDayLemmas
 mod MonthStepLemmas
 mod NamedDayLemmas
 mod NamedMaskLemmas
+mod ProbeLemmas
 mod WeekdayLemmas
 mod WeekdayMaskLemmas
 mod YearLookLemmas

@@ -4,5 +4,6 @@ pub mod Masks
 pub mod NamedDays
 pub mod Occurrences
 pub mod Periods
+pub mod Probes
 pub mod Stretches
 pub mod Weeks

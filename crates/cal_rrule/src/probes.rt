@@ -2,26 +2,36 @@
 
 ghost use Rattle.std.specs.Prelude.{◌≡◌};
 ghost use Rattle.cal_days.specs.Day.{IsFieldYear};
-ghost use Rattle.cal_types.specs.CalendarList.{HasPlace, month_at, month_count, month_length};
+ghost use Rattle.cal_types.specs.CalendarList.{HasPlace, date, is_date, month_at, month_count, month_length};
 ghost use Rattle.cal_types.specs.MonthParts.{month_parts};
+ghost use Rattle.cal_rrule.specs.Probes.{is_out_of_range};
 
 use cal_base::Calendar;
 use cal_types::{DateFields, DateFromFieldsError, DateFromFieldsOptions, Month, Overflow};
 
-/// Returns whether a year has a day, by an ordinal month, and by a month if one is given.
-fn has_date<C: Calendar>(
-    calendar: &C,
-    year: i32,
-    place: u8,
-    month: Option<Month>,
-    day: u8,
-) -> bool {
+/// Returns whether fields name a date outside of the valid days.
+fn is_overflow(error: DateFromFieldsError) -> bool
+    ensures { result ≡ is_out_of_range error }
+{
+    match error {
+        DateFromFieldsError::Overflow => true,
+        _ => false,
+    }
+}
+
+/// Returns whether a year has a day in an ordinal month.
+fn has_day<C: Calendar>(calendar: &C, year: i32, place: u8, day: u8) -> bool
+    requires { IsFieldYear year }
+    ensures { result ≡ is_date (C.system calendar.now).list (date year place day) }
+{
     let fields = DateFields {
+        era: None,
+        era_year: None,
         extended_year: Some(year),
-        month,
+        month: None,
+        month_code: None,
         ordinal_month: Some(place),
         day: Some(day),
-        ..DateFields::default()
     };
     let options = DateFromFieldsOptions {
         overflow: Some(Overflow::Reject),
@@ -29,7 +39,28 @@ fn has_date<C: Calendar>(
     };
     match calendar.from_fields(fields, options) {
         Ok(_) => true,
-        Err(error) => matches!(error, DateFromFieldsError::Overflow),
+        Err(error) => is_overflow(error),
+    }
+}
+
+/// Returns whether a month is the one in a place of a year.
+fn has_month<C: Calendar>(calendar: &C, year: i32, place: u8, month: Month) -> bool {
+    let fields = DateFields {
+        era: None,
+        era_year: None,
+        extended_year: Some(year),
+        month: Some(month),
+        month_code: None,
+        ordinal_month: Some(place),
+        day: Some(1),
+    };
+    let options = DateFromFieldsOptions {
+        overflow: Some(Overflow::Reject),
+        missing_fields_strategy: None,
+    };
+    match calendar.from_fields(fields, options) {
+        Ok(_) => true,
+        Err(error) => is_overflow(error),
     }
 }
 
@@ -38,11 +69,10 @@ pub(crate) fn months_of_year<C: Calendar>(calendar: &C, year: i32) -> u8
     requires { IsFieldYear year }
     ensures { result ≡ month_count (C.system calendar.now).list year }
 {
-    if has_date(calendar, year, 13, None, 1) {
-        13
-    } else {
-        12
+    if has_day(calendar, year, 13, 1) {
+        return 13;
     }
+    12
 }
 
 /// Returns the number of days of the month in a place of a year.
@@ -52,7 +82,7 @@ pub(crate) fn days_of_month<C: Calendar>(calendar: &C, year: i32, place: u8) -> 
     ensures { result ≡ month_length (C.system calendar.now).list year place }
 {
     for fewer in 0..30u8 {
-        if has_date(calendar, year, place, None, 31 - fewer) {
+        if has_day(calendar, year, place, 31 - fewer) {
             return 31 - fewer;
         }
     }
@@ -66,10 +96,10 @@ pub(crate) fn month_in_place<C: Calendar>(calendar: &C, year: i32, place: u8) ->
     ensures { month_parts result ≡ month_at (C.system calendar.now).list year place }
 {
     for number in 0..99u8 {
-        if has_date(calendar, year, place, Some(Month::new(number)), 1) {
+        if has_month(calendar, year, place, Month::new(number)) {
             return Month::new(number);
         }
-        if has_date(calendar, year, place, Some(Month::leap(number)), 1) {
+        if has_month(calendar, year, place, Month::leap(number)) {
             return Month::leap(number);
         }
     }
