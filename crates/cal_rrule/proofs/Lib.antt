@@ -12,4 +12,5 @@ mod NamedMaskLemmas
 mod ProbeLemmas
 mod WeekdayLemmas
 mod WeekdayMaskLemmas
+mod WeekStartLemmas
 mod YearLookLemmas

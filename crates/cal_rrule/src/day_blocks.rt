@@ -17,7 +17,8 @@ use crate::month_row::MonthRow;
 use crate::named_masks::add_month_days;
 use crate::set_positions::keep_places;
 use crate::weekday_masks::add_weekly;
-use crate::year_days::{Span, add_rule_weekdays, week_of};
+use crate::week_start::week_of;
+use crate::year_days::{Span, add_rule_weekdays};
 use cal_base::Calendar;
 use cal_days::RataDie;
 use cal_rule::{Place, Skip};
@@ -167,7 +168,7 @@ pub(crate) fn days_of_weeks_in_month<C: Calendar>(
     asked: &Asked,
     look: &MonthLook,
 ) -> PeriodDays {
-    let start = week_of(asked, asked.day);
+    let start = week_of(asked.rule.week_start(), RataDie::new(asked.day));
     let every = 7 * i64::from(asked.rule.interval());
     let from = if look.first <= asked.day {
         start

@@ -19,6 +19,7 @@ mod occurrence;
 mod probes;
 mod rule_periods;
 mod set_positions;
+mod week_start;
 mod weekday_masks;
 mod year_days;
 mod year_look;

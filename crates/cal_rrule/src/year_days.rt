@@ -5,6 +5,7 @@ use crate::looks::{year_after, year_before, year_near};
 use crate::month_look::MonthLook;
 use crate::month_row::{MonthRow, lacks_leap};
 use crate::named_masks::add_year_days;
+use crate::week_start::week_of;
 use crate::weekday_masks::{add_weekdays, add_weekly};
 use crate::year_look::YearLook;
 use crate::year_months::add_days_of_month;
@@ -140,16 +141,10 @@ pub(crate) fn days_of_year<C: Calendar>(
     named_in_year(calendar, asked, &Span { from, to, row }, year)
 }
 
-/// Returns the first day of the week of a day, by the day on which weeks begin.
-pub(crate) fn week_of(asked: &Asked, day: i64) -> i64 {
-    let start = i64::from(asked.rule.week_start().number());
-    day - (day - start).rem_euclid(7)
-}
-
 /// Returns the year that the week of the start belongs to.
 pub(crate) fn year_of_week<C: Calendar>(calendar: &C, asked: &Asked) -> i32 {
     let year = year_near(calendar, asked.day);
-    let fourth = week_of(asked, asked.day) + 3;
+    let fourth = week_of(asked.rule.week_start(), RataDie::new(asked.day)) + 3;
     if fourth < year.first {
         year.year - 1
     } else if fourth >= year.end() {
@@ -180,7 +175,7 @@ pub(crate) fn days_of_weeks<C: Calendar>(
     asked: &Asked,
     year: &YearLook,
 ) -> PeriodDays {
-    let from = week_of(asked, year.first + 3);
+    let from = week_of(asked.rule.week_start(), RataDie::new(year.first + 3));
     let count = ((year.end() - 4 - from).div_euclid(7) + 1) as u16;
     let to = from + 7 * i64::from(count);
     let row = MonthRow::over(calendar, from, to, margin(asked));
