@@ -7,11 +7,12 @@ use Rattle.cal_types.specs.CalendarList.{CalendarList, Date, HasPlace, IsDate, I
 use Rattle.cal_types.specs.MonthParts.{month_parts}
 use Rattle.cal_types.proofs.ListLemmas.{on-rest, on-unique}
 use Rattle.cal_rule.specs.declared.rule.RecurrenceRule.{RecurrenceRule}
-use Rattle.cal_rrule.specs.Looks.{CountsInMonths, IsMonthLook, look_stretch}
+use Rattle.cal_rrule.specs.Looks.{AreMissing, CountsInMonths, IsAsked, IsMonthLook, look_stretch}
 use Rattle.cal_rrule.specs.Masks.{Adds, InRow, IsWeekdayIn, Marks}
 use Rattle.cal_rrule.specs.Periods.{IsOfWeekdays}
 use Rattle.cal_rrule.specs.Stretches.{InStretch, Stretch, end_of, month_stretch}
 use Rattle.cal_rrule.specs.Weeks.{IsAmongWeekdays}
+use Rattle.cal_rrule.specs.declared.asked.Asked.{Asked}
 use Rattle.cal_rrule.specs.declared.month_look.MonthLook.{MonthLook}
 use Rattle.recurrence_sets.specs.PeriodBits.{has_day}
 use Rattle.recurrence_sets.specs.declared.period_days.PeriodDays.{PeriodDays}
@@ -135,18 +136,24 @@ look-joins c law a b one two within =
         let ends : end_of (look_stretch a) ≡ end_of (look_stretch b) = ap end_of same in
         omega (arith, signed, ends, within.1)
 
--- and the month of the day before a month ends there
-pub look-meets : (c : CalendarList) → IsLawful c → (a b : MonthLook) → IsMonthLook c a → IsMonthLook c b →
-    InStretch (look_stretch b) (a.first -ℤ pos 1) → end_of (look_stretch b) ≡ a.first
-look-meets c law a b one two within =
-    by_bool (int_lt a.first (end_of (look_stretch b)))
-    (λ e. absurd (apart (omega (arith, signed, e)) (some c law a one)))
-    (λ e. omega (arith, signed, e, within.1))
+-- a rule, and a day of a month that is looked at as its start
+pub look-asked : (c : CalendarList) (t : Date) (asked : Asked) → AreMissing asked.rule asked.missing →
+    IsMonthLook c asked.month → InStretch (look_stretch asked.month) asked.day → IsOn c asked.day t →
+    pos asked.day_of_month ≡ asked.day -ℤ asked.month.first +ℤ pos 1 → IsAsked c t asked
+look-asked c t asked missing is within on day =
+    let at = look-date c asked.month asked.day t is within on in
+    record {
+      are_missing = missing;
+      on_day = sym on.day;
+      on_day_of_month = omega (arith, signed, day, is.is_first, first at, on.day, on.date.day.0);
+      in_month = is.is_month ∙ ap (λ (y : ℤ). month_at c y asked.month.place) (sym at.0)
+          ∙ ap (λ (i : ℕ). month_at c t.year i) (sym at.1);
+      in_year = sym at.0;
+      in_place = sym at.1;
+      is_look = is;
+    }
   where
-    apart : a.first <ℤ end_of (look_stretch b) → 1 ≤ a.days → ⊥
-    apart low some =
-        let in_one : InStretch (look_stretch a) a.first = (omega (arith, signed), omega (arith, signed, some)) in
-        let in_two : InStretch (look_stretch b) a.first = (omega (arith, signed, within.0), low) in
-        let same = look-same c a b a.first one two in_one in_two in
-        let begins : a.first ≡ b.first = ap (λ (s : Stretch). s.first) same in
-        omega (arith, signed, begins, within.0)
+    first : (t.year ≡ asked.month.year) × (t.month ≡ asked.month.place) →
+        day_number c (date asked.month.year asked.month.place 1) ≡ day_number c (date t.year t.month 1)
+    first at = ap (λ (y : ℤ). day_number c (date y asked.month.place 1)) (sym at.0)
+        ∙ ap (λ (i : ℕ). day_number c (date t.year i 1)) (sym at.1)

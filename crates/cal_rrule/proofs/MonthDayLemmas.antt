@@ -161,54 +161,6 @@ about-one c rule a old new n is counts small first none adds within =
       λ h. here.1 (inl (within, same.1 h)),
     )
 
--- and in two months that have no common day
-pub about-two : (c : CalendarList) (rule : RecurrenceRule) (a b : MonthLook) (old mid new : PeriodDays) (n : ℤ) →
-    IsMonthLook c a → IsMonthLook c b → CountsInMonths rule → InRow old n → ((m : ℤ) → has_day old m ≡ false) →
-    Adds old mid (IsWeekdayIn rule.weekdays (look_stretch a)) → Adds mid new (IsWeekdayIn rule.weekdays (look_stretch b)) →
-    (InStretch (look_stretch a) n → InStretch (look_stretch b) n → ⊥) →
-    InStretch (look_stretch a) n ⊎ InStretch (look_stretch b) n → IsTrue (has_day new n) ↔ IsOfWeekdays c rule n
-about-two c rule a b old mid new n one two counts row none first_adds then_adds apart within = by_side within
-  where
-    here : IsTrue (has_day mid n) ↔ (IsWeekdayIn rule.weekdays (look_stretch a) n ⊎ IsTrue (has_day old n))
-    here = first_adds.days n row
-
-    there : IsTrue (has_day new n) ↔ (IsWeekdayIn rule.weekdays (look_stretch b) n ⊎ IsTrue (has_day mid n))
-    there = then_adds.days n (subst (λ (f : ℤ). (f ≤ℤ n) × (n <ℤ (f +ℤ pos 448))) (sym first_adds.first) row)
-
-    of_mid : IsTrue (has_day mid n) → IsWeekdayIn rule.weekdays (look_stretch a) n
-    of_mid h = ⊎_elim (λ p. p) (λ q. absurd (true≢false (sym q ∙ none n))) (here.0 h)
-
-    by_side : InStretch (look_stretch a) n ⊎ InStretch (look_stretch b) n → IsTrue (has_day new n) ↔ IsOfWeekdays c rule n
-    by_side (inl in_one) =
-        let same = look-weekdays c rule a n one counts in_one in (
-          λ h. ⊎_elim (λ p. absurd (apart in_one p.0)) (λ m. same.0 (of_mid m).1) (there.0 h),
-          λ h. there.1 (inr (here.1 (inl (in_one, same.1 h)))),
-        )
-    by_side (inr in_two) =
-        let same = look-weekdays c rule b n two counts in_two in (
-          λ h. ⊎_elim (λ p. same.0 p.1) (λ m. absurd (apart (of_mid m).0 in_two)) (there.0 h),
-          λ h. there.1 (inl (in_two, same.1 h)),
-        )
-
--- a day from the day before a month on is in the month before it or in the month
-pub reach-before : (a b : Stretch) (n : ℤ) → 1 ≤ b.days → end_of b ≡ a.first → (a.first -ℤ pos 1) ≤ℤ n → n <ℤ end_of a →
-    InStretch a n ⊎ InStretch b n
-reach-before a b n has meets above below =
-    by_bool (int_lt n a.first) (λ e. inr (omega (arith, signed, e, above, meets, has), omega (arith, signed, e, meets)))
-    (λ e. inl (omega (arith, signed, e), below))
-
-pub reach-behind : (a b : Stretch) (n : ℤ) → 1 ≤ b.days → b.first ≡ end_of a → a.first ≤ℤ n → n <ℤ (end_of a +ℤ pos 1) →
-    InStretch a n ⊎ InStretch b n
-reach-behind a b n has joins above below =
-    by_bool (int_lt n (end_of a)) (λ e. inl (above, omega (arith, signed, e)))
-    (λ e. inr (omega (arith, signed, e, joins), omega (arith, signed, below, joins, has)))
-
-pub apart-before : (a b : Stretch) (n : ℤ) → end_of b ≡ a.first → InStretch a n → InStretch b n → ⊥
-apart-before a b n meets p q = omega (arith, signed, meets, p.0, q.1)
-
-pub apart-behind : (a b : Stretch) (n : ℤ) → b.first ≡ end_of a → InStretch a n → InStretch b n → ⊥
-apart-behind a b n joins p q = omega (arith, signed, joins, p.1, q.0)
-
 -- MONTHLY counts weekdays in months
 pub monthly-months : (rule : RecurrenceRule) → rule.frequency ≡ Monthly → CountsInMonths rule
 monthly-months rule monthly h = never (sym monthly ∙ h.0)

@@ -106,14 +106,16 @@ CountsInYears rule = (rule.frequency ≡ Yearly) × NoMonths rule
 abbrev pub IsNamedInYearMonth : RecurrenceRule → ℕ → Stretch → ℤ → Type 0
 IsNamedInYearMonth rule day s n =
     Given (NoMonthDays rule × ¬ (NoDays rule))
-    ((d : Place) × (IsTrue (has_place rule.month_days d) ⊎ (NoDays rule × (d ≡ FromFront day))) × NamesDay rule.skip s d n)
+    ((d : Place) × (IsTrue (has_place rule.month_days d) ⊎ (NoDays rule × (d ≡ FromFront day)))
+    × NamesDay rule.skip s d n)
     (InStretch s n)
 
 -- what was found is the month so many months after a month, or the first day of that month isn't valid
 abbrev pub IsMonthFound : CalendarList → MonthLook → ℕ → Option MonthLook → Type 0
 IsMonthFound c look months found =
     MatchOption found
-    ((z : ℤ) (j : ℕ) → IsMonthsAfter c look.year look.place (pos months) z j → ¬ (IsValidDay (day_number c (date z j 1))))
+    ((z : ℤ) (j : ℕ) → IsMonthsAfter c look.year look.place (pos months) z j →
+    ¬ (IsValidDay (day_number c (date z j 1))))
     (λ m. IsMonthLook c m × IsMonthsAfter c look.year look.place (pos months) m.year m.place)
 
 -- what was found is the month so many months after a month, or that month has no valid day

@@ -41,7 +41,8 @@ IsWeekdayIn set s n = InStretch s n × IsAmongWeekdays set s n
 abbrev pub IsStep : ℤ → ℕ → ℕ → ℤ → Type 0
 IsStep from every count n = (k : ℕ) × (k < count) × (n ≡ from +ℤ pos (every * k))
 
--- a day of a stretch that lies whole weeks and so many days behind the first one is one of some weekdays: of fewer weeks
+-- a day of a stretch that lies whole weeks and so many days behind the first one is one of some weekdays: of fewer
+-- weeks
 abbrev pub IsWeekdayBelow : WeekdayPlaces → Stretch → ℕ → ℕ → ℤ → Type 0
 IsWeekdayBelow set s offset weeks n =
     (k : ℕ) × (k < weeks) × (n ≡ s.first +ℤ pos (offset + 7 * k)) × IsAmongWeekdays set s n

@@ -1,14 +1,15 @@
 //! What a rule and its start say.
 
-ghost use Rattle.std.specs.Prelude.{◌↔◌, IsTrue};
-ghost use Rattle.cal_rrule.specs.Looks.{AreMissing};
+ghost use Rattle.std.specs.Prelude.{◌≡◌, ◌↔◌, IsTrue};
+ghost use Rattle.cal_types.specs.CalendarList.{CalendarList, Date, IsOn};
+ghost use Rattle.cal_rrule.specs.Looks.{AreMissing, IsAsked, IsMonthLook, look_stretch};
 ghost use Rattle.cal_rrule.specs.Periods.{NoDays};
+ghost use Rattle.cal_rrule.specs.Stretches.{InStretch};
 
 use crate::asked::Asked;
 use crate::missing::Missing;
 use crate::month_look::MonthLook;
-use cal_rule::{Frequency, RecurrenceRule};
-use cal_types::Month;
+use cal_rule::RecurrenceRule;
 
 /// Returns which parts a rule lacks.
 pub(crate) fn missing_of(rule: &RecurrenceRule) -> Missing
@@ -35,7 +36,11 @@ impl Missing {
 
 impl Asked {
     /// Creates it from a rule, a day and its month.
-    pub(crate) fn new(rule: RecurrenceRule, day: i64, month: MonthLook) -> Asked {
+    pub(crate) fn new(rule: RecurrenceRule, day: i64, month: MonthLook) -> Asked
+        requires { InStretch (look_stretch month) day }
+        ensures rule { result.rule ≡ rule }
+        ensures asked { (c : CalendarList) (t : Date) → IsMonthLook c month → IsOn c day t → IsAsked c t result }
+    {
         Asked {
             rule,
             missing: missing_of(&rule),
@@ -43,16 +48,5 @@ impl Asked {
             day_of_month: (day - month.first + 1) as u8,
             month,
         }
-    }
-
-    /// Returns whether a month is one of BYMONTH, or the start's month if no part says anything.
-    pub(crate) fn says_month(&self, month: Month) -> bool {
-        self.rule.months().contains(month)
-            || (self.missing.days() && self.missing.months && month == self.month.month)
-    }
-
-    /// Returns whether weekdays are counted in the year, and not in the month.
-    pub(crate) fn counts_in_year(&self) -> bool {
-        matches!(self.rule.frequency(), Frequency::Yearly) && self.missing.months
     }
 }

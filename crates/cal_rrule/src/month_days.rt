@@ -1,24 +1,20 @@
 //! The days that a month names, as bits.
 
-ghost use Rattle.std.specs.Prelude.{◌≡◌, ◌↔◌, ◌*◌, ℕ, ◌-ℤ◌, ◌+ℤ◌, IsTrue, ℤ, pos};
-ghost use Rattle.cal_types.specs.CalendarList.{CalendarList, Date, IsMonthsAfter};
-ghost use Rattle.cal_rule.specs.declared.frequency.Frequency.TheVariants.{Monthly};
+ghost use Rattle.std.specs.Prelude.{◌≡◌, ◌↔◌, ◌-ℤ◌, ◌+ℤ◌, IsTrue, pos};
+ghost use Rattle.cal_types.specs.CalendarList.{CalendarList};
 ghost use Rattle.cal_types.specs.MonthParts.{month_parts};
-ghost use Rattle.cal_rrule.specs.Looks.{AreMissing, CountsInMonths, IsMonthLook, IsKeptOfMonth, IsNamedOfMonth, KeepsMonth, Reaches, look_stretch};
+ghost use Rattle.cal_rrule.specs.Looks.{AreMissing, CountsInMonths, IsMonthLook, IsKeptOfMonth, IsNamedOfMonth};
+ghost use Rattle.cal_rrule.specs.Looks.{KeepsMonth, look_stretch};
 ghost use Rattle.cal_rrule.specs.Masks.{Adds, IsWeekdayIn, Marks};
-ghost use Rattle.cal_rrule.specs.Periods.{IsNamedInMonth, IsOfPeriod, IsOfWeekdays};
-ghost use Rattle.recurrence_sets.specs.PeriodBits.{has_day};
+ghost use Rattle.cal_rrule.specs.Periods.{IsOfWeekdays};
 ghost use Rattle.cal_rrule.specs.Stretches.{end_of};
 
 use crate::asked::Asked;
-use crate::looks::{month_after, month_before};
 use crate::month_look::MonthLook;
-use crate::monthly::period_under_omit;
 use crate::named_masks::{add_month_days, add_named};
 use crate::weekday_masks::add_weekdays;
-use cal_base::Calendar;
 use cal_days::RataDie;
-use cal_rule::{Place, Skip};
+use cal_rule::Place;
 use recurrence_sets::PeriodDays;
 
 /// Returns whether BYMONTH keeps a month.
@@ -89,70 +85,4 @@ pub(crate) fn kept_of_month(asked: &Asked, look: &MonthLook) -> PeriodDays
     }
     add_days(&mut days, asked, look);
     days
-}
-
-/// Returns the days on which BYDAY holds, of those that places may name in a month.
-fn weekdays_about<C: Calendar>(calendar: &C, asked: &Asked, look: &MonthLook) -> PeriodDays
-    requires look { IsMonthLook (C.system calendar.now).list look.now }
-    requires counts { CountsInMonths asked.now.rule }
-    ensures first { result.first ≡ look.now.first -ℤ pos 1 }
-    ensures days { let list = (C.system calendar.now).list in let rule = asked.now.rule in
-        (n : ℤ) → Reaches rule.skip (look_stretch look.now) n → IsTrue (has_day result n) ↔ IsOfWeekdays list rule n }
-{
-    let mut days = PeriodDays::new(RataDie::new(look.first - 1));
-    add_weekdays_of_month(&mut days, asked, look);
-    match asked.rule.skip() {
-        Skip::Omit => days,
-        Skip::Backward => {
-            add_weekdays_of_month(&mut days, asked, &month_before(calendar, look));
-            days
-        }
-        Skip::Forward => {
-            add_weekdays_of_month(&mut days, asked, &month_after(calendar, look));
-            days
-        }
-    }
-}
-
-/// Returns the days that a month names, from the day before it to the day behind it.
-pub(crate) fn days_of_month<C: Calendar>(
-    calendar: &C,
-    asked: &Asked,
-    look: &MonthLook,
-) -> PeriodDays
-    requires look { IsMonthLook (C.system calendar.now).list look.now }
-    requires missing { AreMissing asked.now.rule asked.now.missing }
-    requires counts { CountsInMonths asked.now.rule }
-    ensures { let list = (C.system calendar.now).list in let s = look_stretch look.now in
-        (t : Date) → t.day ≡ asked.now.day_of_month →
-        Marks result (s.first -ℤ pos 1) (end_of s +ℤ pos 1)
-        (IsNamedInMonth list asked.now.rule t (look.now.year, look.now.place)) }
-{
-    let mut days = kept_of_month(asked, look);
-    if asked.missing.weekdays {
-        return days;
-    }
-    let weekdays = weekdays_about(calendar, asked, look);
-    days.keep_common(&weekdays);
-    days
-}
-
-/// Returns the days of the period of MONTHLY that is a month, before BYSETPOS.
-pub(crate) fn days_of_period<C: Calendar>(
-    calendar: &C,
-    asked: &Asked,
-    look: &MonthLook,
-) -> PeriodDays
-    requires look { IsMonthLook (C.system calendar.now).list look.now }
-    requires missing { AreMissing asked.now.rule asked.now.missing }
-    requires monthly { asked.now.rule.frequency ≡ Monthly }
-    ensures { let list = (C.system calendar.now).list in let s = look_stretch look.now in let rule = asked.now.rule in
-        (t : Date) (k : ℕ) → t.day ≡ asked.now.day_of_month →
-        IsMonthsAfter list t.year t.month (pos (k * rule.interval)) look.now.year look.now.place →
-        Marks result (s.first -ℤ pos 1) (end_of s +ℤ pos 1) (IsOfPeriod list rule t k) }
-{
-    match asked.rule.skip() {
-        Skip::Omit => period_under_omit(asked, look),
-        _ => days_of_month(calendar, asked, look),
-    }
 }

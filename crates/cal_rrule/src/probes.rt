@@ -2,12 +2,11 @@
 
 ghost use Rattle.std.specs.Prelude.{◌≡◌};
 ghost use Rattle.cal_days.specs.Day.{IsFieldYear};
-ghost use Rattle.cal_types.specs.CalendarList.{HasPlace, date, is_date, month_at, month_count, month_length};
-ghost use Rattle.cal_types.specs.MonthParts.{month_parts};
+ghost use Rattle.cal_types.specs.CalendarList.{HasPlace, date, is_date, month_count, month_length};
 ghost use Rattle.cal_rrule.specs.Probes.{is_out_of_range};
 
 use cal_base::Calendar;
-use cal_types::{DateFields, DateFromFieldsError, DateFromFieldsOptions, Month, Overflow};
+use cal_types::{DateFields, DateFromFieldsError, DateFromFieldsOptions, Overflow};
 
 /// Returns whether fields name a date outside of the valid days.
 fn is_overflow(error: DateFromFieldsError) -> bool
@@ -43,27 +42,6 @@ fn has_day<C: Calendar>(calendar: &C, year: i32, place: u8, day: u8) -> bool
     }
 }
 
-/// Returns whether a month is the one in a place of a year.
-fn has_month<C: Calendar>(calendar: &C, year: i32, place: u8, month: Month) -> bool {
-    let fields = DateFields {
-        era: None,
-        era_year: None,
-        extended_year: Some(year),
-        month: Some(month),
-        month_code: None,
-        ordinal_month: Some(place),
-        day: Some(1),
-    };
-    let options = DateFromFieldsOptions {
-        overflow: Some(Overflow::Reject),
-        missing_fields_strategy: None,
-    };
-    match calendar.from_fields(fields, options) {
-        Ok(_) => true,
-        Err(error) => is_overflow(error),
-    }
-}
-
 /// Returns the number of months of a year.
 pub(crate) fn months_of_year<C: Calendar>(calendar: &C, year: i32) -> u8
     requires { IsFieldYear year }
@@ -87,21 +65,4 @@ pub(crate) fn days_of_month<C: Calendar>(calendar: &C, year: i32, place: u8) -> 
         }
     }
     1
-}
-
-/// Returns the month in a place of a year.
-pub(crate) fn month_in_place<C: Calendar>(calendar: &C, year: i32, place: u8) -> Month
-    requires place { HasPlace (C.system calendar.now).list year place }
-    requires year { IsFieldYear year }
-    ensures { month_parts result ≡ month_at (C.system calendar.now).list year place }
-{
-    for number in 0..99u8 {
-        if has_month(calendar, year, place, Month::new(number)) {
-            return Month::new(number);
-        }
-        if has_month(calendar, year, place, Month::leap(number)) {
-            return Month::leap(number);
-        }
-    }
-    Month::new(99)
 }

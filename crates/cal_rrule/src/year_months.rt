@@ -2,7 +2,8 @@
 
 ghost use Rattle.std.specs.Prelude.{◌≡◌};
 ghost use Rattle.cal_types.specs.CalendarList.{CalendarList};
-ghost use Rattle.cal_rrule.specs.Looks.{AreMissing, CountsInYears, IsNamedInYearMonth, IsYearLook, look_stretch, look_year};
+ghost use Rattle.cal_rrule.specs.Looks.{AreMissing, CountsInYears, IsNamedInYearMonth, IsYearLook, look_stretch};
+ghost use Rattle.cal_rrule.specs.Looks.{look_year};
 ghost use Rattle.cal_rrule.specs.Masks.{Adds, Marks};
 ghost use Rattle.cal_rrule.specs.Periods.{IsOfWeekdays};
 ghost use Rattle.cal_rrule.specs.Stretches.{end_of};
