@@ -1,7 +1,6 @@
 -- Parts that a rule has or lacks.
-use Rattle.std.proofs.Common.{◌≡◌, ◌∙◌, ℕ, ◌↔◌, ◌⊎◌, ◌||◌, IsTrue, Bool, true, false, ℤ, refl, sym}
+use Rattle.std.proofs.Common.{◌≡◌, ◌∙◌, ℕ, ◌↔◌, ◌||◌, IsTrue, Bool, true, false, refl, sym}
 use mathlib.Core.Bool.{true≢false}
-use mathlib.Core.Logic.{inl, inr}
 use Rattle.cal_rule.specs.declared.place_set.Place.TheVariants.{FromFront}
 use Rattle.cal_rule.specs.declared.rule.RecurrenceRule.{RecurrenceRule}
 use Rattle.cal_rrule.specs.Looks.{IsNamedOfMonth}

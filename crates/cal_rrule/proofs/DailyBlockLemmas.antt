@@ -1,5 +1,5 @@
 -- DAILY's blocks.
-use Rattle.std.proofs.Common.{◌≡◌, ◌∙◌, ℕ, ◌+◌, ◌≤◌, ◌<◌, ◌↔◌, ◌&&◌, IsTrue, Bool, true, false, int_le, int_lt, Option, Some, None, ℤ, pos, ◌+ℤ◌, ◌-ℤ◌, ◌≤ℤ◌, ◌<ℤ◌, refl, sym, ap, subst, arith}
+use Rattle.std.proofs.Common.{◌≡◌, ◌∙◌, ℕ, ◌≤◌, ◌↔◌, ◌&&◌, IsTrue, int_le, int_lt, None, ℤ, pos, ◌+ℤ◌, ◌≤ℤ◌, ◌<ℤ◌, sym, ap, subst, arith}
 use Rattle.std.proofs.lemmas.Bool.Decides.{Decides-and, Decides-at}
 use Rattle.cal_days.specs.Day.{IsValidDay}
 use Rattle.cal_days.proofs.Signed.{signed}
@@ -10,7 +10,7 @@ use Rattle.cal_rrule.specs.DailyBlocks.{IsOfDailyBlock}
 use Rattle.cal_rrule.specs.Looks.{IsMonthHeld, IsMonthLook, look_stretch}
 use Rattle.cal_rrule.specs.Masks.{InRow, Marks}
 use Rattle.cal_rrule.specs.Occurrences.{IsKept}
-use Rattle.cal_rrule.specs.Stretches.{InStretch, Stretch, end_of, month_stretch}
+use Rattle.cal_rrule.specs.Stretches.{InStretch, Stretch, month_stretch}
 use Rattle.cal_rrule.specs.declared.month_look.MonthLook.{MonthLook}
 use Rattle.cal_rrule.proofs.LookLemmas.{look-stretch}
 use Rattle.cal_rrule.proofs.MaskLemmas.{le_test, lt_test}

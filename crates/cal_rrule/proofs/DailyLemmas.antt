@@ -1,5 +1,5 @@
 -- The days that DAILY keeps are those of its periods, each of which is a day.
-use Rattle.std.proofs.Common.{◌≡◌, ◌∙◌, ℕ, ◌+◌, ◌*◌, ◌<◌, ◌↔◌, ◌⊎◌, IsTrue, Bool, true, false, List, [], ◌∷◌, length, ℤ, pos, ◌+ℤ◌, ◌<ℤ◌, refl, sym, ap, subst, arith}
+use Rattle.std.proofs.Common.{◌≡◌, ◌∙◌, ℕ, ◌*◌, ◌⊎◌, IsTrue, ℤ, pos, ◌+ℤ◌, ◌<ℤ◌, sym, ap, subst, arith}
 use mathlib.Core.Logic.{inl, inr, ⊎_elim}
 use Rattle.cal_days.proofs.Signed.{by_bool, signed}
 use Rattle.cal_types.specs.CalendarList.{CalendarList, Date, day_number}
@@ -9,41 +9,31 @@ use Rattle.cal_rule.specs.declared.frequency.Frequency.TheVariants.{Yearly, Dail
 use Rattle.cal_rule.specs.declared.place_set.Place.{Place}
 use Rattle.cal_rule.specs.declared.place_set.Place.TheVariants.{FromFront, FromBack}
 use Rattle.cal_rule.specs.declared.rule.RecurrenceRule.{RecurrenceRule}
-use Rattle.cal_rrule.specs.Looks.{AreMissing, CountsInMonths, IsDailyDay, KeepsSingle}
-use Rattle.cal_rrule.specs.Occurrences.{AreDays, HasCount, HasPlaceAmong, IsKept}
-use Rattle.cal_rrule.specs.Periods.{IsKeptDay, IsMissing, IsOfPeriod, IsOfPeriods, NoMonths}
+use Rattle.cal_rrule.specs.Looks.{AreMissing, CountsInMonths, IsDailyDay}
+use Rattle.cal_rrule.specs.Occurrences.{IsKept}
+use Rattle.cal_rrule.specs.Periods.{IsKeptDay, IsMissing, IsOfPeriod, IsOfPeriods}
 use Rattle.cal_rrule.specs.declared.missing.Missing.{Missing}
 use Rattle.cal_rrule.proofs.AskedLemmas.{there-by}
-
-count-none : (Is : ℤ → Type 0) → ((m : ℤ) → Is m → ⊥) → HasCount Is 0
-count-none Is none = (
-  [],
-  record {
-    rising = λ i j d low within. absurd (omega (arith, within));
-    exact = λ m. (λ h. absurd (omega (arith, h.1)), λ is. absurd (none m is));
-  },
-  refl,
-)
-
-count-zero : (Is : ℤ → Type 0) → ((m : ℤ) → Is m → ⊥) → (i : ℕ) (days : List ℤ) → AreDays Is days → length days ≡ i → i ≡ 0
-count-zero Is none i [] are same = sym same
-count-zero Is none i (x ∷ xs) are same = absurd (none x ((are.exact x).0 (0, omega arith, refl)))
+use Rattle.recurrence_sets.specs.Days.{HasPlaceAmong}
+use Rattle.recurrence_sets.proofs.DayLemmas.{count-empty, count-unique}
 
 module _ (Is : ℤ → Type 0) (n : ℤ) (only : (m : ℤ) → Is m → m ≡ n) where
   front-one : HasPlaceAmong Is n (FromFront 1)
-  front-one = (0, omega arith, count-none (λ m. Is m × (m <ℤ n)) (λ m p. omega (arith, signed, only m p.0, p.1)))
+  front-one = (0, omega arith, count-empty (λ m. Is m × (m <ℤ n)) (λ m p. omega (arith, signed, only m p.0, p.1)))
 
   back-one : HasPlaceAmong Is n (FromBack 1)
-  back-one = (0, omega arith, count-none (λ m. Is m × (n <ℤ m)) (λ m p. omega (arith, signed, only m p.0, p.1)))
+  back-one = (0, omega arith, count-empty (λ m. Is m × (n <ℤ m)) (λ m p. omega (arith, signed, only m p.0, p.1)))
 
   front-is : (k : ℕ) → HasPlaceAmong Is n (FromFront k) → k ≡ 1
   front-is k h =
-      let none = count-zero (λ m. Is m × (m <ℤ n)) (λ m p. omega (arith, signed, only m p.0, p.1)) h.0 h.2.0 h.2.1 h.2.2 in
+      let none = count-unique (λ m. Is m × (m <ℤ n)) h.0 0 h.2
+      (count-empty (λ m. Is m × (m <ℤ n)) (λ m p. omega (arith, signed, only m p.0, p.1))) in
       omega (arith, none, h.1)
 
   back-is : (k : ℕ) → HasPlaceAmong Is n (FromBack k) → k ≡ 1
   back-is k h =
-      let none = count-zero (λ m. Is m × (n <ℤ m)) (λ m p. omega (arith, signed, only m p.0, p.1)) h.0 h.2.0 h.2.1 h.2.2 in
+      let none = count-unique (λ m. Is m × (n <ℤ m)) h.0 0 h.2
+      (count-empty (λ m. Is m × (n <ℤ m)) (λ m p. omega (arith, signed, only m p.0, p.1))) in
       omega (arith, none, h.1)
 
 -- DAILY counts weekdays in months

@@ -1,19 +1,19 @@
 -- The days of a month that DAILY keeps.
-use Rattle.std.proofs.Common.{◌≡◌, ◌∙◌, ℕ, ◌*◌, ◌≤◌, ◌<◌, ◌↔◌, ◌⊎◌, ◌&&◌, ◌||◌, IsTrue, Bool, true, false, ℤ, pos, ◌+ℤ◌, ◌-ℤ◌, ◌≤ℤ◌, ◌<ℤ◌, refl, sym, ap, subst, arith}
+use Rattle.std.proofs.Common.{◌≡◌, ◌∙◌, ℕ, ◌≤◌, ◌↔◌, ◌&&◌, ◌||◌, IsTrue, Bool, true, false, ℤ, pos, ◌+ℤ◌, ◌≤ℤ◌, sym, ap, subst, arith}
 use mathlib.Core.Bool.{true≢false}
 use mathlib.Core.Logic.{inl, inr, ⊎_elim}
 use Rattle.std.proofs.lemmas.Bool.Decides.{Decides-and, Decides-at, Decides-or}
 use Rattle.cal_days.proofs.Signed.{signed}
-use Rattle.cal_types.specs.CalendarList.{CalendarList, Date, date, month_at}
+use Rattle.cal_types.specs.CalendarList.{CalendarList, date, month_at}
 use Rattle.cal_types.specs.Month.{MonthParts}
 use Rattle.cal_types.specs.MonthParts.{month_parts}
 use Rattle.cal_rule.specs.Sets.{has_month, has_place}
 use Rattle.cal_rule.specs.declared.place_set.Place.TheVariants.{FromFront, FromBack}
 use Rattle.cal_rule.specs.declared.rule.RecurrenceRule.{RecurrenceRule}
 use Rattle.cal_rule.specs.declared.skip.Skip.TheVariants.{Omit}
-use Rattle.cal_rrule.specs.Looks.{CountsInMonths, IsDailyDay, IsMonthLook, IsMultiple, KeepsMonth, KeepsSingle, look_stretch}
+use Rattle.cal_rrule.specs.Looks.{IsDailyDay, IsMonthLook, IsMultiple, KeepsMonth, KeepsSingle, look_stretch}
 use Rattle.cal_rrule.specs.Masks.{Adds, InRow, IsInterval, IsNamedBy, Marks}
-use Rattle.cal_rrule.specs.Periods.{IsKeptDay, IsMissing, IsOfMonthDays, IsOfMonths, IsOfWeekdays, NoMonthDays, NoMonths, NoWeekdays}
+use Rattle.cal_rrule.specs.Periods.{IsMissing, IsOfMonthDays, IsOfMonths, IsOfWeekdays, NoMonthDays, NoMonths, NoWeekdays}
 use Rattle.cal_rrule.specs.Stretches.{InStretch, Stretch, end_of, month_stretch}
 use Rattle.cal_rrule.specs.declared.month_look.MonthLook.{MonthLook}
 use Rattle.cal_rrule.proofs.AskedLemmas.{missing-or}

@@ -1,18 +1,17 @@
 -- Looks at months.
-use Rattle.std.proofs.Common.{◌≡◌, ◌∙◌, ℕ, false, ◌+◌, ◌-◌, ◌≤◌, ◌<◌, ◌↔◌, ◌⊎◌, ℤ, pos, negsuc, ◌+ℤ◌, ◌-ℤ◌, ◌≤ℤ◌, ◌<ℤ◌, int_lt, refl, sym, ap, subst, arith}
+use Rattle.std.proofs.Common.{◌≡◌, ◌∙◌, ℕ, false, ◌+◌, ◌≤◌, ◌<◌, ◌↔◌, ℤ, pos, negsuc, ◌+ℤ◌, ◌-ℤ◌, ◌≤ℤ◌, ◌<ℤ◌, int_lt, refl, sym, ap, subst, arith}
 use mathlib.Core.Bool.{true≢false}
-use mathlib.Core.Logic.{inl, inr, ⊎_elim}
+use mathlib.Core.Logic.{inl, ⊎_elim}
 use Rattle.cal_days.proofs.Signed.{by_bool, signed}
-use Rattle.cal_types.specs.CalendarList.{CalendarList, Date, HasPlace, IsDate, IsLawful, IsOn, date, day_number, days_before, month_at, month_length, start_of_year}
+use Rattle.cal_types.specs.CalendarList.{CalendarList, Date, HasPlace, IsLawful, IsOn, date, day_number, month_at, month_length}
 use Rattle.cal_types.specs.MonthParts.{month_parts}
 use Rattle.cal_types.proofs.ListLemmas.{on-rest, on-unique}
 use Rattle.cal_rule.specs.declared.rule.RecurrenceRule.{RecurrenceRule}
-use Rattle.cal_rrule.specs.Looks.{AreMissing, CountsInMonths, IsAsked, IsMonthLook, look_stretch}
+use Rattle.cal_rrule.specs.Looks.{CountsInMonths, IsMonthLook, look_stretch}
 use Rattle.cal_rrule.specs.Masks.{Adds, InRow, IsWeekdayIn, Marks}
 use Rattle.cal_rrule.specs.Periods.{IsOfWeekdays}
 use Rattle.cal_rrule.specs.Stretches.{InStretch, Stretch, end_of, month_stretch}
 use Rattle.cal_rrule.specs.Weeks.{IsAmongWeekdays}
-use Rattle.cal_rrule.specs.declared.asked.Asked.{Asked}
 use Rattle.cal_rrule.specs.declared.month_look.MonthLook.{MonthLook}
 use Rattle.recurrence_sets.specs.PeriodBits.{has_day}
 use Rattle.recurrence_sets.specs.declared.period_days.PeriodDays.{PeriodDays}
@@ -135,25 +134,3 @@ look-joins c law a b one two within =
         let same = look-same c a b last one two in_one in_two in
         let ends : end_of (look_stretch a) ≡ end_of (look_stretch b) = ap end_of same in
         omega (arith, signed, ends, within.1)
-
--- a rule, and a day of a month that is looked at as its start
-pub look-asked : (c : CalendarList) (t : Date) (asked : Asked) → AreMissing asked.rule asked.missing →
-    IsMonthLook c asked.month → InStretch (look_stretch asked.month) asked.day → IsOn c asked.day t →
-    pos asked.day_of_month ≡ asked.day -ℤ asked.month.first +ℤ pos 1 → IsAsked c t asked
-look-asked c t asked missing is within on day =
-    let at = look-date c asked.month asked.day t is within on in
-    record {
-      are_missing = missing;
-      on_day = sym on.day;
-      on_day_of_month = omega (arith, signed, day, is.is_first, first at, on.day, on.date.day.0);
-      in_month = is.is_month ∙ ap (λ (y : ℤ). month_at c y asked.month.place) (sym at.0)
-          ∙ ap (λ (i : ℕ). month_at c t.year i) (sym at.1);
-      in_year = sym at.0;
-      in_place = sym at.1;
-      is_look = is;
-    }
-  where
-    first : (t.year ≡ asked.month.year) × (t.month ≡ asked.month.place) →
-        day_number c (date asked.month.year asked.month.place 1) ≡ day_number c (date t.year t.month 1)
-    first at = ap (λ (y : ℤ). day_number c (date y asked.month.place 1)) (sym at.0)
-        ∙ ap (λ (i : ℕ). day_number c (date t.year i 1)) (sym at.1)

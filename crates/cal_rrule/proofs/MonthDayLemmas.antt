@@ -1,10 +1,10 @@
 -- The days that a month names.
-use Rattle.std.proofs.Common.{◌≡◌, ◌∙◌, ℕ, ◌+◌, ◌*◌, ◌≤◌, ◌<◌, ◌↔◌, ◌⊎◌, ◌&&◌, IsTrue, Bool, true, false, int_lt, ℤ, pos, ◌+ℤ◌, ◌-ℤ◌, ◌≤ℤ◌, ◌<ℤ◌, refl, sym, ap, subst, arith}
+use Rattle.std.proofs.Common.{◌≡◌, ◌∙◌, ℕ, ◌*◌, ◌<◌, ◌↔◌, ◌&&◌, IsTrue, true, false, ℤ, pos, ◌+ℤ◌, ◌-ℤ◌, ◌≤ℤ◌, ◌<ℤ◌, sym, subst, arith}
 use mathlib.Core.Bool.{true≢false}
 use mathlib.Core.Logic.{inl, inr, ⊎_elim}
 use Rattle.std.proofs.lemmas.Bool.Decides.{Decides-and, Decides-at}
 use Rattle.cal_days.proofs.Signed.{by_bool, signed}
-use Rattle.cal_types.specs.CalendarList.{CalendarList, Date, IsLawful, IsMonthsAfter}
+use Rattle.cal_types.specs.CalendarList.{CalendarList, Date, IsMonthsAfter}
 use Rattle.cal_types.proofs.ListLemmas.{month_number-injective}
 use Rattle.cal_rule.specs.declared.frequency.Frequency.{Frequency}
 use Rattle.cal_rule.specs.declared.frequency.Frequency.TheVariants.{Yearly, Monthly}
@@ -16,14 +16,14 @@ use Rattle.cal_rule.specs.declared.place_set.Place.TheVariants.{FromFront, FromB
 use Rattle.cal_rule.specs.declared.rule.RecurrenceRule.{RecurrenceRule}
 use Rattle.cal_rule.specs.declared.skip.Skip.{Skip}
 use Rattle.cal_rule.specs.declared.skip.Skip.TheVariants.{Omit, Backward, Forward}
-use Rattle.cal_rrule.specs.Looks.{AreMissing, CountsInMonths, IsKeptOfMonth, IsMonthLook, IsNamedOfMonth, KeepsMonth, Reaches, look_stretch}
+use Rattle.cal_rrule.specs.Looks.{AreMissing, CountsInMonths, IsKeptOfMonth, IsMonthLook, IsNamedOfMonth, Reaches, look_stretch}
 use Rattle.cal_rrule.specs.Masks.{Adds, InRow, IsNamedBy, IsWeekdayIn, Marks}
 use Rattle.cal_rrule.specs.Periods.{IsNamedInMonth, IsOfPeriod, IsOfPeriods, IsOfWeekdays, NoMonthDays, NoWeekdays}
-use Rattle.cal_rrule.specs.Stretches.{InStretch, NamesDay, Stretch, end_of, month_stretch}
+use Rattle.cal_rrule.specs.Stretches.{InStretch, NamesDay, Stretch}
 use Rattle.cal_rrule.specs.declared.missing.Missing.{Missing}
 use Rattle.cal_rrule.specs.declared.month_look.MonthLook.{MonthLook}
 use Rattle.cal_rrule.proofs.AskedLemmas.{there-by}
-use Rattle.cal_rrule.proofs.LookLemmas.{look-stretch, look-weekdays, some}
+use Rattle.cal_rrule.proofs.LookLemmas.{look-stretch, look-weekdays}
 use Rattle.recurrence_sets.specs.PeriodBits.{has_day}
 use Rattle.recurrence_sets.specs.declared.period_days.PeriodDays.{PeriodDays}
 

@@ -1,11 +1,11 @@
 -- The month that lies so many months after a month, as adding months finds it.
-use Rattle.std.proofs.Common.{◌≡◌, ◌∙◌, ℕ, ◌+◌, ◌-◌, ◌*◌, ◌≤◌, ◌<◌, ◌&&◌, nat_le, nat_lt, min, Bool, true, false, Option, Some, None, MatchOption, Result, Ok, Err, ℤ, pos, ◌+ℤ◌, ◌-ℤ◌, ◌≤ℤ◌, ◌<ℤ◌, refl, sym, ap, subst, arith}
+use Rattle.std.proofs.Common.{◌≡◌, ◌∙◌, ℕ, ◌+◌, ◌*◌, ◌≤◌, ◌<◌, ◌&&◌, nat_le, nat_lt, min, Bool, true, false, Option, Some, None, MatchOption, Result, Ok, Err, ℤ, pos, ◌+ℤ◌, ◌≤ℤ◌, ◌<ℤ◌, refl, sym, ap, subst, arith}
 use mathlib.Core.Bool.{true≢false}
 use mathlib.Core.Logic.{◌⊎◌, inl, inr}
 use Rattle.std.specs.Bool.{MatchBool}
 use Rattle.std.proofs.lemmas.Bool.Decides.{nat_tests}
 use Rattle.cal_days.specs.Day.{IsValidDay, is_field_year, is_valid_day}
-use Rattle.cal_days.proofs.RangeLemmas.{is_between-true, true-is_between}
+use Rattle.cal_days.proofs.RangeLemmas.{true-is_between}
 use Rattle.cal_days.proofs.Signed.{signed}
 use Rattle.cal_errors.specs.declared.errors.DateAddError.{DateAddError}
 use Rattle.cal_errors.specs.declared.errors.DateAddError.TheVariants as fault

@@ -1,10 +1,9 @@
 -- What a year's dates say of its months.
-use Rattle.std.proofs.Common.{◌≡◌, ◌∙◌, ℕ, ◌+◌, ◌-◌, ◌≤◌, ◌<◌, ◌&&◌, nat_le, Bool, true, false, cond, Option, Some, None, Result, Ok, Err, List, ℤ, refl, sym, ap, arith}
+use Rattle.std.proofs.Common.{◌≡◌, ◌∙◌, ℕ, ◌≤◌, ◌<◌, ◌&&◌, nat_le, Bool, true, false, cond, Some, None, Ok, Err, ℤ, refl, sym, ap, arith}
 use mathlib.Core.Bool.{true≢false}
 use Rattle.std.proofs.lemmas.Bool.Decides.{nat_tests}
 use Rattle.cal_days.specs.Day.{IsFieldYear, is_field_year, is_valid_day}
 use Rattle.cal_days.proofs.RangeLemmas.{true-is_between}
-use Rattle.cal_errors.specs.declared.errors.DateFromFieldsError.{DateFromFieldsError}
 use Rattle.cal_errors.specs.declared.errors.DateFromFieldsError.TheVariants as fault
 use Rattle.cal_types.specs.Bag.{Bag}
 use Rattle.cal_types.specs.CalendarList.{CalendarList, Date, HasPlace, IsLawful, date, day_number, is_date, month_count, month_length}

@@ -1,5 +1,5 @@
 -- The first day of a week.
-use Rattle.std.proofs.Common.{◌≡◌, ◌∙◌, ℕ, ◌+◌, ◌*◌, ◌<◌, ℤ, pos, ◌+ℤ◌, ◌-ℤ◌, ◌≤ℤ◌, ◌<ℤ◌, refl, arith}
+use Rattle.std.proofs.Common.{◌≡◌, ◌∙◌, ℕ, ℤ, pos, ◌-ℤ◌, refl, arith}
 use Rattle.std.specs.Int.{int_rem_euclid}
 use Rattle.cal_days.specs.Division.{floor_mod}
 use Rattle.cal_days.proofs.DivisionLemmas.{floor_mod-is, floor_parts}

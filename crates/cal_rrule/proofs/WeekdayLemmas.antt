@@ -1,5 +1,5 @@
 -- Weekdays by their place in a stretch.
-use Rattle.std.proofs.Common.{◌≡◌, ◌∙◌, ℕ, zero, suc, ◌+◌, ◌-◌, ◌*◌, ◌/◌, ◌<◌, ◌≤◌, ◌⊎◌, ◌↔◌, ◌||◌, IsTrue, Bool, true, false, Option, Some, None, int_lt, ℤ, pos, ◌+ℤ◌, ◌-ℤ◌, ◌≤ℤ◌, ◌<ℤ◌, refl, sym, ap, subst, arith}
+use Rattle.std.proofs.Common.{◌≡◌, ◌∙◌, ℕ, ◌+◌, ◌-◌, ◌*◌, ◌/◌, ◌<◌, ◌⊎◌, ◌↔◌, ◌||◌, IsTrue, Bool, Option, Some, None, int_lt, ℤ, pos, ◌+ℤ◌, ◌≤ℤ◌, ◌<ℤ◌, sym, subst, arith}
 use mathlib.Core.Logic.{inl, inr, ⊎_elim}
 use Rattle.std.specs.Int.{int_rem_euclid}
 use Rattle.std.proofs.lemmas.Bool.Decides.{Decides-or}
@@ -8,10 +8,9 @@ use Rattle.cal_days.proofs.DivisionLemmas.{floor_mod-is, floor_parts}
 use Rattle.cal_days.proofs.Signed.{by_bool, signed}
 use Rattle.cal_types.specs.Weekday.{days_since_sunday}
 use Rattle.cal_types.specs.declared.weekday.Weekday.{Weekday}
-use Rattle.cal_rule.specs.Sets.{has_ordinal, has_weekday}
+use Rattle.cal_rule.specs.Sets.{has_ordinal}
 use Rattle.cal_rule.specs.declared.place_set.Place.{Place}
 use Rattle.cal_rule.specs.declared.place_set.Place.TheVariants.{FromFront, FromBack}
-use Rattle.cal_rule.specs.declared.weekday_places.WeekdayPlace.{WeekdayPlace}
 use Rattle.cal_rule.specs.declared.weekday_places.WeekdayPlaces.{WeekdayPlaces}
 use Rattle.cal_rrule.specs.Stretches.{InStretch, Stretch, end_of}
 use Rattle.cal_rrule.specs.Weeks.{HasOrdinal, IsAmongWeekdays, IsNth, IsWeekday, weeks_before, weeks_behind}

@@ -1,13 +1,11 @@
 -- Looks at years, and the days that a rule names in a month of a year.
-use Rattle.std.proofs.Common.{◌≡◌, ◌∙◌, ℕ, ◌+◌, ◌-◌, ◌≤◌, ◌<◌, ◌↔◌, ◌⊎◌, ◌&&◌, IsTrue, Bool, true, false, ℤ, pos, negsuc, ◌+ℤ◌, ◌-ℤ◌, ◌≤ℤ◌, ◌<ℤ◌, refl, sym, ap, subst, arith}
+use Rattle.std.proofs.Common.{◌≡◌, ◌∙◌, ℕ, ◌≤◌, ◌↔◌, ◌&&◌, IsTrue, false, ℤ, pos, negsuc, ◌+ℤ◌, ◌-ℤ◌, ◌≤ℤ◌, ◌<ℤ◌, refl, sym, ap, subst, arith}
 use mathlib.Core.Bool.{true≢false}
 use mathlib.Core.Logic.{inl, inr, ⊎_elim}
 use Rattle.std.proofs.lemmas.Bool.{and_parts}
-use Rattle.std.proofs.lemmas.Bool.Decides.{Decides-and}
 use Rattle.cal_days.proofs.Signed.{signed}
-use Rattle.cal_types.specs.CalendarList.{CalendarList, Date, IsDate, IsOn, date, day_number, days_before, start_of_year, year_length}
+use Rattle.cal_types.specs.CalendarList.{CalendarList, Date, IsOn, start_of_year, year_length}
 use Rattle.cal_types.proofs.ListLemmas.{date-in_year, date-within, on-unique}
-use Rattle.cal_rule.specs.Sets.{has_place}
 use Rattle.cal_rule.specs.declared.place_set.Place.{Place}
 use Rattle.cal_rule.specs.declared.place_set.Place.TheVariants.{FromFront}
 use Rattle.cal_rule.specs.declared.rule.RecurrenceRule.{RecurrenceRule}

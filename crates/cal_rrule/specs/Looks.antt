@@ -1,7 +1,7 @@
 -- Months of a calendar as they are looked at, and what is known of a rule and its start.
 use Rattle.std.specs.Prelude.{◌≡◌, ◌↔◌, Option, MatchOption, ◌⊎◌, ◌*◌, IsTrue, ℕ, ℤ, pos, ◌-ℤ◌, ◌+ℤ◌, ◌≤ℤ◌, ◌<ℤ◌}
 use Rattle.cal_days.specs.Day.{IsValidDay}
-use Rattle.cal_types.specs.CalendarList.{CalendarList, Date, HasPlace, IsMonthsAfter, date, day_number, month_at, month_length, start_of_year, year_length}
+use Rattle.cal_types.specs.CalendarList.{CalendarList, HasPlace, IsMonthsAfter, date, day_number, month_at, month_length, start_of_year, year_length}
 use Rattle.cal_types.specs.Month.{MonthParts}
 use Rattle.cal_types.specs.MonthParts.{month_parts}
 use Rattle.cal_rule.specs.declared.frequency.Frequency.TheVariants.{Yearly}
@@ -13,7 +13,6 @@ use Rattle.cal_rrule.specs.Periods.{Given, IsKeptDay, IsMissing, NoDays, NoMonth
 use Rattle.cal_rule.specs.declared.skip.Skip.{Skip}
 use Rattle.cal_rule.specs.declared.skip.Skip.TheVariants.{Omit, Backward, Forward}
 use Rattle.cal_rrule.specs.Stretches.{InStretch, NamesDay, Stretch, end_of}
-use Rattle.cal_rrule.specs.declared.asked.Asked.{Asked}
 use Rattle.cal_rrule.specs.declared.missing.Missing.{Missing}
 use Rattle.cal_rrule.specs.declared.month_look.MonthLook.{MonthLook}
 use Rattle.cal_rrule.specs.declared.year_look.YearLook.{YearLook}
@@ -38,16 +37,6 @@ pub record AreMissing (rule : RecurrenceRule) (missing : Missing) : Type 0 where
   pub no_weeks : IsTrue missing.weeks ↔ NoWeeks rule
   pub no_weekdays : IsTrue missing.weekdays ↔ NoWeekdays rule
   pub no_positions : IsTrue missing.positions ↔ IsMissing has_place rule.positions
-
--- what is said of a rule and its start is so in a calendar
-pub record IsAsked (c : CalendarList) (t : Date) (asked : Asked) : Type 0 where
-  pub are_missing : AreMissing asked.rule asked.missing
-  pub on_day : asked.day ≡ day_number c t
-  pub on_day_of_month : asked.day_of_month ≡ t.day
-  pub in_month : month_parts asked.month.month ≡ month_at c t.year t.month
-  pub in_year : asked.month.year ≡ t.year
-  pub in_place : asked.month.place ≡ t.month
-  pub is_look : IsMonthLook c asked.month
 
 -- the days that a rule names in a month, whatever their weekdays are: the start's day where it names none
 abbrev pub IsNamedOfMonth : RecurrenceRule → ℕ → Stretch → ℤ → Type 0

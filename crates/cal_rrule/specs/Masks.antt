@@ -1,5 +1,5 @@
 -- Days as bits, in words of days.
-use Rattle.std.specs.Prelude.{◌≡◌, ℕ, ◌<◌, ◌≤◌, ◌+◌, ◌*◌, ◌⊎◌, ◌↔◌, IsTrue, Bool, ℤ, pos, ◌+ℤ◌, ◌≤ℤ◌, ◌<ℤ◌}
+use Rattle.std.specs.Prelude.{◌≡◌, ℕ, ◌<◌, ◌≤◌, ◌+◌, ◌*◌, ◌⊎◌, ◌↔◌, IsTrue, ℤ, pos, ◌+ℤ◌, ◌≤ℤ◌, ◌<ℤ◌}
 use Rattle.cal_rule.specs.Sets.{has_place, number_of}
 use Rattle.cal_rule.specs.declared.place_set.Place.{Place}
 use Rattle.cal_rule.specs.declared.place_set.PlaceSet.{PlaceSet}

@@ -1,6 +1,6 @@
 //! Looks at months and years: their first days, their lengths and their names.
 
-ghost use Rattle.std.specs.Prelude.{◌≡◌, ◌+ℤ◌, pos};
+ghost use Rattle.std.specs.Prelude.{◌≡◌};
 ghost use Rattle.cal_days.specs.Day.{IsValidDay, is_valid_day};
 ghost use Rattle.cal_rrule.specs.Looks.{IsMonthLook, IsYearLook, look_stretch, look_year};
 ghost use Rattle.cal_rrule.specs.Stretches.{InStretch, end_of};

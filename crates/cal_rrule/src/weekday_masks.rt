@@ -1,6 +1,6 @@
 //! The days that BYDAY keeps, as bits.
 
-ghost use Rattle.std.specs.Prelude.{◌≡◌, ◌+◌, ◌*◌, ◌<◌, ◌↔◌, IsTrue, neg_ℤ, pos, ◌+ℤ◌, ℕ};
+ghost use Rattle.std.specs.Prelude.{◌≡◌, ◌+◌, ◌*◌, ◌<◌, ◌↔◌, IsTrue, neg_ℤ, pos, ◌+ℤ◌};
 ghost use Rattle.cal_days.specs.Day.{IsBetween};
 ghost use Rattle.cal_rule.specs.Sets.{has_weekday};
 ghost use Rattle.cal_rrule.specs.Masks.{Adds, IsStep, IsWeekdayAt, IsWeekdayFrom, IsWeekdayIn};

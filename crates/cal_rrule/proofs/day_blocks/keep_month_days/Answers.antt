@@ -1,7 +1,6 @@
-use Rattle.std.proofs.Common.{◌≡◌, ◌∙◌, ◌<ℤ◌, ◌+ℤ◌, ℤ, pos, true, false, rules, arith, IsTrue}
+use Rattle.std.proofs.Common.{◌≡◌, ◌∙◌, ◌<ℤ◌, ◌+ℤ◌, pos, true, false, rules, arith}
 use Rattle.cal_days.proofs.Signed.{signed}
 use Rattle.cal_rrule.specs.Periods.{IsOfMonthDays, NoMonthDays}
-use Rattle.cal_rrule.specs.Looks.{look_stretch}
 use Rattle.cal_rrule.proofs.AskedLemmas.{there-by}
 use Rattle.cal_rrule.proofs.DayBlockLemmas.{keep-all, keep-some, named-marks}
 use Rattle.recurrence_sets.specs.PeriodBits.{has_day}

@@ -1,4 +1,4 @@
-use Rattle.std.proofs.Common.{◌≡◌, ◌∙◌, ◌<ℤ◌, ◌+ℤ◌, ℤ, pos, true, false, rules, arith}
+use Rattle.std.proofs.Common.{◌≡◌, ◌<ℤ◌, ◌+ℤ◌, pos, true, false, rules, arith}
 use Rattle.cal_days.proofs.Signed.{signed}
 use Rattle.cal_rrule.specs.Periods.{IsOfWeekdays, NoWeekdays}
 use Rattle.cal_rrule.proofs.AskedLemmas.{there-by}

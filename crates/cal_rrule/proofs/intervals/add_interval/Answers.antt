@@ -1,4 +1,4 @@
-use Rattle.std.proofs.Common.{◌≡◌, ◌∙◌, ℕ, ◌+◌, ◌*◌, ◌≤◌, ◌≤ℤ◌, ◌<ℤ◌, pos, ◌+ℤ◌, ap, subst, arith, to_z, w64}
+use Rattle.std.proofs.Common.{◌≡◌, ℕ, ◌+◌, ◌*◌, ◌≤ℤ◌, ◌<ℤ◌, pos, ◌+ℤ◌, ap, subst, arith, to_z, w64}
 use Rattle.cal_days.proofs.Signed.{signed}
 use Rattle.cal_rrule.specs.Masks.{Adds, IsIntervalBelow}
 use Rattle.cal_rrule.proofs.IntervalLemmas.{interval-all, interval-more, interval-none, next-step}

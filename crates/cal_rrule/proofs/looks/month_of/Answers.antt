@@ -1,4 +1,4 @@
-use Rattle.std.proofs.Common.{◌≡◌, ◌∙◌, rules, ℤ, pos, ◌+ℤ◌, ◌-ℤ◌, ap, subst, arith, FitsSigned, w32, to_z, of_z}
+use Rattle.std.proofs.Common.{◌≡◌, ◌∙◌, rules, ℤ, pos, ap, subst, arith, FitsSigned, w32, to_z, of_z}
 use Rattle.cal_days.proofs.Signed.{signed}
 use Rattle.cal_types.specs.CalendarList.{IsOn}
 use Rattle.cal_rrule.proofs.LookLemmas.{look-of, look-within}

@@ -1,4 +1,4 @@
-use Rattle.std.proofs.Common.{◌≡◌, ◌∙◌, ◌<◌, rules, arith}
+use Rattle.std.proofs.Common.{◌≡◌, ◌∙◌, ◌<◌, arith}
 use Rattle.cal_days.proofs.Signed.{signed}
 use Rattle.cal_rrule.proofs.LookLemmas.{look-marks}
 use Rattle.cal_rrule.proofs.month_days.weekdays_of_month.Goals as goal

@@ -1,4 +1,4 @@
-use Rattle.std.proofs.Common.{◌≡◌, ◌∙◌, ◌+◌, ◌-◌, ◌<◌, false, true, pos, neg_ℤ, ap, sym, arith, to_z, of_z, w64}
+use Rattle.std.proofs.Common.{◌≡◌, ◌∙◌, ◌+◌, ◌-◌, ◌<◌, pos, neg_ℤ, ap, sym, arith, to_z, of_z, w64}
 use Rattle.cal_days.specs.Day.{is_valid_day}
 use Rattle.cal_days.proofs.RangeLemmas.{is_between-true}
 use Rattle.cal_days.proofs.Signed.{signed}

@@ -1,4 +1,4 @@
-use Rattle.std.proofs.Common.{◌≡◌, ◌∙◌, true, ℤ, ◌+ℤ◌, subst, Ok, Err, sym, arith}
+use Rattle.std.proofs.Common.{◌≡◌, ◌∙◌, true, ℤ, ◌+ℤ◌, subst, Ok, Err, arith}
 use Rattle.cal_days.specs.Day.{is_field_year}
 use Rattle.cal_days.proofs.RangeLemmas.{true-is_between}
 use Rattle.cal_days.proofs.Signed.{signed}

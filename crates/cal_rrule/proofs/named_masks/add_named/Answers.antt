@@ -1,4 +1,3 @@
-use Rattle.std.proofs.Common.{sym, ◌∙◌}
 use Rattle.cal_rrule.specs.NamedDays.{stretch}
 use Rattle.cal_rrule.specs.Stretches.{NamesDay}
 use Rattle.cal_rrule.proofs.MaskLemmas.{adds-none, adds-only}

@@ -1,4 +1,3 @@
-use Rattle.std.proofs.Common.{ℕ}
 use Rattle.cal_rrule.specs.Masks.{Adds, IsNamedBelow}
 use Rattle.cal_rrule.specs.NamedDays.{stretch}
 use Rattle.cal_rrule.proofs.named_masks.add_named_below.Given as goal

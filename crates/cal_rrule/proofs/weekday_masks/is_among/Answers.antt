@@ -1,4 +1,4 @@
-use Rattle.std.proofs.Common.{◌≡◌, ◌∙◌, ◌+◌, ◌-◌, ◌*◌, ◌/◌, pos, ◌+ℤ◌, ap, refl, sym, arith}
+use Rattle.std.proofs.Common.{◌≡◌, ◌∙◌, pos, ◌+ℤ◌, ap, refl, arith}
 use Rattle.std.specs.Int.{int_rem_euclid}
 use Rattle.cal_days.proofs.Signed.{signed}
 use Rattle.cal_rrule.specs.NamedDays.{stretch}
