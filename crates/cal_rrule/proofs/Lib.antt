@@ -1,1 +1,16 @@
+mod AskedLemmas
+mod DailyBlockLemmas
+mod DailyLemmas
+mod DayBlockLemmas
+mod IntervalLemmas
+mod LookLemmas
+mod MaskLemmas
+mod MonthDayLemmas
+mod MonthStepLemmas
 mod NamedDayLemmas
+mod NamedMaskLemmas
+mod ProbeLemmas
+mod WeekdayLemmas
+mod WeekdayMaskLemmas
+mod WeekStartLemmas
+mod YearLookLemmas

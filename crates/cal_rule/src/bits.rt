@@ -1,6 +1,6 @@
 //! Sets of numbers as bits of words.
 
-ghost use Rattle.std.specs.Prelude.{◌≡◌, ◌↔◌, ◌<◌, ◌*◌, ◌||◌, ◌==◌, IsTrue, false, ℕ, length};
+ghost use Rattle.std.specs.Prelude.{◌≡◌, ◌↔◌, ◌<◌, ◌*◌, ◌||◌, ◌==◌, IsTrue, false, ℕ, get_or, length};
 ghost use Rattle.std.specs.List.{list_all};
 ghost use Rattle.cal_rule.specs.Sets.{has_bit, has_number};
 
@@ -54,6 +54,13 @@ fn are_zero(words: &[u64]) -> bool
 /// Returns whether the words of a set have no number.
 pub fn has_no_number(words: &[u64]) -> bool
     ensures { IsTrue result ↔ ((i : ℕ) → has_number words.now i ≡ false) }
+{
+    are_zero(words)
+}
+
+/// Returns whether no word has a bit.
+pub(crate) fn have_no_bits(words: &[u64]) -> bool
+    ensures { IsTrue result ↔ ((p i : ℕ) → has_bit (get_or words.now p 0) i ≡ false) }
 {
     are_zero(words)
 }

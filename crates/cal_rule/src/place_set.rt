@@ -53,6 +53,20 @@ impl<const WORDS: usize> PlaceSet<WORDS> {
         front & back
     }
 
+    /// Returns the number of words. The numbers of places are below 64 times as many.
+    pub fn words(&self) -> usize
+        ensures value { result ≡ WORDS }
+        ensures bound { (place : Place) → IsTrue (has_place self.now place) → number_of place < 64 * WORDS }
+    {
+        let front: &[u64] = &self.front;
+        let back: &[u64] = &self.back;
+        if front.len() < back.len() {
+            front.len()
+        } else {
+            back.len()
+        }
+    }
+
     /// Adds a place.
     pub(crate) const fn insert(&mut self, place: Place)
         requires { number_of place < 64 * WORDS }

@@ -1,10 +1,11 @@
 //! Sets of weekdays, all of them or by their place.
 
-ghost use Rattle.std.specs.Prelude.{◌≡◌, ◌<◌, ◌||◌, false, Some};
+ghost use Rattle.std.specs.Prelude.{◌≡◌, ◌↔◌, ◌<◌, ◌||◌, IsTrue, false, not, Some};
+ghost use Rattle.std.specs.List.{list_all};
 ghost use Rattle.std.specs.Option.{ForSome};
 ghost use Rattle.cal_rule.specs.Sets.{has_weekday, is_weekday_place, number_of};
 
-use crate::bits::{bit_of, with_bit};
+use crate::bits::{bit_of, have_no_bits, with_bit};
 use crate::place_set::Place;
 use crate::weekdays::days_since_sunday;
 use cal_types::Weekday;
@@ -29,6 +30,13 @@ pub struct WeekdayPlaces {
     back: [u64; 7],
 }
 
+/// Returns whether none of some answers is `true`.
+fn has_none(answers: &[bool]) -> bool
+    ensures { result ≡ list_all (λ answer. not answer) answers.now }
+{
+    answers.iter().all(|answer| !*answer)
+}
+
 impl WeekdayPlaces {
     /// Creates the empty set.
     pub const fn new() -> Self
@@ -51,6 +59,16 @@ impl WeekdayPlaces {
             Some(Place::FromFront(number)) => bit_of(self.front[place], number),
             Some(Place::FromBack(number)) => bit_of(self.back[place], number),
         }
+    }
+
+    /// Returns `true` if the set has no weekday.
+    pub fn is_empty(&self) -> bool
+        ensures { IsTrue result ↔ ((w : WeekdayPlace) → has_weekday self.now w ≡ false) }
+    {
+        let every = has_none(&self.every);
+        let front = have_no_bits(&self.front);
+        let back = have_no_bits(&self.back);
+        every & front & back
     }
 
     /// Adds a weekday with its ordinal.

@@ -1,5 +1,6 @@
 pub mod DayBitLemmas
 pub mod DayLemmas
+pub mod DaySetLemmas
 pub mod ListingLemmas
 pub mod LookLemmas
 pub mod NumberLemmas

@@ -6,6 +6,7 @@
 
 mod bounds;
 mod day_bits;
+mod day_sets;
 mod listing;
 mod looks;
 mod occurrence;

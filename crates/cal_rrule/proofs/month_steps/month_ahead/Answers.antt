@@ -1,0 +1,50 @@
+use Rattle.std.proofs.Common.{◌≡◌, ◌∙◌, ◌+◌, ◌-◌, ◌<◌, pos, neg_ℤ, ap, sym, arith, to_z, of_z, w64}
+use Rattle.cal_days.specs.Day.{is_valid_day}
+use Rattle.cal_days.proofs.RangeLemmas.{is_between-true}
+use Rattle.cal_days.proofs.Signed.{signed}
+use Rattle.cal_rrule.specs.Looks.{look_stretch}
+use Rattle.cal_rrule.specs.Stretches.{InStretch, end_of}
+use Rattle.cal_rrule.proofs.LookLemmas.{look-joins}
+use Rattle.cal_rrule.proofs.MonthStepLemmas.{held-next, held-none, held-zero}
+use Rattle.cal_rrule.proofs.month_steps.month_ahead.Goals as goal
+
+pub returns-then-months-eq0 : goal.returns-then-months-eq0
+returns-then-months-eq0 g c =
+    held-zero (g.C.Calendar.system c.args.calendar.now).list c.args.look.now c.args.months c.requires.look c.if-months-eq0.true
+
+pub returns-then-not-is_valid : goal.returns-then-not-is_valid
+returns-then-not-is_valid g c =
+    let list = (g.C.Calendar.system c.args.calendar.now).list in
+    let law = g.met.C.Calendar.lawful c.args.calendar.now in
+    let look = c.args.look.now in
+    let end : to_z w64 (of_z w64 c.end-behind.result) ≡ end_of (look_stretch look) =
+    omega (arith, signed, c.end-behind.ensures, look.near, look.short) in
+    let some : 0 < c.args.months = omega (arith, c.if-months-eq0.false) in
+    held-none list law look c.args.months c.args.day c.requires.look some c.requires.valid c.requires.within
+    (sym (ap is_valid_day end) ∙ sym c.is_valid.ensures ∙ c.if-not-is_valid.true)
+
+pub months_after-requires-clause-valid : goal.months_after-requires-clause-valid
+months_after-requires-clause-valid g c =
+    let list = (g.C.Calendar.system c.args.calendar.now).list in
+    let law = g.met.C.Calendar.lawful c.args.calendar.now in
+    let look = c.args.look.now in
+    let end : to_z w64 (of_z w64 c.end-behind.result) ≡ end_of (look_stretch look) =
+    omega (arith, signed, c.end-behind.ensures, look.near, look.short) in
+    let behind : InStretch (look_stretch c.month_of-next.result) (end_of (look_stretch look)) =
+    (omega (arith, signed, c.month_of-next.ensures.within.0, end), omega (arith, signed, c.month_of-next.ensures.within.1, end)) in
+    let joins = look-joins list law look c.month_of-next.result c.requires.look c.month_of-next.ensures.look behind in
+    let valid = is_between-true (neg_ℤ (pos 365242499)) (pos 365242134) (end_of (look_stretch look)) (sym (ap is_valid_day end) ∙ sym c.is_valid.ensures ∙ c.if-not-is_valid.false) in
+    (omega (arith, signed, joins, valid.0), omega (arith, signed, joins, valid.1))
+
+pub returns : goal.returns
+returns g c =
+    let list = (g.C.Calendar.system c.args.calendar.now).list in
+    let law = g.met.C.Calendar.lawful c.args.calendar.now in
+    let look = c.args.look.now in
+    let end : to_z w64 (of_z w64 c.end-behind.result) ≡ end_of (look_stretch look) =
+    omega (arith, signed, c.end-behind.ensures, look.near, look.short) in
+    let behind : InStretch (look_stretch c.month_of-next.result) (end_of (look_stretch look)) =
+    (omega (arith, signed, c.month_of-next.ensures.within.0, end), omega (arith, signed, c.month_of-next.ensures.within.1, end)) in
+    let fewer : c.args.months ≡ (c.args.months - 1) + 1 = omega (arith, c.if-months-eq0.false) in
+    held-next list law look c.month_of-next.result c.args.months (c.args.months - 1) c.args.day c.months_after.result
+    c.requires.look c.month_of-next.ensures.look fewer c.requires.valid c.requires.within behind c.months_after.ensures
