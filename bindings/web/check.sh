@@ -1,6 +1,7 @@
 #!/usr/bin/env bash
-# Tests the module in Node over the cases, and the page in a headless browser against the program. Prints a note if Node with 64-bit memories or
-# the browser is missing, and runs the remaining tests; with CI=true that is a failure. With a file's name it writes a picture of the page there.
+# Tests the module in Node over the cases, the page in a headless browser against the program, and the module against the browser's Temporal.
+# Prints a note if Node with 64-bit memories or the browser is missing, and runs the remaining tests; with CI=true that is a failure. With a
+# file's name it writes a picture of the page there.
 set -eu
 top=$(cd "$(dirname "${BASH_SOURCE[0]}")/../.." && pwd)
 . "$top/build/lacks.sh"
@@ -25,6 +26,7 @@ node $memory --test "$top"/bindings/web/tests/*.test.mjs
 for browser in "${BROWSER:-}" chromium chromium-browser google-chrome; do
   if [ -n "$browser" ] && command -v "$browser" >/dev/null; then
     node "$top/bindings/web/tests/browser.mjs" "$(command -v "$browser")" "$top/bindings/web/calendars.html" "$top/crates/calspan/out/calspan" "$picture"
+    node "$top/bindings/web/tests/temporal.mjs" "$(command -v "$browser")" "$top/bindings/web/icu_calendar.wasm"
     exit
   fi
 done

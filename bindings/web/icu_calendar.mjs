@@ -54,10 +54,6 @@ export const PUBLISHED = Object.freeze(["chinese", "dangi", "islamic-umalqura", 
 export const FIRST_DAY = -365242499;
 export const LAST_DAY = 365242134;
 
-const YEARS = ["computed", "published"];
-const OVERFLOWS = ["default", "constrain", "reject"];
-const MISSING = ["default", "reject", "ecma"];
-const UNITS = ["default", "years", "months", "weeks", "days"];
 
 /** The cause of each error code, and its message. @type {ReadonlyMap<number, readonly [string, string]>} */
 const CAUSES = new Map([
@@ -99,17 +95,30 @@ function settle(code, max = 0) {
   if (code) throw new CalendarError(code, max);
 }
 
-/** Returns the place of a word in a list as a code. @param {readonly string[]} list @param {string} word @param {number} code */
-function codeOf(list, word, code) {
-  const place = list.indexOf(word);
-  if (place < 0) throw new CalendarError(code);
-  return place;
+/** The code of each word: its place in a list. @param {readonly string[]} list @returns {ReadonlyMap<string, number>} */
+function codesOf(list) {
+  return new Map(list.map((word, place) => [word, place]));
 }
+
+/** Returns the code of a word. @param {ReadonlyMap<string, number>} codes @param {string} word @param {number} cause the code of the error */
+function codeOf(codes, word, cause) {
+  const code = codes.get(word);
+  if (code === undefined) throw new CalendarError(cause);
+  return code;
+}
+
+const CALENDAR_CODES = codesOf(CALENDARS);
+const YEARS = codesOf(["computed", "published"]);
+const OVERFLOWS = codesOf(["default", "constrain", "reject"]);
+const MISSING = codesOf(["default", "reject", "ecma"]);
+const UNITS = codesOf(["default", "years", "months", "weeks", "days"]);
+const EASTER_RULES = codesOf(["gregorian", "julian"]);
 
 /** Checks that a number, if given, is a whole number from low to high. @param {number | undefined} number @param {number} low @param {number} high */
 function within(number, low, high) {
-  if (number !== undefined && !(Number.isInteger(number) && low <= number && number <= high)) throw new CalendarError(12);
-  return number ?? 0;
+  if (number === undefined) return 0;
+  if (!(Number.isInteger(number) && low <= number && number <= high)) throw new CalendarError(12);
+  return number;
 }
 
 /** @param {string} code the code of a month @param {number} number */
@@ -145,23 +154,23 @@ export class Duration {
 export class CalendarDate {
   #calendars;
 
-  /** @param {Calendars} calendars @param {CalendarName} calendar @param {Years} years @param {DataView} view */
-  constructor(calendars, calendar, years, view) {
+  /** @param {Calendars} calendars @param {CalendarName} calendar @param {Years} years @param {DataView} view @param {number} at the date's place */
+  constructor(calendars, calendar, years, view, at) {
     this.#calendars = calendars;
     this.calendar = calendar;
     this.years = years;
-    /** 1 is 0001-01-01 in the ISO calendar. */
-    this.dayNumber = Number(view.getBigInt64(0, true));
-    this.extendedYear = view.getInt32(8, true);
+    /** 1 is 0001-01-01 in the ISO calendar. Its 64 bits have a number of 32. */
+    this.dayNumber = view.getInt32(at, true);
+    this.extendedYear = view.getInt32(at + 8, true);
     /** The year in its era, or the ISO year in which a year of the cycle of sixty begins. */
-    this.eraYear = view.getInt32(12, true);
+    this.eraYear = view.getInt32(at + 12, true);
     /** The year in the cycle of sixty, or null. @type {number | null} */
-    this.cyclicYear = view.getUint8(16) || null;
+    this.cyclicYear = view.getUint8(at + 16) || null;
     /** The place of the month in its year, from 1. */
-    this.ordinalMonth = view.getUint8(17);
-    this.monthNumber = view.getUint8(18);
-    this.monthIsLeap = view.getUint8(19) === 1;
-    this.day = view.getUint8(20);
+    this.ordinalMonth = view.getUint8(at + 17);
+    this.monthNumber = view.getUint8(at + 18);
+    this.monthIsLeap = view.getUint8(at + 19) === 1;
+    this.day = view.getUint8(at + 20);
     Object.freeze(this);
   }
 
@@ -236,7 +245,15 @@ export class CalendarDate {
 }
 
 // Where values stand in the module's memory, from the start of the host's part of it on.
-const AT = { date: 0, fields: 32, duration: 64, max: 96, count: 104, week: 112, text: 128, code: 192, line: 256, output: 1024 };
+const AT = { date: 0, fields: 32, duration: 64, max: 96, count: 104, week: 112, text: 128, code: 192, line: 256, output: 1024, known: 1536 };
+// Texts that are put there once, each in a slot of its own, and how many.
+const SLOT = 24;
+const SLOTS = 128;
+// A character takes at most three bytes.
+const MOST_CHARACTERS = SLOT / 3;
+const EXTENT = AT.known + SLOT * SLOTS;
+const DECODER = new TextDecoder();
+const ENCODER = new TextEncoder();
 // Why a year may lack a day that other years have.
 const LACKING = new Set(["MonthNotInYear", "InvalidDay", "OutOfRange"]);
 const LONGEST_LINE = 700;
@@ -246,39 +263,51 @@ const LONGEST_ANSWER = 512;
 export class Calendars {
   #calls;
   #base;
+  /** The addresses of the places, as the module takes them. */
+  #address;
+  #view;
+  #bytes;
+  /** Texts that stand in the module's memory: addresses and lengths. @type {Map<string, readonly [bigint, bigint]>} */
+  #known = new Map();
 
   /** @param {WebAssembly.Instance} instance */
   constructor(instance) {
     this.#calls = instance.exports;
     this.#base = (instance.exports.__heap_base.value + 15n) & ~15n;
     const { memory } = this.#calls;
-    const end = this.#base + BigInt(AT.output + LONGEST_ANSWER);
-    const missing = end - BigInt(memory.buffer.byteLength);
+    const missing = this.#base + BigInt(EXTENT) - BigInt(memory.buffer.byteLength);
     if (missing > 0n) memory.grow((missing + 65535n) / 65536n);
+    this.#address = Object.fromEntries(Object.entries(AT).map(([name, place]) => [name, this.#base + BigInt(place)]));
+    // The module never grows its memory, so the views last.
+    this.#view = new DataView(memory.buffer, Number(this.#base), EXTENT);
+    this.#bytes = new Uint8Array(memory.buffer, Number(this.#base), EXTENT);
+    for (let number = 1; number <= 13; number += 1) {
+      for (const isLeap of [false, true]) this.#keep(monthCode(number, isLeap));
+    }
   }
 
-  #at(place) {
-    return this.#base + BigInt(place);
+  /** Puts a text into a slot, once and for all. @param {string} text */
+  #keep(text) {
+    const place = AT.known + SLOT * this.#known.size;
+    const { written } = ENCODER.encodeInto(text, this.#bytes.subarray(place, place + SLOT));
+    const kept = /** @type {const} */ ([this.#base + BigInt(place), BigInt(written)]);
+    this.#known.set(text, kept);
+    return kept;
   }
 
-  #view(place, length) {
-    return new DataView(this.#calls.memory.buffer, Number(this.#at(place)), length);
+  /** Puts a text where the module reads it. @returns {readonly [bigint, bigint]} @param {string} text @param {"text" | "code"} name @param {number} most */
+  #put(text, name, most) {
+    const known = this.#known.get(text);
+    if (known) return known;
+    if (text.length <= MOST_CHARACTERS && this.#known.size < SLOTS) return this.#keep(text);
+    const bytes = ENCODER.encode(text).subarray(0, most);
+    this.#bytes.set(bytes, AT[name]);
+    return [this.#address[name], BigInt(bytes.length)];
   }
 
-  /** Puts a text where the module reads it. @returns {[bigint, bigint]} @param {number} place @param {string} text @param {number} most */
-  #put(place, text, most) {
-    const bytes = new TextEncoder().encode(text).subarray(0, most);
-    new Uint8Array(this.#calls.memory.buffer, Number(this.#at(place)), most).set(bytes);
-    return [this.#at(place), BigInt(bytes.length)];
-  }
-
-  /** @param {CalendarName} calendar @param {Years} years @returns {[number, number]} */
-  #codes(calendar, years) {
-    return [codeOf(CALENDARS, calendar, 1), codeOf(YEARS, years, 2)];
-  }
-
+  /** @param {CalendarName} calendar @param {Years} years */
   #date(calendar, years) {
-    return new CalendarDate(this, calendar, years, this.#view(AT.date, 24));
+    return new CalendarDate(this, calendar, years, this.#view, AT.date);
   }
 
   /**
@@ -286,9 +315,9 @@ export class Calendars {
    * @param {number} dayNumber @param {CalendarName} [calendar] @param {Years} [years]
    */
   dateOfDay(dayNumber, calendar = "iso", years = "published") {
-    const codes = this.#codes(calendar, years);
+    const [code, source] = [codeOf(CALENDAR_CODES, calendar, 1), codeOf(YEARS, years, 2)];
     if (!Number.isSafeInteger(dayNumber)) throw new CalendarError(4);
-    settle(this.#calls.icu_calendar_date_of_day(...codes, BigInt(dayNumber), this.#at(AT.date)));
+    settle(this.#calls.icu_calendar_date_of_day(code, source, BigInt(dayNumber), this.#address.date));
     return this.#date(calendar, years);
   }
 
@@ -297,21 +326,33 @@ export class Calendars {
    * @param {Fields} fields @param {{ years?: Years, overflow?: Overflow, missing?: "reject" | "ecma" }} [options]
    */
   dateOfFields(fields, { years = "published", overflow = "reject", missing = "reject" } = {}) {
-    const codes = this.#codes(fields.calendar, years);
-    const view = this.#view(AT.fields, 20);
-    view.setInt32(0, within(fields.eraYear, -(2 ** 31), 2 ** 31 - 1), true);
-    view.setInt32(4, within(fields.year, -(2 ** 31), 2 ** 31 - 1), true);
-    const small = [
-      fields.eraYear !== undefined, fields.year !== undefined, fields.month !== undefined, within(fields.month, 0, 255), fields.monthIsLeap ?? false,
-      fields.ordinalMonth !== undefined, within(fields.ordinalMonth, 0, 255), fields.day !== undefined, within(fields.day, 0, 255),
-    ];
-    small.forEach((it, place) => view.setUint8(8 + place, Number(it)));
-    const era = this.#put(AT.text, fields.era ?? "", 64);
-    const code = this.#put(AT.code, fields.monthCode ?? "", 64);
-    const options = [codeOf(OVERFLOWS, overflow, 3), codeOf(MISSING, missing, 3)];
-    const answer = this.#calls.icu_calendar_date_of_fields(...codes, this.#at(AT.fields), ...era, ...code, ...options, this.#at(AT.date), this.#at(AT.max));
-    settle(answer, this.#view(AT.max, 1).getUint8(0));
+    const calendar = codeOf(CALENDAR_CODES, fields.calendar, 1);
+    const source = codeOf(YEARS, years, 2);
+    this.#putFields(fields);
+    const era = this.#put(fields.era ?? "", "text", 64);
+    const month = this.#put(fields.monthCode ?? "", "code", 64);
+    const [mode, strategy] = [codeOf(OVERFLOWS, overflow, 3), codeOf(MISSING, missing, 3)];
+    const { fields: given, date, max } = this.#address;
+    const code = this.#calls.icu_calendar_date_of_fields(calendar, source, given, era[0], era[1], month[0], month[1], mode, strategy, date, max);
+    settle(code, this.#bytes[AT.max]);
     return this.#date(fields.calendar, years);
+  }
+
+  /** Writes the numbers of fields where the module reads them. @param {Fields} fields */
+  #putFields({ eraYear, year, month, monthIsLeap, ordinalMonth, day }) {
+    const view = this.#view;
+    const bytes = this.#bytes;
+    view.setInt32(AT.fields, within(eraYear, -(2 ** 31), 2 ** 31 - 1), true);
+    view.setInt32(AT.fields + 4, within(year, -(2 ** 31), 2 ** 31 - 1), true);
+    bytes[AT.fields + 8] = Number(eraYear !== undefined);
+    bytes[AT.fields + 9] = Number(year !== undefined);
+    bytes[AT.fields + 10] = Number(month !== undefined);
+    bytes[AT.fields + 11] = within(month, 0, 255);
+    bytes[AT.fields + 12] = Number(monthIsLeap ?? false);
+    bytes[AT.fields + 13] = Number(ordinalMonth !== undefined);
+    bytes[AT.fields + 14] = within(ordinalMonth, 0, 255);
+    bytes[AT.fields + 15] = Number(day !== undefined);
+    bytes[AT.fields + 16] = within(day, 0, 255);
   }
 
   /**
@@ -392,45 +433,55 @@ export class Calendars {
 
   /** @param {CalendarDate} date @param {DurationLike} duration @param {Overflow} overflow */
   add(date, duration, overflow) {
-    const view = this.#view(AT.duration, 20);
-    [duration.years, duration.months, duration.weeks, duration.days].forEach((it, place) => view.setUint32(4 * place, within(it, 0, 2 ** 32 - 1), true));
-    view.setUint8(16, Number(duration.isNegative ?? false));
-    const [calendar, years] = this.#codes(date.calendar, date.years);
-    const places = [this.#at(AT.date), this.#at(AT.max)];
-    const day = BigInt(date.dayNumber);
-    const answer = this.#calls.icu_calendar_add(calendar, years, day, this.#at(AT.duration), codeOf(OVERFLOWS, overflow, 3), ...places);
-    settle(answer, this.#view(AT.max, 1).getUint8(0));
+    const calendar = codeOf(CALENDAR_CODES, date.calendar, 1);
+    const source = codeOf(YEARS, date.years, 2);
+    const view = this.#view;
+    view.setUint32(AT.duration, within(duration.years, 0, 2 ** 32 - 1), true);
+    view.setUint32(AT.duration + 4, within(duration.months, 0, 2 ** 32 - 1), true);
+    view.setUint32(AT.duration + 8, within(duration.weeks, 0, 2 ** 32 - 1), true);
+    view.setUint32(AT.duration + 12, within(duration.days, 0, 2 ** 32 - 1), true);
+    this.#bytes[AT.duration + 16] = Number(duration.isNegative ?? false);
+    const { duration: given, date: sum, max } = this.#address;
+    const code = this.#calls.icu_calendar_add(calendar, source, BigInt(date.dayNumber), given, codeOf(OVERFLOWS, overflow, 3), sum, max);
+    settle(code, this.#bytes[AT.max]);
     return this.#date(date.calendar, date.years);
   }
 
   /** @param {CalendarDate} first @param {CalendarDate} second @param {Unit} largestUnit */
   until(first, second, largestUnit) {
-    const codes = this.#codes(first.calendar, first.years);
+    const calendar = codeOf(CALENDAR_CODES, first.calendar, 1);
+    const source = codeOf(YEARS, first.years, 2);
     const unit = codeOf(UNITS, largestUnit, 3);
-    settle(this.#calls.icu_calendar_until(...codes, BigInt(first.dayNumber), BigInt(second.dayNumber), unit, this.#at(AT.duration)));
-    const view = this.#view(AT.duration, 20);
-    const [years, months, weeks, days] = [0, 4, 8, 12].map((place) => view.getUint32(place, true));
-    return new Duration({ years, months, weeks, days, isNegative: view.getUint8(16) === 1 });
+    settle(this.#calls.icu_calendar_until(calendar, source, BigInt(first.dayNumber), BigInt(second.dayNumber), unit, this.#address.duration));
+    const view = this.#view;
+    return new Duration({
+      years: view.getUint32(AT.duration, true),
+      months: view.getUint32(AT.duration + 4, true),
+      weeks: view.getUint32(AT.duration + 8, true),
+      days: view.getUint32(AT.duration + 12, true),
+      isNegative: this.#bytes[AT.duration + 16] === 1,
+    });
   }
 
   /** The code of the era of a day, or null. @param {number} dayNumber @param {CalendarName} calendar @param {Years} years */
   eraOfDay(dayNumber, calendar, years) {
-    const codes = this.#codes(calendar, years);
-    settle(this.#calls.icu_calendar_era_of_day(...codes, BigInt(dayNumber), this.#at(AT.text), 64n, this.#at(AT.count)));
+    const [code, source] = [codeOf(CALENDAR_CODES, calendar, 1), codeOf(YEARS, years, 2)];
+    const { text, count } = this.#address;
+    settle(this.#calls.icu_calendar_era_of_day(code, source, BigInt(dayNumber), text, 64n, count));
     return this.#text(AT.text) || null;
   }
 
   /** The year and the number of the week of a day (ISO 8601). @param {number} dayNumber @returns {{ year: number, week: number }} */
   weekOfDay(dayNumber) {
-    settle(this.#calls.icu_calendar_week_of_year(BigInt(dayNumber), this.#at(AT.week), this.#at(AT.max)));
-    return { year: this.#view(AT.week, 4).getInt32(0, true), week: this.#view(AT.max, 1).getUint8(0) };
+    settle(this.#calls.icu_calendar_week_of_year(BigInt(dayNumber), this.#address.week, this.#address.max));
+    return { year: this.#view.getInt32(AT.week, true), week: this.#bytes[AT.max] };
   }
 
   /** The date of Easter in a year of the Gregorian calendar, or of the Julian one by the older rule. @param {number} year @param {"gregorian" | "julian"} [rule] */
   easter(year, rule = "gregorian") {
-    const code = codeOf(["gregorian", "julian"], rule, 3);
-    settle(this.#calls.icu_calendar_easter(code, within(year, -(2 ** 31), 2 ** 31 - 1), this.#at(AT.date)));
-    return this.dateOfDay(Number(this.#view(AT.date, 8).getBigInt64(0, true)), rule);
+    const code = codeOf(EASTER_RULES, rule, 3);
+    settle(this.#calls.icu_calendar_easter(code, within(year, -(2 ** 31), 2 ** 31 - 1), this.#address.date));
+    return this.dateOfDay(Number(this.#view.getBigInt64(AT.date, true)), rule);
   }
 
   /**
@@ -439,17 +490,17 @@ export class Calendars {
    * @returns {{ text: string, status: number }} the answer, and 0, 1 where it is `err`, or 6 where the line has a row of a table
    */
   answer(line, number, years = "computed") {
-    const bytes = (typeof line === "string" ? new TextEncoder().encode(line) : line).subarray(0, LONGEST_LINE);
-    new Uint8Array(this.#calls.memory.buffer, Number(this.#at(AT.line)), LONGEST_LINE).set(bytes);
-    const room = [this.#at(AT.output), BigInt(LONGEST_ANSWER), this.#at(AT.count)];
-    const status = this.#calls.calspan_answer(codeOf(YEARS, years, 2), this.#at(AT.line), BigInt(bytes.length), BigInt(number), ...room);
+    const bytes = (typeof line === "string" ? ENCODER.encode(line) : line).subarray(0, LONGEST_LINE);
+    this.#bytes.set(bytes, AT.line);
+    const { line: given, output, count } = this.#address;
+    const room = BigInt(LONGEST_ANSWER);
+    const status = this.#calls.calspan_answer(codeOf(YEARS, years, 2), given, BigInt(bytes.length), BigInt(number), output, room, count);
     return { text: this.#text(AT.output), status };
   }
 
   /** The text whose length was written. @param {number} place */
   #text(place) {
-    const length = Number(this.#view(AT.count, 8).getBigUint64(0, true));
-    return new TextDecoder().decode(new Uint8Array(this.#calls.memory.buffer, Number(this.#at(place)), length));
+    return DECODER.decode(this.#bytes.subarray(place, place + Number(this.#view.getBigUint64(AT.count, true))));
   }
 }
 

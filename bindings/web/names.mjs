@@ -1,4 +1,4 @@
-/** Names for people: of calendars, and of months by their codes. */
+/** Names for people, in English: of calendars, of eras and of months by their codes. */
 
 /** @typedef {import("./icu_calendar.mjs").CalendarName} CalendarName */
 
@@ -64,4 +64,15 @@ export function monthName(calendar, code, monthsInYear) {
   if (calendar === "hebrew" && code === "M06" && monthsInYear === 13) return "Adar II";
   const name = monthNames(calendar)[Number(code.slice(1, 3)) - 1] ?? code;
   return code.endsWith("L") ? `Leap ${name.toLowerCase()}` : name;
+}
+
+/** @type {Record<string, string>} */
+const ERA_NAMES = {
+  ce: "CE", bce: "BCE", be: "BE", roc: "Minguo", broc: "before Minguo", am: "AM", aa: "Amete Alem", ah: "AH", bh: "BH", ap: "AP", shaka: "Saka",
+  meiji: "Meiji", taisho: "Taisho", showa: "Showa", heisei: "Heisei", reiwa: "Reiwa",
+};
+
+/** The name of an era by its code. @param {CalendarName} calendar @param {string} era */
+export function eraName(calendar, era) {
+  return calendar === "ethiopic" && era === "am" ? "Amete Mihret" : (ERA_NAMES[era] ?? era);
 }

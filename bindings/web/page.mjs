@@ -1,12 +1,19 @@
-// The page: a date in any calendar, shown in all; differences; anniversaries.
-import { CALENDARS, CalendarError } from "./icu_calendar.mjs";
+// The page: a date in any calendar, shown in all; differences; anniversaries and recurrences; all of it kept in the address.
+import { addressOf, fieldsOfAddress, fieldsOfText } from "./address.mjs";
+import { CALENDARS, CalendarError, LAST_DAY } from "./icu_calendar.mjs";
+import { iCalendar, plainDate } from "./lists.mjs";
 import { CALENDAR_NAMES, isComputed, monthName } from "./names.mjs";
+import { EPOCH, Words, inEnglish } from "./words.mjs";
 
-const WEEKDAYS = ["Monday", "Tuesday", "Wednesday", "Thursday", "Friday", "Saturday", "Sunday"];
 const LARGEST_UNITS = ["years", "months", "weeks", "days"];
 const ORDER = Object.keys(CALENDAR_NAMES).filter((it) => CALENDARS.includes(it));
-/** The field that each cause of a refusal is about. */
+/** The field that each cause of an error is about. */
 const FIELD_OF = { InvalidDay: "day", MonthNotInYear: "month", MonthNotInCalendar: "month", OutOfRange: "year", InvalidOrdinalMonth: "month" };
+// How many anniversaries are listed, and within how many days.
+const ANNIVERSARIES = 20;
+const ANNIVERSARY_DAYS = 220_000;
+const UNIT_DAYS = { years: 366, months: 30, weeks: 7, days: 1 };
+const MOST_RECURRENCES = 200;
 
 const element = (id) => document.getElementById(id);
 
@@ -18,21 +25,35 @@ function made(tag, attributes = {}, ...children) {
   return it;
 }
 
-/** A date for people. */
-function shown(calendars, date) {
-  const months = calendars.monthsInYear(date.calendar, date.extendedYear, date.years);
-  const era = date.era;
-  const year = era === null || era === "default" ? `${date.extendedYear}` : `${date.eraYear} ${era}`;
-  const cycle = date.cyclicYear ? `, year ${date.cyclicYear} of the cycle` : "";
-  return `${date.day} ${monthName(date.calendar, date.monthCode, months)} ${year}${cycle}`;
+/** A date for people: in the visitor's language where the browser has the calendar. */
+function shown(calendars, words, date) {
+  const local = words.date(date);
+  return local === null ? made("bdi", { lang: "en" }, inEnglish(calendars, date)) : made("bdi", { lang: words.language }, local);
 }
 
-/** What a date is made of, as the fields have it; the first month's place where the year has no such month. */
+/** Says something to people who don't see the page change. */
+function say(text) {
+  element("said").textContent = text;
+}
+
+/** Copies a text. */
+async function copy(text) {
+  try {
+    await navigator.clipboard.writeText(text);
+    say(`Copied: ${text}`);
+  } catch {
+    say(`The browser doesn't allow copying. The text is ${text}`);
+  }
+}
+
+/** The fields of a date, with what is wrong with them beside them. */
 class DateForm {
   constructor(calendars, side) {
     this.calendars = calendars;
+    this.side = side;
     this.fields = Object.fromEntries(["calendar", "year", "month", "day"].map((it) => [it, element(`${side}-${it}`)]));
     this.error = element(`${side}-error`);
+    this.nearest = element(`${side}-nearest`);
     this.fields.calendar.append(...ORDER.map((it) => made("option", { value: it }, CALENDAR_NAMES[it])));
   }
 
@@ -45,9 +66,25 @@ class DateForm {
     this.fields.day.value = date.day;
   }
 
+  /** Puts fields of a text into the form, the nearest date where they name none. Returns whether there is any. */
+  setFields({ shownIn, ...given }) {
+    const date = this.calendars.dateOrNull(given, "published", "constrain");
+    if (!date) return false;
+    this.set(date.toCalendar(shownIn));
+    if (date.day !== given.day || date.monthCode !== given.monthCode) {
+      say(`${CALENDAR_NAMES[given.calendar]} ${given.year}-${given.monthCode}-${given.day} doesn't exist; this is the nearest date.`);
+    }
+    return true;
+  }
+
   get year() {
     const text = this.fields.year.value.trim();
     return /^-?\d{1,7}$/.test(text) ? Number(text) : Number.NaN;
+  }
+
+  get day() {
+    const text = this.fields.day.value.trim();
+    return /^\d{1,3}$/.test(text) ? Number(text) : Number.NaN;
   }
 
   /** Lists the months that the year has, and keeps the chosen one where it is among them. */
@@ -64,59 +101,142 @@ class DateForm {
       month.replaceChildren(...options);
       const codes = options.map((it) => it.value);
       month.value = codes.includes(chosen) ? chosen : codes.includes(chosen.replace("L", "")) ? chosen.replace("L", "") : codes[0];
+      if (chosen && month.value !== chosen) say(`${this.year} has no month ${chosen}; ${month.value} is chosen.`);
     } catch (error) {
       if (!(error instanceof CalendarError)) throw error;
     }
   }
 
-  /** The date, or null with the refusal beside its field. */
+  /** The date, or null with the error beside its field. */
   read() {
-    const { calendar, month, day } = this.fields;
+    const { calendar, month } = this.fields;
     for (const field of Object.values(this.fields)) field.removeAttribute("aria-invalid");
     this.error.textContent = "";
-    const given = day.value.trim();
-    const of = /^\d{1,3}$/.test(given) ? Number(given) : Number.NaN;
+    this.nearest.hidden = true;
     try {
-      return this.calendars.dateOfFields({ calendar: calendar.value, year: this.year, monthCode: month.value, day: of });
+      return this.calendars.dateOfFields({ calendar: calendar.value, year: this.year, monthCode: month.value, day: this.day });
     } catch (error) {
       if (!(error instanceof CalendarError)) throw error;
-      const year = Number.isNaN(this.year) ? "year" : null;
-      const field = year ?? (Number.isNaN(of) ? "day" : (FIELD_OF[error.cause] ?? "year"));
-      this.fields[field].setAttribute("aria-invalid", "true");
-      const label = field[0].toUpperCase() + field.slice(1);
-      this.error.textContent = `${label}: ${Number.isNaN(field === "day" ? of : this.year) ? "This isn't a whole number in range." : error.message}`;
+      this.#explain(error);
       return null;
     }
   }
+
+  /** Says in words why the fields name no date, and offers the nearest one. */
+  #explain(error) {
+    const isYear = Number.isNaN(this.year);
+    const field = isYear ? "year" : Number.isNaN(this.day) ? "day" : (FIELD_OF[error.cause] ?? "year");
+    this.fields[field].setAttribute("aria-invalid", "true");
+    const label = field[0].toUpperCase() + field.slice(1);
+    const { calendar, month } = this.fields;
+    if (isYear || Number.isNaN(this.day)) {
+      this.error.textContent = `${label}: This isn't a whole number in range.`;
+      return;
+    }
+    const near = this.calendars.dateOrNull({ calendar: calendar.value, year: this.year, monthCode: month.value, day: this.day || 1 }, "published", "constrain");
+    if (!near) {
+      this.error.textContent = `${label}: ${error.message}`;
+      return;
+    }
+    const name = monthName(near.calendar, near.monthCode, this.calendars.monthsInYear(near.calendar, near.extendedYear));
+    this.error.textContent = error.max ? `Day: ${name} ${near.extendedYear} has ${error.max} days.` : `${label}: ${error.message}`;
+    this.nearest.textContent = `Use ${inEnglish(this.calendars, near)}`;
+    this.nearest.hidden = false;
+    this.nearest.onclick = () => {
+      this.set(near);
+      this.fields.day.focus();
+      this.fields.day.dispatchEvent(new Event("input", { bubbles: true }));
+    };
+  }
 }
 
-function showEverywhere(calendars, date) {
-  element("shown").replaceChildren(
-    ...ORDER.map((calendar) => {
-      const there = date.toCalendar(calendar);
-      const note = isComputed(calendar, there.extendedYear) ? [made("small", {}, " computed year: may begin a day or a month off")] : [];
-      const row = { "data-calendar": calendar, ...(calendar === date.calendar ? { "aria-current": "true" } : {}) };
-      return made("tr", row, made("th", { scope: "row" }, CALENDAR_NAMES[calendar]), made("td", {}, shown(calendars, there), ...note), made("td", {}, `${there}`));
-    }),
+/** One calendar's row: the date in words and as a text, and a button that copies it. */
+function row(calendars, words, date, isChosen) {
+  const { calendar } = date;
+  const text = plainDate(date);
+  const note = isComputed(calendar, date.extendedYear) ? [made("small", {}, "computed year: may begin a day or a month off")] : [];
+  const button = made("button", { type: "button", "data-copy": text, "aria-label": `Copy the ${CALENDAR_NAMES[calendar]} date` }, "Copy");
+  return made(
+    "tr", { "data-calendar": calendar, "data-date": `${date}`, ...(isChosen ? { "aria-current": "true" } : {}) },
+    made("th", { scope: "row" }, CALENDAR_NAMES[calendar]), made("td", {}, shown(calendars, words, date), made("code", {}, text), ...note), made("td", {}, button),
   );
-  const { year, week } = date.weekOfYear();
-  element("weekday").textContent = `${WEEKDAYS[date.weekday - 1]}, week ${week} of ${year}, day number ${date.dayNumber}`;
 }
 
-function showDifferences(first, second) {
-  element("differences").replaceChildren(
-    ...LARGEST_UNITS.map((unit) => made("tr", {}, made("th", { scope: "row" }, `in ${unit}`), made("td", {}, `${first.until(second, { largestUnit: unit })}`))),
-  );
-}
+/** What the page shows of dates. */
+class Shown {
+  constructor(calendars, words) {
+    this.calendars = calendars;
+    this.words = words;
+    /** The lists, as files are made of them. */
+    this.files = { anniversaries: null, recurrences: null };
+  }
 
-function showAnniversaries(calendars, date) {
-  const found = date.anniversaries(10);
-  const items = found.map((it) => made("li", {}, `${shown(calendars, it)}: ${WEEKDAYS[it.weekday - 1]}, ${it.toCalendar("iso")}`));
-  element("anniversaries").replaceChildren(...(items.length ? items : [made("li", {}, "None in the years that the calendar has.")]));
-}
+  everywhere(date) {
+    const rows = ORDER.map((calendar) => row(this.calendars, this.words, date.toCalendar(calendar), calendar === date.calendar));
+    element("shown").replaceChildren(...rows);
+    const { year, week } = date.weekOfYear();
+    element("weekday").textContent = `${this.words.weekday(date)}, week ${week} of ${year}, day number ${date.dayNumber}`;
+  }
 
-// The day number of 1970-01-01.
-const EPOCH = 719163;
+  differences(first, second) {
+    const rows = LARGEST_UNITS.map((unit) => {
+      const duration = first.until(second, { largestUnit: unit });
+      const text = made("bdi", { lang: this.words.language }, this.words.duration(duration));
+      return made("tr", {}, made("th", { scope: "row" }, `in ${unit}`), made("td", {}, text, made("code", {}, `${duration}`)));
+    });
+    element("differences").replaceChildren(...rows);
+  }
+
+  /** Lists dates, and keeps them for the file. */
+  #list(id, name, about, dates) {
+    const items = dates.map((it) => {
+      const iso = it.toCalendar("iso");
+      return made("li", {}, shown(this.calendars, this.words, it), `: ${this.words.weekday(it)}, `, made("code", {}, plainDate(iso)));
+    });
+    element(id).replaceChildren(...(items.length ? items : [made("li", {}, "None in the years that the calendar has.")]));
+    element(`${id}-save`).disabled = !items.length;
+    this.files[id] = { name, events: dates.map((date) => ({ date, summary: `${about}: ${inEnglish(this.calendars, date)}` })) };
+  }
+
+  /** The anniversaries of the date in the calendar that is chosen for them. */
+  anniversaries(date) {
+    const calendar = element("anniversary-calendar").value || date.calendar;
+    const there = date.toCalendar(calendar);
+    const { monthCode, day, dayNumber } = there;
+    const window = { first: Math.min(dayNumber + 1, LAST_DAY), last: Math.min(dayNumber + ANNIVERSARY_DAYS, LAST_DAY), overflow: element("anniversary-overflow").value };
+    const found = [];
+    for (const it of this.calendars.anniversaries({ calendar, monthCode, day }, window)) {
+      if (it.extendedYear > there.extendedYear && found.push(it) === ANNIVERSARIES) break;
+    }
+    this.#list("anniversaries", `anniversary/${calendar}/${plainDate(there)}`, `Anniversary (${CALENDAR_NAMES[calendar]})`, found);
+  }
+
+  /** The dates that the small form asks for. */
+  recurrences(date) {
+    const [every, count] = ["recurrence-every", "recurrence-count"].map((id) => Number(element(id).value));
+    const [unit, overflow] = ["recurrence-unit", "recurrence-overflow"].map((id) => element(id).value);
+    const isValid = Number.isInteger(every) && every >= 1 && every <= 9999 && Number.isInteger(count) && count >= 1 && count <= MOST_RECURRENCES;
+    element("recurrence-error").textContent = isValid ? "" : `Numbers are whole: from 1 to 9999 units, and from 1 to ${MOST_RECURRENCES} times.`;
+    const found = [];
+    if (isValid) {
+      const last = Math.min(LAST_DAY, date.dayNumber + UNIT_DAYS[unit] * every * (count + 2) * 20);
+      for (const it of this.calendars.recurrences(date, { first: date.dayNumber, last, unit, every, overflow })) {
+        if (found.push(it.date) === count) break;
+      }
+    }
+    const name = `recurrence/${date.calendar}/${plainDate(date)}/${every}-${unit}`;
+    this.#list("recurrences", name, `Every ${every} ${unit} (${CALENDAR_NAMES[date.calendar]})`, found);
+  }
+
+  /** Saves a list as a file. */
+  save(id) {
+    const { name, events } = this.files[id];
+    const address = URL.createObjectURL(new Blob([iCalendar(name, events)], { type: "text/calendar" }));
+    made("a", { href: address, download: `${name.replaceAll("/", "-")}.ics` }).click();
+    setTimeout(() => URL.revokeObjectURL(address), 1000);
+    say("The file is saved.");
+  }
+}
 
 /** The day number of today, where the browser is. */
 function todaysNumber() {
@@ -124,24 +244,72 @@ function todaysNumber() {
   return EPOCH + Math.round(Date.UTC(now.getFullYear(), now.getMonth(), now.getDate()) / 86400000);
 }
 
-/** Shows the page over the module's calls. */
-export function start(calendars) {
-  const forms = ["first", "second"].map((side) => new DateForm(calendars, side));
-  const today = calendars.dateOfDay(todaysNumber(), "gregorian");
-  forms[0].set(today);
-  forms[1].set(today.add({ years: 1 }));
+/** The page as a whole. */
+class Page {
+  #timer = 0;
+  #lists = 0;
+  /** Whether the second date was chosen, so that the address keeps it. */
+  #isSecondChosen = false;
 
-  const update = () => {
-    const [date, other] = forms.map((form) => form.read());
+  constructor(calendars) {
+    this.calendars = calendars;
+    this.shown = new Shown(calendars, new Words(navigator.language || "en"));
+    this.forms = ["first", "second"].map((side) => new DateForm(calendars, side));
+    element("anniversary-calendar").append(...ORDER.map((it) => made("option", { value: it }, CALENDAR_NAMES[it])));
+  }
+
+  /** Shows the dates of the address, or today and a year from today. */
+  readAddress() {
+    const [first, second] = this.forms;
+    const [given, other] = fieldsOfAddress(location.hash);
+    if (!given || !first.setFields(given)) first.set(this.calendars.dateOfDay(todaysNumber(), "gregorian"));
+    this.#isSecondChosen = Boolean(other && second.setFields(other));
+    const date = first.read();
+    if (!this.#isSecondChosen && date) second.set(this.calendars.dateOrNull({ ...bag(date), year: date.extendedYear + 1 }, "published", "constrain") ?? date);
+    this.update();
+  }
+
+  /** Keeps the dates in the address, a moment after the last change. */
+  #keepAddress() {
+    clearTimeout(this.#timer);
+    this.#timer = setTimeout(() => {
+      const dates = this.forms.slice(0, this.#isSecondChosen ? 2 : 1).map((it) => it.read());
+      const address = dates.every(Boolean) ? addressOf(dates) : location.hash;
+      if (address !== location.hash) history.pushState(null, "", address);
+    }, 400);
+  }
+
+  update() {
+    const [date, other] = this.forms.map((form) => form.read());
     element("about-first").hidden = !date;
     element("about-both").hidden = !(date && other);
     if (date) {
-      showEverywhere(calendars, date);
-      showAnniversaries(calendars, date);
+      this.shown.everywhere(date);
+      // The lists wait until nobody types.
+      clearTimeout(this.#lists);
+      this.#lists = setTimeout(() => {
+        this.shown.anniversaries(date);
+        this.shown.recurrences(date);
+      }, 20);
     }
-    if (date && other) showDifferences(date, other);
-  };
-  for (const form of forms) {
+    if (date && other) this.shown.differences(date, other);
+  }
+
+  changed(form) {
+    this.#isSecondChosen ||= form === this.forms[1];
+    this.update();
+    this.#keepAddress();
+  }
+
+  /** Takes a text as a date. Returns whether it is one. */
+  take(form, text) {
+    const fields = fieldsOfText(text, form.fields.calendar.value);
+    if (!fields || !form.setFields(fields)) return false;
+    this.changed(form);
+    return true;
+  }
+
+  listen(form) {
     let last = form.read();
     for (const [name, field] of Object.entries(form.fields)) {
       field.addEventListener("input", () => {
@@ -149,9 +317,64 @@ export function start(calendars) {
         if (name === "calendar" && last) form.set(last.toCalendar(field.value));
         else if (name !== "day") form.listMonths();
         last = form.read() ?? last;
-        update();
+        this.changed(form);
+      });
+      field.addEventListener("paste", (event) => {
+        if (this.take(form, event.clipboardData?.getData("text") ?? "")) event.preventDefault();
+        last = form.read() ?? last;
       });
     }
+    element(`${form.side}-today`).addEventListener("click", () => {
+      form.set(this.calendars.dateOfDay(todaysNumber(), form.fields.calendar.value));
+      last = form.read();
+      this.changed(form);
+    });
+    element(`${form.side}-text`).addEventListener("input", ({ target }) => {
+      const isDate = target.value.trim() === "" || this.take(form, target.value);
+      target.setAttribute("aria-invalid", String(!isDate));
+      last = form.read() ?? last;
+    });
+    addEventListener("popstate", () => {
+      last = form.read() ?? last;
+    });
   }
-  update();
+
+  listenElsewhere() {
+    for (const id of ["anniversary-calendar", "anniversary-overflow", "recurrence-every", "recurrence-unit", "recurrence-count", "recurrence-overflow"]) {
+      element(id).addEventListener("input", () => this.update());
+    }
+    for (const id of ["anniversaries", "recurrences"]) element(`${id}-save`).addEventListener("click", () => this.shown.save(id));
+    element("shown").addEventListener("click", ({ target }) => target.dataset.copy && copy(target.dataset.copy));
+    element("copy-address").addEventListener("click", () => {
+      const date = this.forms[0].read();
+      if (date) copy(`${location.href.replace(/#.*$/, "")}${addressOf([date])}`);
+    });
+  }
+
+  /** Sets up the visitor's language, a calendar at a time, while nothing else is to be done. */
+  async prepareWords() {
+    const idle = () => new Promise((settle) => (globalThis.requestIdleCallback ?? setTimeout)(settle));
+    for (const calendar of ORDER) {
+      await idle();
+      this.shown.words.prepare(calendar);
+    }
+    this.update();
+    document.documentElement.dataset.words = "ready";
+  }
+}
+
+/** The fields that name a date. */
+function bag({ calendar, extendedYear: year, monthCode, day }) {
+  return { calendar, year, monthCode, day };
+}
+
+/** Shows the page over the module's calls. */
+export function start(calendars) {
+  const page = new Page(calendars);
+  addEventListener("popstate", () => page.readAddress());
+  page.readAddress();
+  for (const form of page.forms) page.listen(form);
+  page.listenElsewhere();
+  performance.mark("first date");
+  page.prepareWords();
 }

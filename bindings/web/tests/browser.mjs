@@ -2,45 +2,14 @@
 // change takes, and a thousand random dates against the program. The words: the browser, the page in one file, the program, and a picture to
 // write (or `-`).
 import assert from "node:assert/strict";
-import { execFileSync, spawn } from "node:child_process";
-import { mkdtempSync, readFileSync, readdirSync, rmSync, writeFileSync } from "node:fs";
-import { tmpdir } from "node:os";
-import { join } from "node:path";
+import { execFileSync } from "node:child_process";
+import { readFileSync, readdirSync, writeFileSync } from "node:fs";
 import { pathToFileURL } from "node:url";
 
-const [browser, page, program, picture] = process.argv.slice(2);
-const folder = mkdtempSync(join(tmpdir(), "calendars-"));
-const flags = ["--headless", "--no-sandbox", "--disable-gpu", "--hide-scrollbars", "--window-size=900,1400", "--remote-debugging-pipe", `--user-data-dir=${folder}`];
-const child = spawn(browser, [...flags, "about:blank"], { stdio: ["ignore", "ignore", "ignore", "pipe", "pipe"] });
+import { Browser, random } from "./chromium.mjs";
 
-/** Calls that wait for an answer, by their numbers. */
-const waiting = new Map();
-let unread = "";
-let calls = 0;
-child.stdio[4].setEncoding("utf8").on("data", (text) => {
-  const messages = (unread + text).split("\0");
-  unread = messages.pop();
-  for (const message of messages.map((it) => JSON.parse(it))) {
-    waiting.get(message.id)?.(message);
-    waiting.delete(message.id);
-  }
-});
-
-/** Asks the browser, and waits for its answer. */
-function call(method, params = {}, sessionId = undefined) {
-  const id = ++calls;
-  child.stdio[3].write(`${JSON.stringify({ id, method, params, sessionId })}\0`);
-  return new Promise((settle, refuse) => {
-    waiting.set(id, ({ result, error }) => (error ? refuse(new Error(`${method}: ${error.message}`)) : settle(result)));
-  });
-}
-
-/** The value of an expression in the page. */
-async function evaluated(session, expression) {
-  const { result, exceptionDetails } = await call("Runtime.evaluate", { expression, awaitPromise: true, returnByValue: true }, session);
-  if (exceptionDetails) throw new Error(exceptionDetails.exception?.description ?? exceptionDetails.text);
-  return result.value;
-}
+const [program, page, calspan, picture] = process.argv.slice(2);
+const browser = new Browser(program);
 
 /** Types a value into a field, as a person does, and gives the milliseconds that the page took. */
 const TYPE = `globalThis.type = (id, value) => {
@@ -51,23 +20,17 @@ const TYPE = `globalThis.type = (id, value) => {
   document.body.getBoundingClientRect();
   return performance.now() - began;
 };
-globalThis.rows = () => Object.fromEntries([...document.querySelectorAll("#shown tr")].map((row) => [row.dataset.calendar, row.lastChild.textContent]));`;
+globalThis.rows = () => Object.fromEntries([...document.querySelectorAll("#shown tr")].map((row) => [row.dataset.calendar, row.dataset.date]));`;
 
-/** Numbers that are the same in each run. */
-function random(seed) {
-  let state = seed;
-  return (below) => {
-    state = (Math.imul(state, 1664525) + 1013904223) >>> 0;
-    return Math.floor((state / 2 ** 32) * below);
-  };
-}
+// The lists stand a moment after the table.
+const LATER = "new Promise((settle) => setTimeout(settle, 100))";
 
 /** What the program shows of ISO dates in each calendar, over the published years. */
 function programsAnswers(dates, calendars) {
   const folder = new URL("../../../rows/", import.meta.url);
   const rows = readdirSync(folder).filter((it) => it.endsWith(".rows")).map((it) => readFileSync(new URL(it, folder), "utf8")).join("");
   const requests = dates.flatMap(({ year, month, day }) => calendars.map((it) => `span iso ${it} days reject none from ${fields(year, month, day)} to ${fields(year, month, day)}`));
-  const out = execFileSync(program, ["span"], { input: `${rows}${requests.join("\n")}\n`, encoding: "utf8", maxBuffer: 2 ** 26 }).split("\n");
+  const out = execFileSync(calspan, ["span"], { input: `${rows}${requests.join("\n")}\n`, encoding: "utf8", maxBuffer: 2 ** 26 }).split("\n");
   return requests.map((_, place) => out[place].split(" ")[2]);
 }
 
@@ -81,40 +44,98 @@ function plain(written) {
 }
 
 async function testThePage(session) {
-  await evaluated(session, TYPE);
-  const set = (values) => evaluated(session, `Object.entries(${JSON.stringify(values)}).map(([id, value]) => type(id, value))`);
-  const text = (id) => evaluated(session, `document.getElementById("${id}").textContent`);
+  await browser.value(session, TYPE);
+  const set = (values) => browser.value(session, `Object.entries(${JSON.stringify(values)}).map(([id, value]) => type(id, value))`);
+  const text = (id) => browser.value(session, `${LATER}.then(() => document.getElementById("${id}").textContent)`);
 
   await set({ "first-calendar": "hebrew", "first-year": "5784", "first-month": "M05L", "first-day": "10" });
-  const rows = await evaluated(session, "rows()");
+  const rows = await browser.value(session, "rows()");
   assert.equal(rows.iso, "2024-02-19");
   assert.equal(rows.hebrew, "5784-M05L-10");
   assert.equal(Object.keys(rows).length, 20);
-  assert.match(await text("shown"), /10 Adar I 5784 am/);
+  assert.match(await text("shown"), /10 Adar I 5784/);
   assert.match(await text("weekday"), /^Monday, week 8 of 2024/);
   assert.match(await text("anniversaries"), /5787.*5790/s);
 
   await set({ "first-year": "5783" });
-  assert.equal(await evaluated(session, `[...document.getElementById("first-month").options].some((it) => it.value === "M05L")`), false);
+  assert.equal(await browser.value(session, `[...document.getElementById("first-month").options].some((it) => it.value === "M05L")`), false);
 
   await set({ "first-calendar": "gregorian", "first-year": "2023", "first-month": "M02", "first-day": "29" });
-  assert.match(await text("first-error"), /^Day: The month doesn't have the day. At most 28 would do\.$/);
-  assert.equal(await evaluated(session, `document.getElementById("first-day").getAttribute("aria-invalid")`), "true");
+  assert.equal(await text("first-error"), "Day: February 2023 has 28 days.");
+  assert.equal(await text("first-nearest"), "Use 28 February 2023 CE");
+  assert.equal(await browser.value(session, `document.getElementById("first-day").getAttribute("aria-invalid")`), "true");
 
-  await set({ "first-day": "28", "second-calendar": "gregorian", "second-year": "2024", "second-month": "M03", "second-day": "1" });
-  assert.match(await text("differences"), /in years\s*P1Y2D.*in months\s*P12M2D.*in weeks\s*P52W3D.*in days\s*P367D/s);
+  await browser.value(session, `document.getElementById("first-nearest").click()`);
+  assert.equal(await text("first-error"), "");
+  await set({ "second-calendar": "gregorian", "second-year": "2024", "second-month": "M03", "second-day": "1" });
+  assert.match(await text("differences"), /in years\s*1 year,? 2 daysP1Y2D.*in months\s*12 months,? 2 daysP12M2D.*P52W3D.*P367D/s);
+}
+
+/** The address keeps the date, `back` leads to the one before, and a text fills the fields. */
+async function testTexts(session) {
+  const rows = async () => browser.value(session, "rows()");
+  const settled = () => new Promise((settle) => setTimeout(settle, 600));
+  await browser.value(session, `type("first-text", "hebrew/5784-M05L-10")`);
+  assert.equal((await rows()).iso, "2024-02-19");
+  await settled();
+  assert.match(await browser.value(session, "location.hash"), /^#hebrew\/5784-M05L-10/);
+  await browser.value(session, `type("first-text", "2024-02-10")`);
+  assert.equal((await rows()).hebrew, "5784-M05L-01");
+  await settled();
+  await browser.value(session, "history.back()");
+  await settled();
+  assert.equal((await rows()).iso, "2024-02-19");
+  await browser.value(session, `location.hash = "#hebrew/5783-M05L-10"`);
+  await settled();
+  assert.equal((await rows()).hebrew, "5783-06-10");
+  assert.match(await browser.value(session, `document.getElementById("said").textContent`), /doesn't exist; this is the nearest date/);
+}
+
+/** Each list has as many dates as it is asked for, and a file. */
+async function testLists(session) {
+  const count = (id) => browser.value(session, `${LATER}.then(() => document.querySelectorAll("#${id} li").length)`);
+  await browser.value(session, `type("anniversary-calendar", "iso")`);
+  assert.equal(await count("anniversaries"), 20);
+  await browser.value(session, `[["recurrence-count", "9"], ["recurrence-unit", "years"]].map(([id, value]) => type(id, value))`);
+  assert.equal(await count("recurrences"), 9);
+  await browser.value(session, `type("recurrence-every", "0")`);
+  assert.equal(await count("recurrences"), 1);
+  assert.match(await browser.value(session, `document.getElementById("recurrence-error").textContent`), /from 1 to 9999/);
+  await browser.value(session, `type("recurrence-every", "1"); type("anniversary-calendar", "")`);
+}
+
+/** Each field and button has a name, nothing is wider than a small window, and no address is asked for. */
+async function testAccess(session) {
+  const unnamed = await browser.value(session, `[...document.querySelectorAll("input, select, button")].filter((it) => !it.hidden && it.labels?.length === 0
+    && !it.textContent.trim() && !it.ariaLabel).map((it) => it.id)`);
+  assert.deepEqual(unnamed, []);
+  for (const width of [320, 1600]) {
+    await browser.call("Emulation.setDeviceMetricsOverride", { width, height: 900, deviceScaleFactor: 1, mobile: false }, session);
+    assert.ok(await browser.value(session, "document.documentElement.scrollWidth <= innerWidth"), `the page is wider than ${width} pixels`);
+  }
+  await browser.call("Emulation.clearDeviceMetricsOverride", {}, session);
+  assert.deepEqual(await browser.value(session, `performance.getEntriesByType("resource").filter((it) => !it.name.startsWith("data:")).map((it) => it.name)`), []);
+}
+
+/** How long the page's thread has worked. */
+async function processorSeconds(session) {
+  const { metrics } = await browser.call("Performance.getMetrics", {}, session);
+  return metrics.find((it) => it.name === "TaskDuration").value;
 }
 
 async function testRandomDates(session) {
   const next = random(20240210);
   const dates = Array.from({ length: 1000 }, () => ({ year: next(4000) - 500, month: 1 + next(12), day: 1 + next(28) }));
-  await evaluated(session, `type("first-calendar", "iso")`);
+  await browser.value(session, `type("first-calendar", "iso")`);
   const expression = `${JSON.stringify(dates)}.map(({ year, month, day }) => {
     const code = "M" + String(month).padStart(2, "0");
     const taken = ["first-year", "first-month", "first-day"].map((id, place) => type(id, String([year, code, day][place])));
     return { rows: rows(), taken };
   })`;
-  const answers = await evaluated(session, expression);
+  await browser.call("Performance.enable", { timeDomain: "threadTicks" }, session);
+  const before = await processorSeconds(session);
+  const answers = await browser.value(session, expression);
+  const used = await processorSeconds(session);
   const calendars = Object.keys(answers[0].rows);
   const wanted = programsAnswers(dates, calendars);
   let place = 0;
@@ -126,24 +147,27 @@ async function testRandomDates(session) {
   }
   const taken = answers.flatMap((it) => it.taken).sort((a, b) => a - b);
   const [half, most] = [taken[taken.length >> 1], taken.at(-1)];
-  assert.ok(taken[Math.floor(taken.length * 0.99)] <= 50, `a change takes ${most} ms`);
-  console.log(`browser: ${place} dates of ${dates.length} days agree with the program; a change takes ${half.toFixed(1)} ms, at most ${most.toFixed(1)}`);
+  // What else runs on the machine makes a change take longer, but not more of the processor.
+  const each = (1000 * (used - before)) / taken.length;
+  assert.ok(each <= 20, `a change takes ${each} ms of the processor`);
+  const times = `${half.toFixed(1)} ms, at most ${most.toFixed(1)}, of which the processor works ${each.toFixed(1)}`;
+  console.log(`browser: ${place} dates of ${dates.length} days agree with the program; a change takes ${times}`);
 }
 
 try {
-  const { targetId } = await call("Target.createTarget", { url: pathToFileURL(page).href });
-  const { sessionId } = await call("Target.attachToTarget", { targetId, flatten: true });
-  for (let tries = 0; !(await evaluated(sessionId, `document.getElementById("weekday")?.textContent`)); tries += 1) {
+  const session = await browser.open(pathToFileURL(page).href);
+  for (let tries = 0; !(await browser.value(session, `document.getElementById("weekday")?.textContent`)); tries += 1) {
     assert.ok(tries < 100, "the page doesn't start");
     await new Promise((settle) => setTimeout(settle, 100));
   }
-  await testThePage(sessionId);
-  if (picture !== "-") {
-    const { data } = await call("Page.captureScreenshot", { format: "png" }, sessionId);
-    writeFileSync(picture, Buffer.from(data, "base64"));
-  }
-  await testRandomDates(sessionId);
+  const first = await browser.value(session, `performance.getEntriesByName("first date")[0].startTime`);
+  console.log(`browser: the first date stands after ${first.toFixed(0)} ms`);
+  await testThePage(session);
+  await testTexts(session);
+  await testLists(session);
+  await testAccess(session);
+  if (picture !== "-") writeFileSync(picture, await browser.picture(session));
+  await testRandomDates(session);
 } finally {
-  child.kill();
-  child.once("exit", () => rmSync(folder, { recursive: true, force: true }));
+  browser.stop();
 }
