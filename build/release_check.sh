@@ -72,10 +72,12 @@ else
   not_tested "C, since there is no pkg-config or no ${CC:-cc}"
 fi
 
-# A wheel is an archive of the package as it is installed.
 python=$prefix/share/calspan/python
 for it in "$python"/*.whl; do
-  [ ! -f "$it" ] || python3 -m zipfile -e "$it" "$python"
+  if [ -f "$it" ]; then
+    python=$room/python
+    python3 -m pip install --quiet --no-index --no-deps --disable-pip-version-check --root-user-action ignore --target "$python" "$it"
+  fi
 done
 said=$(cd "$here" && env -u ICU_CALENDAR_LIBRARY PYTHONPATH="$python" python3 -B -c '
 from icu_calendar import Calendar, Date
