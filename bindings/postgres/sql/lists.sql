@@ -33,7 +33,7 @@ CREATE TABLE listed AS
     SELECT books.name, it.day, it.name AS holiday, n
       FROM books
       JOIN (SELECT name, regexp_match(words, '^# Days of (\d{4}) to (\d{4}), ') AS years FROM holiday_lines WHERE line = 1) AS heads USING (name),
-           calendar_holidays(book, (years[1] || '-01-01')::date, (years[2] || '-12-31')::date, published => false) WITH ORDINALITY AS it(day, name, n);
+           calendar_holidays(book, (years[1] || '-01-01')::date, (years[2] || '-12-31')::date) WITH ORDINALITY AS it(day, name, n);
 SELECT name, count(*) > 50 AS days FROM listed GROUP BY name ORDER BY name;
 (TABLE wanted EXCEPT ALL SELECT name, day, holiday FROM listed) UNION ALL (SELECT name, day, holiday FROM listed EXCEPT ALL TABLE wanted);
 SELECT count(*) AS not_rising FROM (SELECT day < lag(day) OVER (PARTITION BY name ORDER BY n) AS falls FROM listed) AS it WHERE falls;
