@@ -60,7 +60,9 @@ export class Browser {
 
   stop() {
     this.#child.kill();
-    this.#child.once("exit", () => rmSync(this.#folder, { recursive: true, force: true }));
+    // Other processes of the browser may write there for a moment yet.
+    const gently = { recursive: true, force: true, maxRetries: 20, retryDelay: 250 };
+    this.#child.once("exit", () => rmSync(this.#folder, gently));
   }
 }
 
