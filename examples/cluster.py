@@ -66,7 +66,7 @@ def read(partition: Partition) -> pd.DataFrame:
 
 
 def days(column: pd.Series) -> Any:
-    """Returns a column as days: numbers as they are, and texts as ISO dates, of which those that are none are missing."""
+    """Returns a column as days. Numbers stay as they are, and texts are read as ISO dates. An invalid text is a missing day."""
     if pd.api.types.is_numeric_dtype(column.dtype):
         return np.ma.MaskedArray(column.fillna(0).to_numpy(np.int64), mask=column.isna().to_numpy())
     return pd.to_datetime(column, errors="coerce", format="%Y-%m-%d").to_numpy()

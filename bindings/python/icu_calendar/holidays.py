@@ -45,7 +45,7 @@ def holidays(book: str | bytes, first: DayLike, last: DayLike | None = None, *, 
     Raises Refused, with the record and the field, for an invalid book, and InvalidDayNumber for the days."""
     text = book.encode() if isinstance(book, str) else book
     window, source = window_of(first, last), Years.of(years)
-    # The program reads the book, and says which field of which record is invalid.
+    # The program reads the book. It names the first invalid record and its first invalid field.
     holiday_lines(text, window.first, window.first)
     records = [it for it in csv.reader(io.StringIO(text.decode("utf-8-sig"))) if it]
     return _holidays([_rule(it, source) for it in records], window)

@@ -150,7 +150,7 @@ async function testRandomDates(session) {
   // What else runs on the machine makes a change take longer, but not more of the processor.
   const each = (1000 * (used - before)) / taken.length;
   assert.ok(each <= 20, `a change takes ${each} ms of the processor`);
-  const times = `${half.toFixed(1)} ms, at most ${most.toFixed(1)}, of which the processor works ${each.toFixed(1)}`;
+  const times = `${half.toFixed(1)} ms at the median, ${most.toFixed(1)} at most, and ${each.toFixed(1)} of processor time`;
   console.log(`browser: ${place} dates of ${dates.length} days agree with the program; a change takes ${times}`);
 }
 
