@@ -166,3 +166,33 @@ no_weekday set front back every7 front7 back7 f b = (
         (λ low. let day = day_at p low in
         subst (λ (q : ℕ). has_bit (get_or set.back q 0) i ≡ false) day.1 (none (on_day day.0 (Some (FromBack i)))))
         (λ high. rw (get_or_past set.back p 0 (omega (arith, high, back7))) (zero-bit i)) (cases_lt p 7)
+
+-- a set of weekdays without an ordinal
+pub no_ordinal : (set : WeekdayPlaces) (front back : Bool) → length set.front ≡ 7 → length set.back ≡ 7 →
+    IsTrue front ↔ ((p i : ℕ) → has_bit (get_or set.front p 0) i ≡ false) →
+    IsTrue back ↔ ((p i : ℕ) → has_bit (get_or set.back p 0) i ≡ false) →
+    IsTrue (front && back)
+    ↔ ((day : Weekday) (place : Place) → has_weekday set (on_day day (Some place)) ≡ false)
+no_ordinal set front back front7 back7 f b = (
+  λ is. let parts = and_parts front back is in by_place (f.0 parts.0) (b.0 parts.1),
+  λ none. rw (f.1 (each_front none), b.1 (each_back none)) refl,
+)
+  where
+    by_place : ((p i : ℕ) → has_bit (get_or set.front p 0) i ≡ false) → ((p i : ℕ) → has_bit (get_or set.back p 0) i ≡ false) →
+        (day : Weekday) (place : Place) → has_weekday set (on_day day (Some place)) ≡ false
+    by_place fronts backs day (FromFront n) = fronts (days_since_sunday day) n
+    by_place fronts backs day (FromBack n) = backs (days_since_sunday day) n
+
+    each_front : ((day : Weekday) (place : Place) → has_weekday set (on_day day (Some place)) ≡ false) →
+        (p i : ℕ) → has_bit (get_or set.front p 0) i ≡ false
+    each_front none p i = ⊎_elim
+        (λ low. let day = day_at p low in
+        subst (λ (q : ℕ). has_bit (get_or set.front q 0) i ≡ false) day.1 (none day.0 (FromFront i)))
+        (λ high. rw (get_or_past set.front p 0 (omega (arith, high, front7))) (zero-bit i)) (cases_lt p 7)
+
+    each_back : ((day : Weekday) (place : Place) → has_weekday set (on_day day (Some place)) ≡ false) →
+        (p i : ℕ) → has_bit (get_or set.back p 0) i ≡ false
+    each_back none p i = ⊎_elim
+        (λ low. let day = day_at p low in
+        subst (λ (q : ℕ). has_bit (get_or set.back q 0) i ≡ false) day.1 (none day.0 (FromBack i)))
+        (λ high. rw (get_or_past set.back p 0 (omega (arith, high, back7))) (zero-bit i)) (cases_lt p 7)

@@ -1,5 +1,6 @@
 pub mod BitLemmas
 pub mod BlankLemmas
+pub mod CountLemmas
 pub mod ListLemmas
 pub mod NameLemmas
 pub mod NumberLemmas

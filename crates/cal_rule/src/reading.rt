@@ -13,8 +13,8 @@ use crate::rule::RecurrenceRule;
 use crate::rule_error::RuleError;
 use crate::rule_part::RulePart;
 use crate::said_values::{
-    count_in, frequency_in, month_days_in, months_in, skip_in, until_in, weekday_in, weekdays_in,
-    weeks_in, year_days_in,
+    count_in, frequency_in, interval_in, month_days_in, months_in, skip_in, until_in, weekday_in,
+    weekdays_in, weeks_in, year_days_in,
 };
 use crate::skip::Skip;
 use crate::text_table::RuleTexts;
@@ -161,7 +161,7 @@ impl<'t> RuleTexts<'t> {
     {
         RecurrenceRule {
             frequency,
-            interval: count_in(self.text(RulePart::Interval)).unwrap_or(1),
+            interval: interval_in(self.text(RulePart::Interval)),
             count: count_in(self.text(RulePart::Count)),
             until: until_in(self.text(RulePart::Until)),
             months: months_in(self.text(RulePart::ByMonth), kind),

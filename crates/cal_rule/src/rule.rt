@@ -1,6 +1,6 @@
 //! Recurrence rules.
 
-ghost use Rattle.std.specs.Prelude.{◌≡◌};
+ghost use Rattle.std.specs.Prelude.{◌≡◌, ◌<◌};
 
 use crate::frequency::Frequency;
 use crate::month_set::MonthSet;
@@ -28,6 +28,7 @@ pub struct RecurrenceRule {
     pub(crate) positions: PlaceSet<7>,
     pub(crate) week_start: Weekday,
     pub(crate) skip: Skip,
+    ghost every: { 0 < interval },
 }
 
 impl RecurrenceRule {

@@ -1,6 +1,8 @@
 //! What the values of parts say if they are there.
 
-ghost use Rattle.std.specs.Prelude.{◌≡◌, option_map};
+ghost use Rattle.std.specs.Prelude.{◌≡◌, ◌<◌, option_map};
+ghost use Rattle.std.specs.Option.{unwrap_or};
+ghost use Rattle.std.specs.Result.{result_ok};
 ghost use Rattle.cal_rule.specs.Lists.{HasValues, values_of};
 ghost use Rattle.cal_rule.specs.Months.{month_read};
 ghost use Rattle.cal_rule.specs.Numbers.{count_read};
@@ -36,6 +38,28 @@ pub(crate) fn count_in(text: Option<&[u8]>) -> Option<u32>
     ensures { result ≡ said_with count_read (option_map (λ text. text.now) text.entry) }
 {
     read_count(text?).ok()
+}
+
+/// Returns the number that a value spells, or 1 if it spells none.
+fn count_or_one(text: &[u8]) -> u32
+    ensures value { result ≡ unwrap_or (result_ok (count_read text.now)) 1 }
+    ensures some { 0 < result }
+{
+    match read_count(text) {
+        Ok(every) => every,
+        Err(_) => 1,
+    }
+}
+
+/// Returns the number that a value of INTERVAL says, or 1 if it says none.
+pub(crate) fn interval_in(text: Option<&[u8]>) -> u32
+    ensures value { result ≡ unwrap_or (said_with count_read (option_map (λ text. text.now) text.entry)) 1 }
+    ensures some { 0 < result }
+{
+    match text {
+        None => 1,
+        Some(text) => count_or_one(text),
+    }
 }
 
 /// Returns the day that a value says.

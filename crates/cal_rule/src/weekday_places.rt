@@ -71,6 +71,16 @@ impl WeekdayPlaces {
         every & front & back
     }
 
+    /// Returns `true` if no weekday of the set has an ordinal.
+    pub fn is_plain(&self) -> bool
+        ensures { IsTrue result ↔ ((day : Weekday) (place : Place) →
+            has_weekday self.now (record { day = day; ordinal = Some place }) ≡ false) }
+    {
+        let front = have_no_bits(&self.front);
+        let back = have_no_bits(&self.back);
+        front & back
+    }
+
     /// Adds a weekday with its ordinal.
     pub(crate) const fn insert(&mut self, weekday: WeekdayPlace)
         requires { ForSome weekday.ordinal (λ place. number_of place < 64) }
