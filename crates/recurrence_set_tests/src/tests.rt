@@ -29,7 +29,7 @@ fn parts(item: Option<Occurrence>) -> Option<(u32, i64)> {
     Some((it.index, it.day.to_i64_date()))
 }
 
-/// Returns bounds: a start, a last day and a count, of which 0 stands for none.
+/// Returns bounds: a start, a last day and a count. A count of 0 means none.
 fn bounds_of(rt: &impl Abort, start: i64, until: i64, count: u32) -> Bounds {
     assert_day(rt, start);
     assert_day(rt, until);

@@ -365,6 +365,10 @@ module _ (Is : ℤ → Type 0) (b : Bounds) where
   rest-bounds w rest is =
       (((is.exact rest.first).0 (omega (arith, signed), rest.days.order)).started, ((is.exact rest.last).0 (rest.days.order, omega (arith, signed))).ended)
 
+-- nothing is asked of none
+pub none-for : {A : Type 0} (P : A → Type 0) (o : Option A) → o ≡ None → ForSome o P
+none-for P o e x f = none-some (sym e ∙ f)
+
 pub for-some : {A : Type 0} (P : A → Type 0) (x : A) → P x → ForSome (Some x) P
 for-some P x p y e = subst P (some-same e) p
 

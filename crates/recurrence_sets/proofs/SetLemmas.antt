@@ -38,6 +38,13 @@ module _ (d : PeriodDays) (long : length d.words ≡ 7) where
       by_lt {P = i < 448} i 448 (λ lt. lt)
       (λ ge. let none = number-past d.words i (omega (arith, long, ge)) in false-true (sym none ∙ has))
 
+  -- a day of a set is among the 448
+  pub day-row : (n : ℤ) → IsTrue (has_day d n) → (d.first ≤ℤ n) × (n <ℤ (d.first +ℤ pos 448))
+  day-row n has =
+      let o = day-offset d n has in
+      let few = offset-few o.offset o.has in
+      (omega (arith, signed, o.is), omega (arith, signed, o.is, few))
+
   module _ (day : ℤ) (from : ℕ) (before : (i : ℕ) → i < from → (d.first +ℤ pos i) <ℤ day)
       (after : (i : ℕ) → i < 448 → from ≤ i → day ≤ℤ (d.first +ℤ pos i)) where
     -- a day from another on is as far behind

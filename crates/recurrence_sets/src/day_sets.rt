@@ -1,6 +1,6 @@
 //! More calls on the days of a period: days that needn't be among the 448, and sets of days.
 
-ghost use Rattle.std.specs.Prelude.{◌≡◌, ◌||◌, ◌&&◌, ◌*◌, ◌<◌, ◌≤◌, ℕ, nat_le, nat_lt, int_le, int_lt, length, pos, ℤ, ◌+ℤ◌, ◌≤ℤ◌, ◌<ℤ◌};
+ghost use Rattle.std.specs.Prelude.{◌≡◌, ◌||◌, ◌&&◌, IsTrue, ◌*◌, ◌<◌, ◌≤◌, ℕ, nat_le, nat_lt, int_le, int_lt, length, pos, ℤ, ◌+ℤ◌, ◌≤ℤ◌, ◌<ℤ◌};
 ghost use Rattle.std.specs.Ordering.{int_eq};
 ghost use Rattle.cal_rule.specs.Sets.{has_number};
 ghost use Rattle.recurrence_sets.specs.PeriodBits.{has_day};
@@ -79,6 +79,8 @@ impl PeriodDays {
         ensures first { self.new.first ≡ self.old.first }
         ensures days { (n : ℤ) → self.old.first ≤ℤ n → n <ℤ (self.old.first +ℤ pos 448) →
             has_day self.new n ≡ (has_day self.old n && (int_le from n && int_lt n to)) }
+        ensures row { (n : ℤ) → IsTrue (has_day self.new n) →
+            (self.old.first ≤ℤ n) × (n <ℤ (self.old.first +ℤ pos 448)) }
     {
         let mut run = PeriodDays::new(self.first);
         run.insert_days(from, to);

@@ -32,6 +32,7 @@ pub struct Listing<S: Periods> {
 
 impl<S: Periods> Listing<S> {
     ghost use Rattle.std.specs.Prelude.{◌↔◌, List, None};
+    ghost use Rattle.recurrence_sets.specs.Bounds.{IsRestOf};
     ghost use Rattle.recurrence_sets.specs.Occurrences.{AreLeft, AreOccurrences, IsOfSome};
     ghost use Rattle.recurrence_sets.specs.Listing.{HasBefore};
     ghost use Rattle.recurrence_sets.specs.declared.occurrence.Occurrence.{Occurrence};
@@ -40,6 +41,7 @@ impl<S: Periods> Listing<S> {
     pub fn new(periods: S, bounds: Bounds, window: Window) -> Listing<S>
         ensures items { (xs : List Occurrence) → AreLeft (IsOfSome (S.has periods)) bounds result.rest xs
             ↔ AreOccurrences (IsOfSome (S.has periods)) bounds window.first window.last xs }
+        ensures rest { ForSome result.rest (IsRestOf bounds window) }
         ensures parts { (result.periods ≡ periods) × (result.bounds ≡ bounds) }
     {
         let Some(rest) = bounds.days_within(window) else {
@@ -65,6 +67,7 @@ impl<S: Periods> Listing<S> {
         requires { HasBefore (IsOfSome (S.has periods)) bounds window.first index }
         ensures items { (xs : List Occurrence) → AreLeft (IsOfSome (S.has periods)) bounds result.rest xs
             ↔ AreOccurrences (IsOfSome (S.has periods)) bounds window.first window.last xs }
+        ensures rest { ForSome result.rest (IsRestOf bounds window) }
         ensures parts { (result.periods ≡ periods) × (result.bounds ≡ bounds) }
     {
         let Some(rest) = bounds.days_within(window) else {

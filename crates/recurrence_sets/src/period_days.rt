@@ -65,6 +65,8 @@ impl PeriodDays {
         ensures first { self.new.first ≡ self.old.first }
         ensures days { (n : ℤ) → n <ℤ (self.old.first +ℤ pos 448) →
             has_day self.new n ≡ (has_day self.old n && has_day other.now n) }
+        ensures row { (n : ℤ) → IsTrue (has_day self.new n) →
+            (self.old.first ≤ℤ n) × (n <ℤ (self.old.first +ℤ pos 448)) }
     {
         keep_common(&mut self.words, &other.words);
     }

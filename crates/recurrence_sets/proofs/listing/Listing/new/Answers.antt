@@ -1,9 +1,10 @@
 use Rattle.std.proofs.Common.{Option, sym, subst}
 use Rattle.std.specs.Prelude.{◌↔◌}
 use Rattle.cal_types.specs.declared.window.Window.{Window}
+use Rattle.recurrence_sets.specs.Bounds.{IsRestOf}
 use Rattle.recurrence_sets.specs.Listing.{IsListing}
 use Rattle.recurrence_sets.specs.Occurrences.{AreLeft, AreOccurrences, IsOfSome}
-use Rattle.recurrence_sets.proofs.ListingLemmas.{for-some, items-full, items-none, items-within, new-state, none-bounded}
+use Rattle.recurrence_sets.proofs.ListingLemmas.{for-some, items-full, items-none, items-within, new-state, none-bounded, none-for}
 use Rattle.recurrence_sets.proofs.listing.Listing.new.Goals as goal
 
 pub invariant_of-result : goal.invariant_of-result
@@ -37,3 +38,12 @@ returns-in_default-pass_before-clause-items g c xs =
 
 pub returns-clause-items : goal.returns-clause-items
 returns-clause-items g c xs = items-within (IsOfSome (g.S.Periods.has c.args.periods)) c.args.bounds c.args.window c.in-Some.rest c.in-Some.ensures xs
+
+pub returns-in_default-clause-rest : goal.returns-in_default-clause-rest
+returns-in_default-clause-rest g c = none-for (IsRestOf c.args.bounds c.args.window) _ c.ended.ensures.rest
+
+pub returns-in_default-pass_before-clause-rest : goal.returns-in_default-pass_before-clause-rest
+returns-in_default-pass_before-clause-rest g c = none-for (IsRestOf c.args.bounds c.args.window) _ c.ended-in_default-pass_before.ensures.rest
+
+pub returns-clause-rest : goal.returns-clause-rest
+returns-clause-rest g c = for-some (IsRestOf c.args.bounds c.args.window) c.in-Some.rest c.in-Some.ensures
