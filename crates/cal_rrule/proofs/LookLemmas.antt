@@ -134,3 +134,19 @@ look-joins c law a b one two within =
         let same = look-same c a b last one two in_one in_two in
         let ends : end_of (look_stretch a) ≡ end_of (look_stretch b) = ap end_of same in
         omega (arith, signed, ends, within.1)
+
+-- and the month of the day before a month ends there
+pub look-meets : (c : CalendarList) → IsLawful c → (a b : MonthLook) → IsMonthLook c a → IsMonthLook c b →
+    InStretch (look_stretch b) (a.first -ℤ pos 1) → end_of (look_stretch b) ≡ a.first
+look-meets c law a b one two within =
+    by_bool (int_lt a.first (end_of (look_stretch b)))
+    (λ e. absurd (apart (omega (arith, signed, e)) (some c law a one)))
+    (λ e. omega (arith, signed, e, within.1))
+  where
+    apart : a.first <ℤ end_of (look_stretch b) → 1 ≤ a.days → ⊥
+    apart low some =
+        let in_one : InStretch (look_stretch a) a.first = (omega (arith, signed), omega (arith, signed, some)) in
+        let in_two : InStretch (look_stretch b) a.first = (omega (arith, signed, within.0), low) in
+        let same = look-same c a b a.first one two in_one in_two in
+        let begins : a.first ≡ b.first = ap (λ (s : Stretch). s.first) same in
+        omega (arith, signed, begins, within.0)

@@ -55,7 +55,7 @@ adds-as old new Is Other given same = record {
   );
 }
 
-row_at : (f g : ℤ) (n : ℤ) → g ≡ f → (f ≤ℤ n) × (n <ℤ (f +ℤ pos 448)) → (g ≤ℤ n) × (n <ℤ (g +ℤ pos 448))
+pub row_at : (f g : ℤ) (n : ℤ) → g ≡ f → (f ≤ℤ n) × (n <ℤ (f +ℤ pos 448)) → (g ≤ℤ n) × (n <ℤ (g +ℤ pos 448))
 row_at f g n same row = subst (λ (h : ℤ). (h ≤ℤ n) × (n <ℤ (h +ℤ pos 448))) (sym same) row
 
 -- of one kind, and then of another

@@ -1,5 +1,5 @@
 -- The days that a month names.
-use Rattle.std.proofs.Common.{◌≡◌, ◌∙◌, ℕ, ◌*◌, ◌<◌, ◌↔◌, ◌&&◌, IsTrue, true, false, ℤ, pos, ◌+ℤ◌, ◌-ℤ◌, ◌≤ℤ◌, ◌<ℤ◌, sym, subst, arith}
+use Rattle.std.proofs.Common.{◌≡◌, ◌∙◌, ℕ, ◌*◌, ◌<◌, ◌≤◌, ◌⊎◌, ◌↔◌, ◌&&◌, IsTrue, true, false, int_lt, ℤ, pos, ◌+ℤ◌, ◌-ℤ◌, ◌≤ℤ◌, ◌<ℤ◌, sym, subst, arith}
 use mathlib.Core.Bool.{true≢false}
 use mathlib.Core.Logic.{inl, inr, ⊎_elim}
 use Rattle.std.proofs.lemmas.Bool.Decides.{Decides-and, Decides-at}
@@ -11,17 +11,17 @@ use Rattle.cal_rule.specs.declared.frequency.Frequency.TheVariants.{Yearly, Mont
 use Rattle.cal_types.specs.Month.{MonthParts}
 use Rattle.cal_types.specs.MonthParts.{month_parts}
 use Rattle.cal_rule.specs.Sets.{has_month}
-use Rattle.cal_rule.specs.declared.place_set.Place.{Place}
-use Rattle.cal_rule.specs.declared.place_set.Place.TheVariants.{FromFront, FromBack}
+use Rattle.cal_rule.specs.declared.place_set.Place.TheVariants.{FromFront}
 use Rattle.cal_rule.specs.declared.rule.RecurrenceRule.{RecurrenceRule}
 use Rattle.cal_rule.specs.declared.skip.Skip.{Skip}
 use Rattle.cal_rule.specs.declared.skip.Skip.TheVariants.{Omit, Backward, Forward}
 use Rattle.cal_rrule.specs.Looks.{AreMissing, CountsInMonths, IsKeptOfMonth, IsMonthLook, IsNamedOfMonth, Reaches, look_stretch}
 use Rattle.cal_rrule.specs.Masks.{Adds, InRow, IsNamedBy, IsWeekdayIn, Marks}
 use Rattle.cal_rrule.specs.Periods.{IsNamedInMonth, IsOfPeriod, IsOfPeriods, IsOfWeekdays, NoMonthDays, NoWeekdays}
-use Rattle.cal_rrule.specs.Stretches.{InStretch, NamesDay, Stretch}
+use Rattle.cal_rrule.specs.Stretches.{InStretch, NamesDay, Stretch, end_of}
 use Rattle.cal_rrule.specs.declared.missing.Missing.{Missing}
 use Rattle.cal_rrule.specs.declared.month_look.MonthLook.{MonthLook}
+use Rattle.cal_rrule.specs.laws.MonthlyApart.{in_reach, named-reach}
 use Rattle.cal_rrule.proofs.AskedLemmas.{there-by}
 use Rattle.cal_rrule.proofs.LookLemmas.{look-stretch, look-weekdays}
 use Rattle.recurrence_sets.specs.PeriodBits.{has_day}
@@ -56,23 +56,7 @@ marks-as days from to Is Other given same = record {
       (λ h. (same n).0 (here.0 h), λ p. here.1 ((same n).1 p));
 }
 
-in_reach : (skip : Skip) (s : Stretch) (n : ℤ) → InStretch s n → Reaches skip s n
-in_reach Omit s n h = h
-in_reach Backward s n h = (omega (arith, signed, h.0), h.1)
-in_reach Forward s n h = (h.0, omega (arith, signed, h.1))
-
--- a named day is within reach
-named-reach : (skip : Skip) (s : Stretch) (d : Place) (n : ℤ) → NamesDay skip s d n → Reaches skip s n
-named-reach skip s (FromFront d) n (inl p) = in_reach skip s n (omega (arith, signed, p.0, p.2), omega (arith, signed, p.1, p.2))
-named-reach skip s (FromBack d) n (inl p) = in_reach skip s n (omega (arith, signed, p.1, p.2), omega (arith, signed, p.0, p.2))
-named-reach Omit s (FromFront d) n (inr p) = absurd p.1
-named-reach Omit s (FromBack d) n (inr p) = absurd p.1
-named-reach Backward s (FromFront d) n (inr p) = (omega (arith, signed, p.1), omega (arith, signed, p.1))
-named-reach Backward s (FromBack d) n (inr p) = (omega (arith, signed, p.1), omega (arith, signed, p.1))
-named-reach Forward s (FromFront d) n (inr p) = (omega (arith, signed, p.1), omega (arith, signed, p.1))
-named-reach Forward s (FromBack d) n (inr p) = (omega (arith, signed, p.1), omega (arith, signed, p.1))
-
--- so are the days that a rule names in a month
+-- days that a rule names in a month are within reach
 month-reach : (rule : RecurrenceRule) (missing : Missing) (day : ℕ) (s : Stretch) (n : ℤ) → AreMissing rule missing →
     IsNamedOfMonth rule day s n → Reaches rule.skip s n
 month-reach rule missing day s n are named = by_bool missing.month_days without_days with_days
@@ -86,6 +70,12 @@ month-reach rule missing day s n are named = by_bool missing.month_days without_
     without_days e = by_bool missing.weekdays
         (λ f. named-reach rule.skip s (FromFront day) n (named.2 (are.no_month_days.0 e) (are.no_weekdays.0 f)))
         (λ f. in_reach rule.skip s n (named.1 (are.no_month_days.0 e) (there-by (NoWeekdays rule) missing.weekdays are.no_weekdays f)))
+
+-- a day within reach lies from the day before the stretch to the one behind it
+pub reach-range : (skip : Skip) (s : Stretch) (n : ℤ) → Reaches skip s n → ((s.first -ℤ pos 1) ≤ℤ n) × (n <ℤ (end_of s +ℤ pos 1))
+reach-range Omit s n h = (omega (arith, signed, h.0), omega (arith, signed, h.1))
+reach-range Backward s n h = (h.0, omega (arith, signed, h.1))
+reach-range Forward s n h = (omega (arith, signed, h.0), h.1)
 
 module _ (c : CalendarList) (rule : RecurrenceRule) (t : Date) (look : MonthLook) (is : IsMonthLook c look) where
   -- a day that a month names, by its parts
@@ -111,6 +101,13 @@ module _ (c : CalendarList) (rule : RecurrenceRule) (t : Date) (look : MonthLook
           (named.start_day lacks none),
     ),
   )
+
+  -- and lies from the day before the month to the one behind it
+  pub month-range : (missing : Missing) → AreMissing rule missing → (n : ℤ) →
+      IsNamedInMonth c rule t (look.year, look.place) n →
+      ((look.first -ℤ pos 1) ≤ℤ n) × (n <ℤ (end_of (look_stretch look) +ℤ pos 1))
+  month-range missing are n named =
+      reach-range rule.skip (look_stretch look) n (month-reach rule missing t.day (look_stretch look) n are (named-out n named).1)
 
   -- without BYDAY
   pub month-plain : (days : PeriodDays) (day : ℕ) (from to : ℤ) → t.day ≡ day → NoWeekdays rule →
@@ -160,6 +157,54 @@ about-one c rule a old new n is counts small first none adds within =
       λ h. ⊎_elim (λ p. same.0 p.1) (λ q. absurd (true≢false (sym q ∙ none n))) (here.0 h),
       λ h. here.1 (inl (within, same.1 h)),
     )
+
+-- and in two months that have no common day
+pub about-two : (c : CalendarList) (rule : RecurrenceRule) (a b : MonthLook) (old mid new : PeriodDays) (n : ℤ) →
+    IsMonthLook c a → IsMonthLook c b → CountsInMonths rule → InRow old n → ((m : ℤ) → has_day old m ≡ false) →
+    Adds old mid (IsWeekdayIn rule.weekdays (look_stretch a)) → Adds mid new (IsWeekdayIn rule.weekdays (look_stretch b)) →
+    (InStretch (look_stretch a) n → InStretch (look_stretch b) n → ⊥) →
+    InStretch (look_stretch a) n ⊎ InStretch (look_stretch b) n → IsTrue (has_day new n) ↔ IsOfWeekdays c rule n
+about-two c rule a b old mid new n one two counts row none first_adds then_adds apart within = by_side within
+  where
+    here : IsTrue (has_day mid n) ↔ (IsWeekdayIn rule.weekdays (look_stretch a) n ⊎ IsTrue (has_day old n))
+    here = first_adds.days n row
+
+    there : IsTrue (has_day new n) ↔ (IsWeekdayIn rule.weekdays (look_stretch b) n ⊎ IsTrue (has_day mid n))
+    there = then_adds.days n (subst (λ (f : ℤ). (f ≤ℤ n) × (n <ℤ (f +ℤ pos 448))) (sym first_adds.first) row)
+
+    of_mid : IsTrue (has_day mid n) → IsWeekdayIn rule.weekdays (look_stretch a) n
+    of_mid h = ⊎_elim (λ p. p) (λ q. absurd (true≢false (sym q ∙ none n))) (here.0 h)
+
+    by_side : InStretch (look_stretch a) n ⊎ InStretch (look_stretch b) n → IsTrue (has_day new n) ↔ IsOfWeekdays c rule n
+    by_side (inl in_one) =
+        let same = look-weekdays c rule a n one counts in_one in (
+          λ h. ⊎_elim (λ p. absurd (apart in_one p.0)) (λ m. same.0 (of_mid m).1) (there.0 h),
+          λ h. there.1 (inr (here.1 (inl (in_one, same.1 h)))),
+        )
+    by_side (inr in_two) =
+        let same = look-weekdays c rule b n two counts in_two in (
+          λ h. ⊎_elim (λ p. same.0 p.1) (λ m. absurd (apart (of_mid m).0 in_two)) (there.0 h),
+          λ h. there.1 (inl (in_two, same.1 h)),
+        )
+
+-- a day from the day before a month on is in the month before it or in the month
+pub reach-before : (a b : Stretch) (n : ℤ) → 1 ≤ b.days → end_of b ≡ a.first → (a.first -ℤ pos 1) ≤ℤ n → n <ℤ end_of a →
+    InStretch a n ⊎ InStretch b n
+reach-before a b n has meets above below =
+    by_bool (int_lt n a.first) (λ e. inr (omega (arith, signed, e, above, meets, has), omega (arith, signed, e, meets)))
+    (λ e. inl (omega (arith, signed, e), below))
+
+pub reach-behind : (a b : Stretch) (n : ℤ) → 1 ≤ b.days → b.first ≡ end_of a → a.first ≤ℤ n → n <ℤ (end_of a +ℤ pos 1) →
+    InStretch a n ⊎ InStretch b n
+reach-behind a b n has joins above below =
+    by_bool (int_lt n (end_of a)) (λ e. inl (above, omega (arith, signed, e)))
+    (λ e. inr (omega (arith, signed, e, joins), omega (arith, signed, below, joins, has)))
+
+pub apart-before : (a b : Stretch) (n : ℤ) → end_of b ≡ a.first → InStretch a n → InStretch b n → ⊥
+apart-before a b n meets p q = omega (arith, signed, meets, p.0, q.1)
+
+pub apart-behind : (a b : Stretch) (n : ℤ) → b.first ≡ end_of a → InStretch a n → InStretch b n → ⊥
+apart-behind a b n joins p q = omega (arith, signed, joins, p.1, q.0)
 
 -- MONTHLY counts weekdays in months
 pub monthly-months : (rule : RecurrenceRule) → rule.frequency ≡ Monthly → CountsInMonths rule

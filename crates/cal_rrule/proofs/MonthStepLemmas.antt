@@ -1,24 +1,26 @@
 -- The month that lies so many months after a month, as adding months finds it.
-use Rattle.std.proofs.Common.{◌≡◌, ◌∙◌, ℕ, ◌+◌, ◌*◌, ◌≤◌, ◌<◌, ◌&&◌, nat_le, nat_lt, min, Bool, true, false, Option, Some, None, MatchOption, Result, Ok, Err, ℤ, pos, ◌+ℤ◌, ◌≤ℤ◌, ◌<ℤ◌, refl, sym, ap, subst, arith}
+use Rattle.std.proofs.Common.{◌≡◌, ◌∙◌, ℕ, ◌+◌, ◌-◌, ◌*◌, ◌≤◌, ◌<◌, ◌&&◌, nat_le, min, Bool, true, false, Option, Some, None, MatchOption, IfSome, Result, Ok, Err, ℤ, pos, neg_ℤ, ◌+ℤ◌, ◌≤ℤ◌, ◌<ℤ◌, refl, sym, ap, subst, arith}
 use mathlib.Core.Bool.{true≢false}
 use mathlib.Core.Logic.{◌⊎◌, inl, inr}
 use Rattle.std.specs.Bool.{MatchBool}
 use Rattle.std.proofs.lemmas.Bool.Decides.{nat_tests}
-use Rattle.cal_days.specs.Day.{IsValidDay, is_field_year, is_valid_day}
+use Rattle.cal_days.specs.Day.{IsBetween, IsValidDay, is_field_year, is_valid_day}
 use Rattle.cal_days.proofs.RangeLemmas.{true-is_between}
 use Rattle.cal_days.proofs.Signed.{signed}
 use Rattle.cal_errors.specs.declared.errors.DateAddError.{DateAddError}
 use Rattle.cal_errors.specs.declared.errors.DateAddError.TheVariants as fault
 use Rattle.cal_types.specs.Adding.{IsSum, IsSumFromMonth, IsValidOn, is_addable}
-use Rattle.cal_types.specs.CalendarList.{CalendarList, Date, HasPlace, IsBefore, IsDate, IsLawful, IsMonthsAfter, IsOn, date, day_number, month_at, month_count, month_length, month_number, spot}
+use Rattle.cal_types.specs.CalendarList.{CalendarList, Date, HasPlace, IsBefore, IsDate, IsLawful, IsMonthsAfter, IsOn, date, day_number, month_at, month_length, month_number, spot}
 use Rattle.cal_types.specs.Difference.{toward}
 use Rattle.cal_types.specs.declared.duration.DateDuration.{DateDuration}
 use Rattle.cal_types.specs.declared.options.Overflow.TheVariants.{Constrain}
-use Rattle.cal_types.proofs.ListLemmas.{by_place_order, day_number-first, day_number-rises, days_before-end, days_before-next, month-finds, month_number-injective, month_number-next, month_number-order, month_number-place, on-unique, place_of-own, spot-own, start_of_year-next}
-use Rattle.cal_rrule.specs.Looks.{IsMonthFound, IsMonthHeld, IsMonthLook, look_stretch}
+use Rattle.cal_types.proofs.ListLemmas.{by_place_order, day_number-rises, month-finds, month_number-injective, month_number-order, on-finds, on-unique, place_of-own, spot-own}
+use Rattle.cal_rrule.specs.Looks.{IsMonthFound, IsMonthHeld, IsMonthLook, IsMonthReached, look_stretch}
+use Rattle.cal_rrule.specs.NearDays.{IsNearList}
 use Rattle.cal_rrule.specs.Stretches.{InStretch, end_of}
 use Rattle.cal_rrule.specs.declared.month_look.MonthLook.{MonthLook}
-use Rattle.cal_rrule.proofs.LookLemmas.{look-date}
+use Rattle.cal_rrule.specs.laws.MonthOrder.{next-first}
+use Rattle.cal_rrule.proofs.LookLemmas.{look-date, look-on, some}
 
 -- so many months forward
 abbrev pub ahead : ℕ → DateDuration
@@ -48,7 +50,7 @@ found None_is Some_is None i e h = absurd (never e)
     never e = cc
 
 -- a month's first day is on its first date
-first-on : (c : CalendarList) → IsLawful c → (z : ℤ) (j : ℕ) → HasPlace c z j → IsOn c (day_number c (date z j 1)) (date z j 1)
+pub first-on : (c : CalendarList) → IsLawful c → (z : ℤ) (j : ℕ) → HasPlace c z j → IsOn c (day_number c (date z j 1)) (date z j 1)
 first-on c law z j place = record {
   date = record { place = place; day = (omega arith, (law.lengths z j place).0) };
   day = refl;
@@ -155,6 +157,19 @@ month-found c law look m months u n sum is_day is within = (
     at : (sum.0 ≡ m.year) × (sum.1 ≡ m.place)
     at = look-date c m n (date sum.0 sum.1 1) is within first
 
+-- it begins on the day of the sum
+pub month-begins : (c : CalendarList) → IsLawful c → (look m : MonthLook) (months : ℕ) (u : Date) (n : ℤ) →
+    (z : ℤ) × (j : ℕ) × IsMonthsAfter c look.year look.place (pos months) z j
+    × IsValidOn c (day_number c (date z j 1)) (Ok u) →
+    n ≡ day_number c u → IsMonthLook c m → InStretch (look_stretch m) n → m.first ≡ n
+month-begins c law look m months u n sum is_day is within =
+    let on = ok-on c (day_number c (date sum.0 sum.1 1)) u (is_valid_day (day_number c (date sum.0 sum.1 1))) sum.3 in
+    let first : IsOn c n (date sum.0 sum.1 1) =
+    subst (λ (k : ℤ). IsOn c k (date sum.0 sum.1 1)) (sym (is_day ∙ on.day)) (first-on c law sum.0 sum.1 sum.2.place) in
+    let at = look-date c m n (date sum.0 sum.1 1) is within first in
+    is.is_first ∙ ap (λ (y : ℤ). day_number c (date y m.place 1)) (sym at.0)
+    ∙ ap (λ (i : ℕ). day_number c (date sum.0 i 1)) (sym at.1) ∙ first.day
+
 -- no month was found
 pub month-none : (c : CalendarList) (look : MonthLook) (months : ℕ) (error : DateAddError) →
     (z : ℤ) × (j : ℕ) × IsMonthsAfter c look.year look.place (pos months) z j
@@ -170,44 +185,8 @@ month-none c look months error sum z j after valid =
     same : day_number c (date z j 1) ≡ day_number c (date sum.0 sum.1 1)
     same = ap (λ (y : ℤ). day_number c (date y j 1)) at.0 ∙ ap (λ (i : ℕ). day_number c (date sum.0 i 1)) at.1
 
--- the month after a month, in the sequence of months, begins on the day behind it
-next-first : (c : CalendarList) → IsLawful c → (y : ℤ) (i : ℕ) → HasPlace c y i →
-    (z : ℤ) × (j : ℕ) × IsMonthsAfter c y i (pos 1) z j
-    × (day_number c (date z j 1) ≡ day_number c (date y i 1) +ℤ pos (month_length c y i))
-next-first c law y i place = by_end (nat_lt i (month_count c y)) refl
-  where
-    by_end : (b : Bool) → nat_lt i (month_count c y) ≡ b → (z : ℤ) × (j : ℕ) × IsMonthsAfter c y i (pos 1) z j
-        × (day_number c (date z j 1) ≡ day_number c (date y i 1) +ℤ pos (month_length c y i))
-    by_end true e =
-        let low : i < month_count c y = grind (arith, nat_tests, e) in (
-          y,
-          i + 1,
-          record {
-            place = (omega arith, omega (arith, low));
-            moved = omega (arith, signed, month_number-place c y i place.0, month_number-place c y (i + 1) (omega arith));
-          },
-          omega (arith, signed, days_before-next c y i place),
-        )
-    by_end false e =
-        let last : month_count c y ≤ i = grind (arith, nat_tests, e) in (
-          y +ℤ pos 1,
-          1,
-          record {
-            place = (omega arith, omega (arith, law.count (y +ℤ pos 1)));
-            moved = omega (arith, signed, place, last, month_number-place c y i place.0, month_number-next c y);
-          },
-          omega (
-            arith,
-            signed,
-            day_number-first c (y +ℤ pos 1),
-            start_of_year-next c y,
-            days_before-next c y i place,
-            days_before-end c y (i + 1) (omega (arith, last)),
-          ),
-        )
-
 -- a look at the month of the day behind a month is one at the month after it
-look-next : (c : CalendarList) → IsLawful c → (a b : MonthLook) → IsMonthLook c a → IsMonthLook c b →
+pub look-next : (c : CalendarList) → IsLawful c → (a b : MonthLook) → IsMonthLook c a → IsMonthLook c b →
     InStretch (look_stretch b) (end_of (look_stretch a)) → IsMonthsAfter c a.year a.place (pos 1) b.year b.place
 look-next c law a b one two within =
     let next = next-first c law a.year a.place one.is_place in
@@ -291,7 +270,7 @@ month-at c law a months =
     (found_at.0, found_at.1, record { place = found_at.2; moved = found_at.3 })
 
 -- later months begin later
-month-order : (c : CalendarList) → IsLawful c → (a : MonthLook) (months later : ℕ) (z : ℤ) (j : ℕ) (y : ℤ) (i : ℕ) →
+pub month-order : (c : CalendarList) → IsLawful c → (a : MonthLook) (months later : ℕ) (z : ℤ) (j : ℕ) (y : ℤ) (i : ℕ) →
     months ≤ later → IsMonthsAfter c a.year a.place (pos months) z j → IsMonthsAfter c a.year a.place (pos later) y i →
     day_number c (date z j 1) ≤ℤ day_number c (date y i 1)
 month-order c law a months later z j y i order one two =
@@ -317,3 +296,94 @@ held-later c law a months none later order z j after n above valid =
     let here = month-at c law a months in
     let begins = month-order c law a months later here.0 here.1 z j order here.2 after in
     none here.0 here.1 here.2 n (omega (arith, signed, begins, above)) valid
+
+-- a date whose day is on or behind the first day of a month is of that month or a later one
+pub month-later : (c : CalendarList) → IsLawful c → (u : Date) (z : ℤ) (j : ℕ) → IsDate c u → HasPlace c z j →
+    day_number c (date z j 1) ≤ℤ day_number c u → month_number c z j ≤ℤ month_number c u.year u.month
+month-later c law u z j date_is place least =
+    by_place_order u.year u.month z j
+    (λ h. absurd (omega (arith, signed, least, day_number-rises c u (date z j 1) date_is first (before h))))
+    (λ h. omega (arith, signed, month_number-order c z j u.year u.month place date_is.place h))
+    (λ years places. let same : month_number c u.year u.month ≡ month_number c z j =
+    ap (λ (y : ℤ). month_number c y u.month) years ∙ ap (λ (i : ℕ). month_number c z i) places in
+    omega (arith, signed, same))
+  where
+    first : IsDate c (date z j 1)
+    first = record { place = place; day = (omega arith, (law.lengths z j place).0) }
+
+    before : (u.year <ℤ z) ⊎ ((u.year ≡ z) × (u.month < j)) → IsBefore (u.year, u.month, u.day) (z, j, 1)
+    before (inl years) = inl years
+    before (inr p) = inr (p.0, inl p.1)
+
+-- the month before the one so many months after a month
+month-previous : (c : CalendarList) → IsLawful c → (a : MonthLook) (rest months : ℕ) (z : ℤ) (j : ℕ) → IsMonthLook c a →
+    months ≡ rest + 1 → IsMonthsAfter c a.year a.place (pos months) z j →
+    (y : ℤ) × (i : ℕ) × IsMonthsAfter c a.year a.place (pos rest) y i
+    × (day_number c (date z j 1) ≡ day_number c (date y i 1) +ℤ pos (month_length c y i))
+month-previous c law a rest months z j is next after =
+    let found_at = month-finds c law (month_number c a.year a.place +ℤ pos rest) in
+    let here : IsMonthsAfter c a.year a.place (pos rest) found_at.0 found_at.1 =
+    record { place = found_at.2; moved = found_at.3 } in
+    let then_at = next-first c law found_at.0 found_at.1 found_at.2 in
+    let at = month_number-injective c z j then_at.0 then_at.1 after.place then_at.2.place
+    (omega (arith, signed, after.moved, then_at.2.moved, found_at.3, next)) in (
+      found_at.0,
+      found_at.1,
+      here,
+      ap (λ (x : ℤ). day_number c (date x j 1)) at.0 ∙ ap (λ (k : ℕ). day_number c (date then_at.0 k 1)) at.1 ∙ then_at.3,
+    )
+
+-- the month itself
+pub reached-zero : (c : CalendarList) (a : MonthLook) (months : ℕ) → IsMonthLook c a → months ≡ 0 → IsMonthReached c a months (Some a)
+reached-zero c a months is none = (is, record { place = is.is_place; moved = omega (arith, signed, none) })
+
+-- the month after a month that was found
+pub reached-next : (c : CalendarList) → IsLawful c → (a b d : MonthLook) (rest months : ℕ) → months ≡ rest + 1 → IsMonthLook c b →
+    IsMonthsAfter c a.year a.place (pos rest) b.year b.place → IsMonthLook c d → d.first ≡ end_of (look_stretch b) →
+    IsMonthReached c a months (Some d)
+reached-next c law a b d rest months next one after two joins = (
+  two,
+  record { place = two.is_place; moved = omega (arith, signed, step.moved, after.moved, next) },
+)
+  where
+    has : 1 ≤ d.days
+    has = some c law d two
+
+    step : IsMonthsAfter c b.year b.place (pos 1) d.year d.place
+    step = look-next c law b d one two (omega (arith, signed, joins), omega (arith, signed, joins, has))
+
+-- neither it nor an earlier one was found
+pub reached-none : (c : CalendarList) → IsLawful c → (a : MonthLook) (rest months : ℕ) → months ≡ rest + 1 → IsMonthLook c a →
+    IsMonthHeld c a rest None → IsMonthReached c a months None
+reached-none c law a rest months next is none z j after n above =
+    let before = month-previous c law a rest months z j is next after in
+    none before.0 before.1 before.2 n (omega (arith, signed, before.3, above, (law.lengths before.0 before.1 before.2.place).0))
+
+-- valid days lie few months apart
+pub reached-far : (c : CalendarList) → IsLawful c → IsNearList c → (a : MonthLook) (s : ℤ) (months : ℕ) → IsMonthLook c a →
+    IsValidDay s → InStretch (look_stretch a) s → 27040001 < months → IsMonthReached c a months None
+reached-far c law nearby a s months is valid within far z j after n above here =
+    let before = month-previous c law a (months - 1) months z j is (omega (arith, far)) after in
+    let own = look-on c a s is within in
+    let other = on-finds c law n in
+    let later = month-later c law other.0 before.0 before.1 other.1.date before.2.place
+    (omega (arith, signed, before.3, above, other.1.day, (law.lengths before.0 before.1 before.2.place).0)) in
+    let near = nearby.apart (date a.year a.place own.0) other.0
+    (record { date = own.1.date; valid = subst IsValidDay (sym own.1.day) valid })
+    (record { date = other.1.date; valid = subst IsValidDay (sym other.1.day) here }) in
+    omega (arith, signed, near, later, before.2.moved, far)
+
+-- later months begin later
+pub reached-later : (c : CalendarList) → IsLawful c → (a : MonthLook) (months : ℕ) → IsMonthReached c a months None →
+    (later : ℕ) → months ≤ later → (z : ℤ) (j : ℕ) → IsMonthsAfter c a.year a.place (pos later) z j →
+    (n : ℤ) → day_number c (date z j 1) ≤ℤ (n +ℤ pos 1) → IsValidDay n → ⊥
+reached-later c law a months none later order z j after n above valid =
+    let here = month-at c law a months in
+    let begins = month-order c law a months later here.0 here.1 z j order here.2 after in
+    none here.0 here.1 here.2 n (omega (arith, signed, begins, above)) valid
+
+-- a valid first day is near
+pub starts-near : (r : Option MonthLook) → IfSome r (λ m. IsValidDay m.first) →
+    IfSome r (λ m. IsBetween (neg_ℤ (pos 365242600)) (pos 365242134) m.first)
+starts-near (Some m) h = (omega (arith, signed, h.0), h.1)
+starts-near None h = h

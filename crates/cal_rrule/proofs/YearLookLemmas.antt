@@ -42,7 +42,7 @@ year-stretch c look is =
     ap (λ (f : ℤ). made f look.days) is.is_start ∙ ap (λ (d : ℕ). made (start_of_year c look.year) d) is.is_whole
 
 -- a day of a year is on a date of it
-year-on : (c : CalendarList) (look : YearLook) (n : ℤ) → IsYearLook c look → InStretch (look_year look) n →
+pub year-on : (c : CalendarList) (look : YearLook) (n : ℤ) → IsYearLook c look → InStretch (look_year look) n →
     (t : Date) × IsOn c n t × (t.year ≡ look.year)
 year-on c look n is within = by_offset (n -ℤ look.first) refl
   where
@@ -54,7 +54,7 @@ year-on c look n is within = by_offset (n -ℤ look.first) refl
     by_offset (negsuc a) e = absurd (omega (arith, signed, e, within.0))
 
 -- BYDAY of a day of a year, where weekdays are counted in the year
-year-weekdays : (c : CalendarList) (rule : RecurrenceRule) (look : YearLook) (n : ℤ) → IsYearLook c look →
+pub year-weekdays : (c : CalendarList) (rule : RecurrenceRule) (look : YearLook) (n : ℤ) → IsYearLook c look →
     CountsInYears rule → InStretch (look_year look) n →
     IsAmongWeekdays rule.weekdays (look_year look) n ↔ IsOfWeekdays c rule n
 year-weekdays c rule look n is counts within = (

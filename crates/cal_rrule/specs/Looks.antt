@@ -114,3 +114,12 @@ IsMonthHeld c look months found =
     ((z : ℤ) (j : ℕ) → IsMonthsAfter c look.year look.place (pos months) z j →
     (n : ℤ) → day_number c (date z j 1) ≤ℤ n → ¬ (IsValidDay n))
     (λ m. IsMonthLook c m × IsMonthsAfter c look.year look.place (pos months) m.year m.place)
+
+-- what was found is the month so many months after a month, or neither a day of that month nor the day before it is
+-- valid
+abbrev pub IsMonthReached : CalendarList → MonthLook → ℕ → Option MonthLook → Type 0
+IsMonthReached c look months found =
+    MatchOption found
+    ((z : ℤ) (j : ℕ) → IsMonthsAfter c look.year look.place (pos months) z j →
+    (n : ℤ) → day_number c (date z j 1) ≤ℤ (n +ℤ pos 1) → ¬ (IsValidDay n))
+    (λ m. IsMonthLook c m × IsMonthsAfter c look.year look.place (pos months) m.year m.place)

@@ -24,6 +24,11 @@ pub record Marks (set : PeriodDays) (from to : ℤ) (Is : ℤ → Type 0) : Type
   pub first : set.first ≡ from
   pub days : (n : ℤ) → from ≤ℤ n → n <ℤ to → IsTrue (has_day set n) ↔ Is n
 
+-- a set that begins on a day has exactly the days of a kind before an end, among its 448
+pub record MarksBefore (set : PeriodDays) (from end : ℤ) (Is : ℤ → Type 0) : Type 0 where
+  pub first : set.first ≡ from
+  pub days : (n : ℤ) → InRow set n → IsTrue (has_day set n) ↔ (Is n × (n <ℤ end))
+
 -- a place of a set names a day
 abbrev pub IsNamedBy : {words : ℕ} → PlaceSet words → Skip → Stretch → ℤ → Type 0
 IsNamedBy set skip s n = (d : Place) × IsTrue (has_place set d) × NamesDay skip s d n

@@ -8,7 +8,7 @@ use cal_days::RataDie;
 use recurrence_sets::PeriodDays;
 
 /// Returns how many days lie from a start to a day, or 0 if the day is before the start.
-fn days_ahead(from: RataDie, start: RataDie) -> u64
+pub(crate) fn days_ahead(from: RataDie, start: RataDie) -> u64
     requires from { IsBetween (neg_ℤ (pos 2000000000)) (pos 2000000000) from }
     requires start { IsBetween (neg_ℤ (pos 2000000000)) (pos 2000000000) start }
     ensures behind { start ≤ℤ from → from ≡ start +ℤ pos result }

@@ -3,6 +3,7 @@
 
 mod asked;
 mod asking;
+mod block_days;
 mod daily;
 mod day_blocks;
 mod intervals;
@@ -14,10 +15,28 @@ mod month_steps;
 mod monthly;
 mod named_days;
 mod named_masks;
+mod named_months;
+mod near_months;
+mod near_years;
+mod occurrences;
 mod probes;
+mod rule_periods;
+mod set_positions;
+mod span;
+mod span_masks;
 mod week_start;
 mod weekday_masks;
+mod weekly;
+mod weekly_days;
+mod weekly_starts;
+mod weeks_block;
+mod year_days;
 mod year_look;
 mod year_months;
+mod year_steps;
+mod year_weeks;
+mod yearly;
 
-pub use recurrence_sets::Occurrence;
+pub use occurrences::{resume_occurrences, rule_occurrences};
+pub use recurrence_sets::{Listing, Occurrence};
+pub use rule_periods::RulePeriods;

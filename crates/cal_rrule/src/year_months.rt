@@ -4,7 +4,7 @@ ghost use Rattle.std.specs.Prelude.{◌≡◌};
 ghost use Rattle.cal_types.specs.CalendarList.{CalendarList};
 ghost use Rattle.cal_rrule.specs.Looks.{AreMissing, CountsInYears, IsNamedInYearMonth, IsYearLook, look_stretch};
 ghost use Rattle.cal_rrule.specs.Looks.{look_year};
-ghost use Rattle.cal_rrule.specs.Masks.{Adds, Marks};
+ghost use Rattle.cal_rrule.specs.Masks.{Adds, IsWeekdayIn, Marks};
 ghost use Rattle.cal_rrule.specs.Periods.{IsOfWeekdays};
 ghost use Rattle.cal_rrule.specs.Stretches.{end_of};
 
@@ -41,6 +41,18 @@ pub(crate) fn add_days_of_month(days: &mut PeriodDays, asked: &Asked, look: &Mon
     }
 }
 
+/// Adds the days of a year that BYDAY has, by their place in the year.
+pub(crate) fn add_weekdays_of_year(days: &mut PeriodDays, asked: &Asked, look: &YearLook)
+    ensures { Adds days.old days.new (IsWeekdayIn asked.now.rule.weekdays (look_year look.now)) }
+{
+    add_weekdays(
+        days,
+        asked.rule.weekdays(),
+        RataDie::new(look.first),
+        look.days,
+    );
+}
+
 /// Returns the days of a year on which BYDAY holds, if weekdays are counted in the year.
 pub(crate) fn weekdays_of_year(asked: &Asked, look: &YearLook) -> PeriodDays
     ensures first { result.first ≡ look.now.first }
@@ -48,11 +60,6 @@ pub(crate) fn weekdays_of_year(asked: &Asked, look: &YearLook) -> PeriodDays
         Marks result look.now.first (end_of (look_year look.now)) (IsOfWeekdays c asked.now.rule) }
 {
     let mut days = PeriodDays::new(RataDie::new(look.first));
-    add_weekdays(
-        &mut days,
-        asked.rule.weekdays(),
-        RataDie::new(look.first),
-        look.days,
-    );
+    add_weekdays_of_year(&mut days, asked, look);
     days
 }

@@ -5,15 +5,15 @@ use Rattle.cal_days.proofs.Signed.{signed}
 use Rattle.cal_rrule.specs.Looks.{look_stretch}
 use Rattle.cal_rrule.specs.Stretches.{InStretch, end_of}
 use Rattle.cal_rrule.proofs.LookLemmas.{look-joins}
-use Rattle.cal_rrule.proofs.MonthStepLemmas.{held-next, held-none, held-zero}
+use Rattle.cal_rrule.proofs.MonthStepLemmas.{held-next, held-none, held-zero, starts-near}
 use Rattle.cal_rrule.proofs.month_steps.month_ahead.Goals as goal
 
-pub returns-then-months-eq0 : goal.returns-then-months-eq0
-returns-then-months-eq0 g c =
+pub returns-then-months-eq0-clause-held : goal.returns-then-months-eq0-clause-held
+returns-then-months-eq0-clause-held g c =
     held-zero (g.C.Calendar.system c.args.calendar.now).list c.args.look.now c.args.months c.requires.look c.if-months-eq0.true
 
-pub returns-then-not-is_valid : goal.returns-then-not-is_valid
-returns-then-not-is_valid g c =
+pub returns-then-not-is_valid-clause-held : goal.returns-then-not-is_valid-clause-held
+returns-then-not-is_valid-clause-held g c =
     let list = (g.C.Calendar.system c.args.calendar.now).list in
     let law = g.met.C.Calendar.lawful c.args.calendar.now in
     let look = c.args.look.now in
@@ -36,8 +36,8 @@ months_after-requires-clause-valid g c =
     let valid = is_between-true (neg_ℤ (pos 365242499)) (pos 365242134) (end_of (look_stretch look)) (sym (ap is_valid_day end) ∙ sym c.is_valid.ensures ∙ c.if-not-is_valid.false) in
     (omega (arith, signed, joins, valid.0), omega (arith, signed, joins, valid.1))
 
-pub returns : goal.returns
-returns g c =
+pub returns-clause-held : goal.returns-clause-held
+returns-clause-held g c =
     let list = (g.C.Calendar.system c.args.calendar.now).list in
     let law = g.met.C.Calendar.lawful c.args.calendar.now in
     let look = c.args.look.now in
@@ -47,4 +47,14 @@ returns g c =
     (omega (arith, signed, c.month_of-next.ensures.within.0, end), omega (arith, signed, c.month_of-next.ensures.within.1, end)) in
     let fewer : c.args.months ≡ (c.args.months - 1) + 1 = omega (arith, c.if-months-eq0.false) in
     held-next list law look c.month_of-next.result c.args.months (c.args.months - 1) c.args.day c.months_after.result
-    c.requires.look c.month_of-next.ensures.look fewer c.requires.valid c.requires.within behind c.months_after.ensures
+    c.requires.look c.month_of-next.ensures.look fewer c.requires.valid c.requires.within behind c.months_after.ensures.found
+
+pub returns-then-months-eq0-clause-first : goal.returns-then-months-eq0-clause-first
+returns-then-months-eq0-clause-first g c =
+    let look = c.args.look.now in (
+      omega (arith, signed, c.requires.within.1, c.requires.valid.0, look.short),
+      omega (arith, signed, c.requires.within.0, c.requires.valid.1),
+    )
+
+pub returns-clause-first : goal.returns-clause-first
+returns-clause-first g c = starts-near c.months_after.result c.months_after.ensures.valid

@@ -7,12 +7,10 @@ pub returns-clause-days : goal.returns-clause-days
 returns-clause-days c = λ list is counts.
     let look = c.args.look.now in
     let first : c.new.result ≡ look.first = omega (arith, signed) in
-    let second : c.new-2.result ≡ look.first = omega (arith, signed) in
-    let adds = rw (c.weekdays.ensures, second) at c.add_weekdays.ensures in
-    year-marks list c.args.asked.now.rule look c.new-days.result c.add_weekdays.new.days is counts look.short
-    (c.new-days.ensures.first ∙ first) c.new-days.ensures.none adds
+    year-marks list c.args.asked.now.rule look c.new-days.result c.add_weekdays_of_year.new.days is counts look.short
+    (c.new-days.ensures.first ∙ first) c.new-days.ensures.none c.add_weekdays_of_year.ensures
 
 pub returns-clause-first : goal.returns-clause-first
 returns-clause-first c =
     let first : c.new.result ≡ c.args.look.now.first = omega (arith, signed) in
-    c.add_weekdays.ensures.first ∙ c.new-days.ensures.first ∙ first
+    c.add_weekdays_of_year.ensures.first ∙ c.new-days.ensures.first ∙ first

@@ -1,0 +1,43 @@
+use Rattle.std.proofs.Common.{◌≡◌, ◌∙◌, arith, to_z, of_z, w64}
+use Rattle.cal_days.proofs.Signed.{signed}
+use Rattle.cal_rrule.specs.Blocks.{start_of}
+use Rattle.cal_rrule.proofs.WeeklyLemmas.{weeks-ended}
+use Rattle.cal_rrule.proofs.WeeklyStartLemmas.{week-finds}
+use Rattle.cal_rrule.proofs.weekly.weekly_block.Goals as goal
+
+pub returns-in-None-clause-days : goal.returns-in-None-clause-days
+returns-in-None-clause-days g c = λ later order n valid early of.
+    let list = (g.C.Calendar.system c.args.calendar.now).list in
+    let a = c.args.asked.now in
+    let week = week-finds a.rule.week_start a.day in
+    weeks-ended list a.rule (start_of a) c.requires.weekly a.day week.0 c.requires.is_asked.on_day week.1
+    c.args.block later c.args.last n (c.in-None.ensures week.0 week.1) order of early
+
+pub kept_in_block-requires-clause-low : goal.kept_in_block-requires-clause-low
+kept_in_block-requires-clause-low g c =
+    let a = c.args.asked.now in
+    let week = week-finds a.rule.week_start a.day in
+    let start = c.in-Some.ensures week.0 week.1 in
+    omega (arith, signed, start.0, week.1.2, c.requires.is_asked.is_valid)
+
+pub kept_in_block-requires-clause-high : goal.kept_in_block-requires-clause-high
+kept_in_block-requires-clause-high g c =
+    let a = c.args.asked.now in
+    let week = week-finds a.rule.week_start a.day in
+    let start = c.in-Some.ensures week.0 week.1 in
+    omega (arith, signed, start.1, c.requires.last)
+
+pub returns-in-Some-clause-days : goal.returns-in-Some-clause-days
+returns-in-Some-clause-days g c = λ n valid.
+    let a = c.args.asked.now in
+    let week = week-finds a.rule.week_start a.day in
+    let start = c.in-Some.ensures week.0 week.1 in
+    let same : to_z w64 (of_z w64 c.in-Some.from) ≡ c.in-Some.from =
+    omega (arith, signed, start.0, start.1, week.1.2, c.requires.is_asked.is_valid, c.requires.last) in
+    c.kept_in_block.ensures week.0 c.args.block week.1 (same ∙ start.0) n
+
+pub returns-in-Some-clause-few : goal.returns-in-Some-clause-few
+returns-in-Some-clause-few g c =
+    let a = c.args.asked.now in
+    let week = week-finds a.rule.week_start a.day in
+    omega (arith, (c.in-Some.ensures week.0 week.1).2)

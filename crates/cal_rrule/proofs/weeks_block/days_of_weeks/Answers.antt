@@ -1,0 +1,54 @@
+use Rattle.std.proofs.Common.{◌≡◌, ◌∙◌, ◌*◌, ◌≤◌, ◌+ℤ◌, ◌-ℤ◌, ◌≤ℤ◌, pos, length, ℤ, ap, sym, subst, subst₂, rules, arith, to_z, of_z, w64}
+use Rattle.cal_days.proofs.Signed.{signed}
+use Rattle.cal_types.specs.CalendarList.{start_of_year}
+use Rattle.cal_types.specs.declared.weekday.Weekday.{Weekday}
+use Rattle.cal_rrule.specs.Blocks.{start_of}
+use Rattle.cal_rrule.specs.Masks.{Marks}
+use Rattle.cal_rrule.specs.YearWeeks.{AreWeeksOf, IsNamedAbout}
+use Rattle.cal_rrule.proofs.WeeksBlockLemmas.{weeks-named}
+use Rattle.cal_rrule.proofs.weeks_block.days_of_weeks.Goals as goal
+
+pub returns-clause-days : goal.returns-clause-days
+returns-clause-days g c =
+    let list = (g.C.Calendar.system c.args.calendar.now).list in
+    let law = g.met.C.Calendar.lawful c.args.calendar.now in
+    let a = c.args.asked.now in
+    let t = start_of a in
+    let year = c.args.year.now in
+    let is = c.requires.is_asked in
+    let weeks = c.weeks_of_year-weeks in
+    let own : to_z w64 (of_z w64 c.weeks_of_year-weeks.result.first) ≡ c.weeks_of_year-weeks.result.first =
+    omega (arith, signed, c.weeks_of_year-weeks.result.near) in
+    let span = rw own at c.span_of_weeks-span.ensures in
+    let first = weeks.result.first in
+    let to = first +ℤ pos (7 * weeks.result.count) in
+    let are = rw c.week_start.ensures at (weeks.ensures.weeks list c.requires.year) in
+    let low : (start_of_year list year.year -ℤ pos 3) ≤ℤ first = omega (arith, signed, weeks.ensures.low, c.requires.year.is_start) in
+    let few : 7 * weeks.result.count ≤ 448 = omega (arith, weeks.result.few) in
+    let marks = subst₂ (λ (f e : ℤ). Marks c.named_about-days.result f e (IsNamedAbout list a.rule t year.year)) span.0 span.1
+    (c.named_about-days.ensures t is) in
+    let from : c.new.result ≡ first = omega (arith, signed, span.0, weeks.result.near) in
+    let end : c.new-2.result ≡ to = omega (arith, signed, span.1, weeks.result.near, weeks.result.few) in
+    let cut = rw (from, end) at c.keep_days.ensures.days in
+    weeks-named list law a.rule t a.day year.year first weeks.result.count is.on_day are low a.missing is.are_missing
+    c.named_about-days.result c.keep_weeks.new.days c.keep_start_weekday.new.days c.keep_days.new.self few marks
+    c.keep_weeks.ensures.first c.keep_start_weekday.ensures.first
+    (c.keep_weeks.ensures.days list year.year are) c.keep_start_weekday.ensures.days cut c.keep_days.ensures.row
+
+pub returns-clause-row : goal.returns-clause-row
+returns-clause-row g c = λ n has. rw (sym c.keep_days.ensures.first) at (c.keep_days.ensures.row n has)
+
+pub keep_weeks-requires : goal.keep_weeks-requires
+keep_weeks-requires g c =
+    let weeks = c.weeks_of_year-weeks.result in
+    let own : to_z w64 (of_z w64 weeks.first) ≡ weeks.first = omega (arith, signed, weeks.near) in
+    record {
+      first = (c.named_about-days.ensures (start_of c.args.asked.now) c.requires.is_asked).first ∙ c.span_of_weeks-span.ensures.0 ∙ own;
+    }
+
+pub keep_start_weekday-requires-clause-first : goal.keep_start_weekday-requires-clause-first
+keep_start_weekday-requires-clause-first g c =
+    let weeks = c.weeks_of_year-weeks.result in
+    let own : to_z w64 (of_z w64 weeks.first) ≡ weeks.first = omega (arith, signed, weeks.near) in
+    c.keep_weeks.ensures.first ∙ (c.named_about-days.ensures (start_of c.args.asked.now) c.requires.is_asked).first
+    ∙ c.span_of_weeks-span.ensures.0 ∙ own

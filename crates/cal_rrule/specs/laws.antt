@@ -1,0 +1,2 @@
+pub mod MonthOrder
+pub mod MonthlyApart

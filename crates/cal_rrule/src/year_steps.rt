@@ -1,0 +1,120 @@
+//! The year so many years after a year.
+
+ghost use Rattle.std.specs.Prelude.{◌≡◌, ◌↔◌, MatchOption, IsTrue, pos, negsuc, ◌+ℤ◌, ◌≤ℤ◌, ◌<ℤ◌};
+ghost use Rattle.cal_days.specs.Day.{IsFieldYear, IsValidDay};
+ghost use Rattle.cal_types.specs.CalendarList.{start_of_year};
+ghost use Rattle.cal_rrule.specs.Looks.{IsYearLook, look_year};
+ghost use Rattle.cal_rrule.specs.NearDays.{IsNearList};
+ghost use Rattle.cal_rrule.specs.Stretches.{InStretch, end_of};
+
+use crate::looks::year_of;
+use crate::near_years::year_after;
+use crate::year_look::YearLook;
+use cal_base::Calendar;
+use cal_days::RataDie;
+use cal_types::{DateFields, DateFromFieldsOptions, Overflow};
+
+/// Returns the first day of a year if it is valid.
+fn first_day<C: Calendar>(calendar: &C, year: i32) -> Option<i64>
+    requires { IsFieldYear year }
+    ensures { let first = start_of_year (C.system calendar.now).list year in
+        MatchOption result (¬ (IsValidDay first)) (λ day. (day ≡ first) × IsValidDay first) }
+{
+    let fields = DateFields {
+        era: None,
+        era_year: None,
+        extended_year: Some(year),
+        month: None,
+        month_code: None,
+        ordinal_month: Some(1),
+        day: Some(1),
+    };
+    let options = DateFromFieldsOptions {
+        overflow: Some(Overflow::Reject),
+        missing_fields_strategy: None,
+    };
+    match calendar.from_fields(fields, options) {
+        Ok(date) => Some(calendar.to_rata_die(&date).to_i64_date()),
+        Err(_) => None,
+    }
+}
+
+/// Returns whether a number of years is greater than another number, which may be negative.
+pub(crate) fn is_more(years: u64, most: i64) -> bool
+    ensures { IsTrue result ↔ (most <ℤ pos years) }
+{
+    most < 0 || years > most as u64
+}
+
+/// Returns the year with a number, whose first day is valid.
+fn year_numbered<C: Calendar>(calendar: &C, number: i32) -> Option<YearLook>
+    requires { IsFieldYear number }
+    ensures { let list = (C.system calendar.now).list in
+        MatchOption result (¬ (IsValidDay (start_of_year list number)))
+        (λ found. IsYearLook list found × (found.year ≡ number)) }
+{
+    let first = first_day(calendar, number)?;
+    Some(year_of(calendar, first))
+}
+
+/// Returns the year so many years after a year, which is at most the year after that of a last day, or `None` if it
+/// begins more than a day behind the last day.
+fn year_within<C: Calendar>(
+    calendar: &C,
+    look: &YearLook,
+    years: i64,
+    high: &YearLook,
+    last: RataDie,
+) -> Option<YearLook>
+    requires look { IsYearLook (C.system calendar.now).list look.now }
+    requires field { IsFieldYear look.now.year }
+    requires low { negsuc 365242498 ≤ℤ end_of (look_year look.now) }
+    requires high { IsYearLook (C.system calendar.now).list high.now }
+    requires high_field { IsFieldYear high.now.year }
+    requires last { IsValidDay last }
+    requires within { InStretch (look_year high.now) last }
+    requires some { pos 0 ≤ℤ years }
+    requires nearby { IsNearList (C.system calendar.now).list }
+    requires most { (look.now.year +ℤ years) ≤ℤ (high.now.year +ℤ pos 1) }
+    ensures { let list = (C.system calendar.now).list in
+        MatchOption result ((last +ℤ pos 1) <ℤ start_of_year list (look.now.year +ℤ years))
+        (λ found. IsYearLook list found × (found.year ≡ look.now.year +ℤ years)
+        × (found.first ≤ℤ (last +ℤ pos 1))) }
+{
+    let number = i64::from(look.year) + years;
+    if number > i64::from(high.year) {
+        if high.end() > last.to_i64_date() + 1 {
+            return None;
+        }
+        return Some(year_after(calendar, high));
+    }
+    if years == 0 {
+        return Some(*look);
+    }
+    year_numbered(calendar, number as i32)
+}
+
+/// Returns the year so many years after a year, or `None` if it begins more than a day behind a last day.
+pub(crate) fn years_after<C: Calendar>(
+    calendar: &C,
+    look: &YearLook,
+    years: u64,
+    last: RataDie,
+) -> Option<YearLook>
+    requires look { IsYearLook (C.system calendar.now).list look.now }
+    requires field { IsFieldYear look.now.year }
+    requires low { negsuc 365242498 ≤ℤ end_of (look_year look.now) }
+    requires last { IsValidDay last }
+    requires nearby { IsNearList (C.system calendar.now).list }
+    ensures { let list = (C.system calendar.now).list in
+        MatchOption result ((last +ℤ pos 1) <ℤ start_of_year list (look.now.year +ℤ pos years))
+        (λ found. IsYearLook list found × (found.year ≡ look.now.year +ℤ pos years)
+        × (found.first ≤ℤ (last +ℤ pos 1))) }
+{
+    let high = year_of(calendar, last.to_i64_date());
+    let ahead = i64::from(high.year) + 1 - i64::from(look.year);
+    if is_more(years, ahead) {
+        return None;
+    }
+    year_within(calendar, look, years as i64, &high, last)
+}
