@@ -5,7 +5,7 @@ use Rattle.std.proofs.lemmas.Bool.Decides.{nat_tests}
 use Rattle.std.proofs.lemmas.Int.{by_lt_z, ints}
 use Rattle.cal_base.specs.laws.OffsetListLaws.{offset_list-lawful}
 use Rattle.cal_base.proofs.OffsetYears.{start_of_year-offset}
-use Rattle.cal_days.specs.Day.{IsBetween}
+use Rattle.cal_days.specs.Day.{IsBetween, IsValidDay}
 use Rattle.cal_days.specs.Division.{floor_mod}
 use Rattle.cal_days.specs.Gregorian.{gregorian_start}
 use Rattle.cal_days.specs.Easter.{IsSundayAfter, adjusted_epact, gregorian_epact, gregorian_shifted_epact, is_moon_earlier, julian_epact, metonic_year, century_of}
@@ -18,9 +18,9 @@ use Rattle.cal_types.specs.CalendarList.{IsLawful, start_of_year}
 use Rattle.cal_types.proofs.DateTests.{and-left, and-right, true-and, not_true}
 use Rattle.cal_types.proofs.ListLemmas.{date-in_year, start_of_year-later, start_of_year-next}
 use Rattle.cal_types.specs.DayDates.{date_on}
-use Rattle.cal_holidays.specs.EasterYears.{IsLeft}
-use Rattle.cal_holidays.specs.Naming.{easter_list, easter_moon, is_easter, is_sunday_behind, year_start}
-use Rattle.cal_holidays.specs.Merging.{IsFirstDay}
+use Rattle.cal_holidays.specs.NamedDays.{IsEasterOf}
+use Rattle.cal_holidays.specs.Naming.{easter_list, easter_moon, is_sunday_behind, year_on, year_start}
+use Rattle.cal_holidays.specs.OwnDays.{IsValidOne}
 use Rattle.cal_types.proofs.DayDateLemmas.{date_on-on}
 
 listed_start : (j : Bool) (y : ℤ) → start_of_year (easter_list j) y ≡ year_start j y
@@ -63,25 +63,25 @@ one_sunday : (day a b : ℤ) → IsSundayAfter day a → IsSundayAfter day b →
 one_sunday day a b p q =
     omega (arith, signed, p.0, p.1, p.2, q.0, q.1, q.2, floor_parts a 7 (omega arith), floor_parts b 7 (omega arith))
 
-tested_sunday : (day n : ℤ) → is_sunday_behind day n ≡ true → IsSundayAfter day n
+pub tested_sunday : (day n : ℤ) → is_sunday_behind day n ≡ true → IsSundayAfter day n
 tested_sunday day n h =
     let later = and-right (nat_eq (floor_mod n 7) 0) _ h in
     (grind (arith, nat_tests, and-left (nat_eq (floor_mod n 7) 0) _ h), omega (arith, ints, and-left (int_lt day n) _ later), omega (arith, ints, and-right (int_lt day n) _ later))
 
-sunday_tested : (day n : ℤ) → IsSundayAfter day n → is_sunday_behind day n ≡ true
+pub sunday_tested : (day n : ℤ) → IsSundayAfter day n → is_sunday_behind day n ≡ true
 sunday_tested day n is =
     let a : nat_eq (floor_mod n 7) 0 ≡ true = grind (arith, nat_tests, is.0) in
     let b = by_bool {P = int_lt day n ≡ true} (int_lt day n) (λ e. e) (λ e. absurd (omega (arith, ints, is.1))) in
     let c = by_bool {P = int_le n (day +ℤ pos 7) ≡ true} (int_le n (day +ℤ pos 7)) (λ e. e) (λ e. absurd (omega (arith, ints, is.2))) in
     true-and _ _ a (true-and _ _ b c)
 
-lawful : (j : Bool) → IsLawful (easter_list j)
+pub lawful : (j : Bool) → IsLawful (easter_list j)
 lawful false = offset_list-lawful (pos 0)
 lawful true = julian_list-lawful
 
 -- the year of a day
 abbrev pub year_of : Bool → ℤ → ℤ
-year_of j n = (date_on (easter_list j) n).year
+year_of j n = year_on (easter_list j) n
 
 year_within : (j : Bool) (n : ℤ) → (year_start j (year_of j n) ≤ℤ n) × (n <ℤ year_start j (year_of j n +ℤ pos 1))
 year_within j n =
@@ -109,68 +109,56 @@ year_most j n y lt = by_lt_z {P = year_of j n ≤ℤ y} y (year_of j n)
     (λ more. absurd (omega (arith, signed, starts_rise j y (year_of j n) more, year_within j n)))
     (λ le. le)
 
--- Easter of a year passes the test, and no other day of the year does
-pub easter_named : (j : Bool) (y e : ℤ) → IsSundayAfter (easter_moon j y) e → is_easter j e ≡ true
-easter_named j y e is =
+-- Easter of a year lies in that year
+pub easter_year : (j : Bool) (y e : ℤ) → IsSundayAfter (easter_moon j y) e → year_of j e ≡ y
+easter_year j y e is =
     let within = easter_within j y e is in
     let low = year_least j e y within.0 in
     let high = year_most j e y within.1 in
-    let same : year_of j e ≡ y = omega (arith, signed) in
-    sunday_tested (easter_moon j (year_of j e)) e (subst (λ z. IsSundayAfter (easter_moon j z) e) (sym same) is)
+    omega (arith, signed, low, high)
 
-pub named_easter : (j : Bool) (y e n : ℤ) → IsSundayAfter (easter_moon j y) e → is_easter j n ≡ true → year_of j n ≡ y → n ≡ e
-named_easter j y e n is h same =
-    one_sunday (easter_moon j y) n e (subst (λ z. IsSundayAfter (easter_moon j z) n) same (tested_sunday (easter_moon j (year_of j n)) n h)) is
+-- Easter of a later year comes later
+pub easter_rises : (j : Bool) (y z m n : ℤ) → y ≤ℤ z → IsSundayAfter (easter_moon j y) m → IsSundayAfter (easter_moon j z) n → m ≤ℤ n
+easter_rises j y z m n le p q = by_lt_z {P = m ≤ℤ n} y z
+    (λ lt. omega (arith, signed, starts_rise j y z lt, easter_within j y m p, easter_within j z n q))
+    (λ ge.
+    let same : z ≡ y = omega (arith, signed, le, ge) in
+    omega (arith, signed, one_sunday (easter_moon j y) m n p (subst (λ k. IsSundayAfter (easter_moon j k) n) same q)))
 
-module _ (j : Bool) (offset first : ℤ) (near : IsBetween (neg_ℤ (pos 400)) (pos 400) offset) where
-  pub left_first : (y : ℤ) → year_start j y ≤ℤ first → IsLeft j offset first (y -ℤ pos 2)
-  left_first y le n low h =
-      let one : y -ℤ pos 1 +ℤ pos 1 ≡ y = omega (arith, signed) in
-      let two : y -ℤ pos 2 +ℤ pos 1 ≡ y -ℤ pos 1 = omega (arith, signed) in
-      let a = subst (λ z. (year_start j (y -ℤ pos 1) +ℤ pos 365) ≤ℤ year_start j z) one (long_year j (y -ℤ pos 1)) in
-      let b = subst (λ z. (year_start j (y -ℤ pos 2) +ℤ pos 365) ≤ℤ year_start j z) two (long_year j (y -ℤ pos 2)) in
-      year_least j (n -ℤ offset) (y -ℤ pos 2) (omega (arith, signed, near))
+two_years : (j : Bool) (y : ℤ) → (year_start j y +ℤ pos 730) ≤ℤ year_start j (y +ℤ pos 2)
+two_years j y =
+    let two : y +ℤ pos 1 +ℤ pos 1 ≡ y +ℤ pos 2 = omega (arith, signed) in
+    omega (arith, signed, long_year j y, long_year j (y +ℤ pos 1), ap (year_start j) two)
 
-  -- a day before the day of this year isn't named, from the first on
-  pub none_before : (y day : ℤ) → IsLeft j offset first y → IsSundayAfter (easter_moon j y) (day -ℤ offset) → (m : ℤ) → first ≤ℤ m → m <ℤ day → is_easter j (m -ℤ offset) ≡ false
-  none_before y day left is m low lt = not_true (is_easter j (m -ℤ offset)) (λ h.
-      let within = easter_within j y (day -ℤ offset) is in
-      let least = left m low h in
-      let most = year_most j (m -ℤ offset) y (omega (arith, signed, within.1)) in
-      let same : year_of j (m -ℤ offset) ≡ y = omega (arith, signed) in
-      omega (arith, signed, named_easter j y (day -ℤ offset) (m -ℤ offset) is h same))
+-- the year of an Easter at most 400 days from a day lies at most two years from the day's
+pub easter_least : (j : Bool) (y e day low : ℤ) → IsSundayAfter (easter_moon j y) e → year_start j low ≤ℤ day → day ≤ℤ (e +ℤ pos 400) → (low -ℤ pos 2) ≤ℤ y
+easter_least j y e day low is start near =
+    let two : low -ℤ pos 2 +ℤ pos 2 ≡ low = omega (arith, signed) in
+    let back = two_years j (low -ℤ pos 2) in
+    let least = year_least j e (low -ℤ pos 2) (omega (arith, signed, back, ap (year_start j) two, start, near)) in
+    omega (arith, signed, least, easter_year j y e is)
 
-  pub left_next : (y day : ℤ) → IsLeft j offset first y → IsSundayAfter (easter_moon j y) (day -ℤ offset) → day <ℤ first → IsLeft j offset first (y +ℤ pos 1)
-  left_next y day left is lt n low h = by_lt_z {P = (y +ℤ pos 1) ≤ℤ year_of j (n -ℤ offset)} y (year_of j (n -ℤ offset))
-      (λ more. omega (arith, signed))
-      (λ le.
-      let same : year_of j (n -ℤ offset) ≡ y = omega (arith, signed, left n low h) in
-      absurd (omega (arith, signed, named_easter j y (day -ℤ offset) (n -ℤ offset) is h same)))
+pub easter_most : (j : Bool) (y e day high : ℤ) → IsSundayAfter (easter_moon j y) e → day <ℤ year_start j (high +ℤ pos 1) → e ≤ℤ (day +ℤ pos 400) → y ≤ℤ (high +ℤ pos 2)
+easter_most j y e day high is end near =
+    let three : high +ℤ pos 1 +ℤ pos 2 ≡ high +ℤ pos 2 +ℤ pos 1 = omega (arith, signed) in
+    let ahead = two_years j (high +ℤ pos 1) in
+    let most = year_most j e (high +ℤ pos 2) (omega (arith, signed, ahead, ap (year_start j) three, end, near)) in
+    omega (arith, signed, most, easter_year j y e is)
 
-  -- the day of this year comes first, where it isn't before the first
-  pub first_named : (y day last : ℤ) → IsLeft j offset first y → IsSundayAfter (easter_moon j y) (day -ℤ offset) → first ≤ℤ day → day ≤ℤ last
-      → IsFirstDay (λ n. is_easter j (n -ℤ offset)) first last (Some day)
-  first_named y day last left is low high = ((low, high), easter_named j y (day -ℤ offset) is, λ m l lt. none_before y day left is m l lt)
+pub easter-of : (julian : Bool) (y n : ℤ) → IsSundayAfter (easter_moon julian y) n → IsEasterOf julian y n
+easter-of false y n h = h
+easter-of true y n h = h
 
-  pub none_named : (y day last : ℤ) → IsLeft j offset first y → IsSundayAfter (easter_moon j y) (day -ℤ offset) → last <ℤ day
-      → IsFirstDay (λ n. is_easter j (n -ℤ offset)) first last None
-  none_named y day last left is lt = λ n within. none_before y day left is n within.0 (omega (arith, signed, within.1))
+pub of-easter : (julian : Bool) (y n : ℤ) → IsEasterOf julian y n → IsSundayAfter (easter_moon julian y) n
+of-easter false y n h = h
+of-easter true y n h = h
 
-  -- the day of this year, where it isn't past the last one
-  pub until_named : (y day last : ℤ) → IsLeft j offset first y → IsSundayAfter (easter_moon j y) (day -ℤ offset) → first ≤ℤ day
-      → (found : Option ℤ) → MatchOption found (last <ℤ day) (λ d. (d ≡ day) × (day ≤ℤ last)) → IsFirstDay (λ n. is_easter j (n -ℤ offset)) first last found
-  until_named y day last left is low None lt = none_named y day last left is lt
-  until_named y day last left is low (Some d) (same, high) =
-      subst (λ z. IsFirstDay (λ n. is_easter j (n -ℤ offset)) first last (Some z)) (sym same) (first_named y day last left is low high)
-
-  -- nor is any day named, where the years end
-  pub none_left : (y z last : ℤ) → IsLeft j offset first z → last <ℤ year_start j (y +ℤ pos 1) → (y +ℤ pos 2) <ℤ z → IsFirstDay (λ n. is_easter j (n -ℤ offset)) first last None
-  none_left y z last left end past = λ n within. not_true (is_easter j (n -ℤ offset)) (λ h.
-      let least = left n within.0 h in
-      let two : y +ℤ pos 1 +ℤ pos 1 ≡ y +ℤ pos 2 = omega (arith, signed) in
-      let three : y +ℤ pos 2 +ℤ pos 1 ≡ y +ℤ pos 3 = omega (arith, signed) in
-      let a = subst (λ t. (year_start j (y +ℤ pos 1) +ℤ pos 365) ≤ℤ year_start j t) two (long_year j (y +ℤ pos 1)) in
-      let b = subst (λ t. (year_start j (y +ℤ pos 2) +ℤ pos 365) ≤ℤ year_start j t) three (long_year j (y +ℤ pos 2)) in
-      let high : (n -ℤ offset) <ℤ year_start j (y +ℤ pos 2 +ℤ pos 1) = omega (arith, signed, within.1, near, ap (year_start j) three) in
-      let most = year_most j (n -ℤ offset) (y +ℤ pos 2) high in
-      omega (arith, signed))
+-- the day that was found is the valid one that is so many days from Easter, where it is valid
+pub easter-one : (j : Bool) (y offset day : ℤ) (found : Option ℤ) → IsSundayAfter (easter_moon j y) (day -ℤ offset)
+    → MatchOption found (IsValidDay day → ⊥) (λ d. (d ≡ day) × IsValidDay day) → IsValidOne (λ n. IsEasterOf j y (n -ℤ offset)) found
+easter-one j y offset day None is not = λ n valid h.
+    let same = one_sunday (easter_moon j y) (day -ℤ offset) (n -ℤ offset) is (of-easter j y (n -ℤ offset) h) in
+    let there : n ≡ day = omega (arith, signed, same) in
+    not (subst IsValidDay there valid)
+easter-one j y offset day (Some d) is (e, valid) =
+    (subst (λ (z : ℤ). IsEasterOf j y (z -ℤ offset)) (sym e) (easter-of j y (day -ℤ offset) is), subst IsValidDay (sym e) valid)

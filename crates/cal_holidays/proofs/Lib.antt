@@ -4,9 +4,16 @@ mod FirstLemmas
 mod KeptLemmas
 mod KindMonthLemmas
 mod ListLemmas
+mod MonthLemmas
+mod MoveLemmas
+mod MovingLemmas
 pub mod NamedDaysLemmas
 mod NthLemmas
+mod ObservingLemmas
+mod NumberLemmas
+mod ObservedLemmas
+mod OwnDayLemmas
 mod PairLemmas
 mod RecordLemmas
-mod WindowLemmas
+mod SplitLemmas
 pub mod YieldLemmas

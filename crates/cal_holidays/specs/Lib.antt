@@ -1,6 +1,5 @@
 pub mod BookNames
 pub mod Books
-pub mod EasterYears
 pub mod Fields
 pub mod Found
 pub mod Items
@@ -9,6 +8,13 @@ pub mod KindMonths
 pub mod Listing
 pub mod Merging
 pub mod MonthDays
+pub mod Moving
 pub mod NamedDays
 pub mod Naming
+pub mod Observing
+pub mod OwnDays
+pub mod RecordMoves
+pub mod RecordWords
+pub mod RecordYears
+pub mod Records
 pub mod Rules

@@ -1,7 +1,9 @@
--- Which days a rule names.
+-- Which days a rule names: tests of a day.
 -- Source: the days of Easter are those of Reingold and Dershowitz, Calendrical Calculations, chapter 9.
-use Rattle.std.specs.Prelude.{ℕ, zero, suc, negsuc, ◌+◌, ◌-◌, ◌/◌, Bool, true, false, ◌&&◌, nat_eq, nat_lt, int_lt, int_le, ℤ, pos, ◌+ℤ◌, ◌-ℤ◌}
+use Rattle.std.specs.Prelude.{ℕ, zero, suc, negsuc, ◌+◌, ◌-◌, ◌/◌, Bool, true, false, ◌&&◌, nat_eq, nat_lt, int_lt, int_le, List, [], ◌∷◌, ℤ, pos, ◌+ℤ◌, ◌-ℤ◌}
+use Rattle.std.specs.List.{list_any}
 use Rattle.cal_base.specs.OffsetList.{offset_list}
+use Rattle.cal_days.specs.Day.{is_valid_day}
 use Rattle.cal_days.specs.Division.{floor_mod}
 use Rattle.cal_days.specs.Easter.{gregorian_april_19, gregorian_epact, julian_april_19, julian_epact}
 use Rattle.cal_days.specs.Gregorian.{gregorian_start}
@@ -12,9 +14,13 @@ use Rattle.cal_types.specs.CalendarList.{CalendarList, month_at, month_length}
 use Rattle.cal_tables.specs.Kinds.{TableContents, kind_system}
 use Rattle.cal_types.specs.Month.{MonthParts, month_rank}
 use Rattle.cal_types.specs.Weekday.{days_since_sunday}
+use Rattle.cal_types.specs.declared.leaping.Leaping.TheVariants.{Exact}
 use Rattle.cal_types.specs.declared.weekday.Weekday.{Weekday}
 use Rattle.cal_types.specs.DayDates.{date_on}
-use Rattle.cal_holidays.specs.Rules.{Rule, Fixed, Easter, Nth}
+use Rattle.cal_holidays.specs.Observing.{is_kept, move_on}
+use Rattle.cal_holidays.specs.Rules.{Easter, Fixed, Nth, Observed, Rule, Span, rule_calendar}
+use Rattle.cal_holidays.specs.declared.holiday_rule.SpanWeek.{SpanWeek}
+use Rattle.cal_holidays.specs.declared.holiday_rule.SpanWeek.TheVariants.{From, UpTo}
 
 -- whether two months are the same
 abbrev pub is_month : MonthParts → MonthParts → Bool
@@ -39,7 +45,7 @@ abbrev pub easter_moon : Bool → ℤ → ℤ
 easter_moon false y = gregorian_april_19 y -ℤ pos (gregorian_epact y)
 easter_moon true y = julian_april_19 y -ℤ pos (julian_epact y)
 
--- the calendar of Easter, and the first day of its years
+-- the years of Easter, and the first day of one
 abbrev pub easter_list : Bool → CalendarList
 easter_list false = offset_list (pos 0)
 easter_list true = julian_list
@@ -48,9 +54,13 @@ abbrev pub year_start : Bool → ℤ → ℤ
 year_start false y = gregorian_start y
 year_start true y = julian_start y
 
+-- the year that contains a day
+abbrev pub year_on : CalendarList → ℤ → ℤ
+year_on c n = (date_on c n).year
+
 -- whether a day is that of Easter in the Gregorian or the Julian year that contains it
 abbrev pub is_easter : Bool → ℤ → Bool
-is_easter julian n = is_sunday_behind (easter_moon julian (date_on (easter_list julian) n).year) n
+is_easter julian n = is_sunday_behind (easter_moon julian (year_on (easter_list julian) n)) n
 
 -- whether a day is the weekday of a number in a month
 abbrev pub is_nth : CalendarList → MonthParts → ℤ → Weekday → ℤ → Bool
@@ -59,8 +69,37 @@ is_nth c m nth weekday n =
     has_weekday weekday n
     && (is_month (month_at c t.year t.month) m && is_nth_day nth (month_length c t.year t.month) t.day)
 
--- whether a rule names a day
-abbrev pub names_day : TableContents → Rule → ℤ → Bool
-names_day t (Fixed kind m d leaping) n = is_anniversary (kind_system t kind).list leaping m d n
-names_day t (Easter julian offset) n = is_easter julian (n -ℤ offset)
-names_day t (Nth kind m nth weekday) n = is_nth (kind_system t kind).list m nth weekday n
+-- the numbers of the days of a week
+abbrev pub seven : List ℕ
+seven = 0 ∷ 1 ∷ 2 ∷ 3 ∷ 4 ∷ 5 ∷ 6 ∷ []
+
+-- the day whose week from it on, or up to it, has a day in a place from 0 to 6
+abbrev pub week_end : SpanWeek → ℤ → ℕ → ℤ
+week_end From n k = n -ℤ pos k
+week_end UpTo n k = n +ℤ pos k
+
+-- whether a day is valid, a month and a day fall on it, and its year passes a test
+abbrev pub is_date_in : CalendarList → MonthParts → ℕ → (ℤ → Bool) → ℤ → Bool
+is_date_in c m d kept n = is_valid_day n && (is_anniversary c Exact m d n && kept (year_on c n))
+
+-- whether a day is the rule's own one in a year of its calendar that passes a test
+abbrev pub is_own : CalendarList → Rule → (ℤ → Bool) → ℤ → Bool
+is_own c (Fixed kind m d leaping) kept n = is_anniversary c leaping m d n && kept (year_on c n)
+is_own c (Easter julian offset) kept n =
+    is_easter julian (n -ℤ offset) && kept (year_on (easter_list julian) (n -ℤ offset))
+is_own c (Nth kind m nth weekday) kept n = is_nth c m nth weekday n && kept (year_on c n)
+is_own c (Span kind m d week weekday) kept n =
+    has_weekday weekday n && list_any (λ k. is_date_in c m d kept (week_end week n k)) seven
+
+-- whether a day lies so many days after a Sunday and is the own one of a rule in a year in which it is kept
+abbrev pub is_own_on : CalendarList → Observed → ℤ → ℕ → Bool
+is_own_on c kept n d =
+    nat_eq (floor_mod n 7) d && (is_valid_day n && is_own c kept.rule (is_kept kept.years) n)
+
+-- whether such a day moves to a day
+abbrev pub names_in : CalendarList → Observed → ℤ → Bool
+names_in c kept n = list_any (λ d. is_own_on c kept (n -ℤ move_on kept.moves d) d) seven
+
+-- the same in the rule's calendar
+abbrev pub names_day : TableContents → Observed → ℤ → Bool
+names_day t kept n = names_in (kind_system t (rule_calendar kept.rule)).list kept n

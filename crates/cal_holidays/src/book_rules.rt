@@ -1,27 +1,22 @@
 //! The rules of a book, in calendars over tables.
 
-ghost use Rattle.std.specs.Prelude.{◌≡◌, ◌&&◌, nat_le, true};
+ghost use Rattle.std.specs.Prelude.{◌≡◌, true};
 ghost use Rattle.cal_days.specs.Day.{IsValidDay};
-ghost use Rattle.cal_types.specs.Anniversary.{is_anniversary};
-ghost use Rattle.cal_tables.specs.Kinds.{kind_system, table_contents};
-ghost use Rattle.cal_types.specs.MonthParts.{month_parts};
-ghost use Rattle.cal_holidays.specs.KindMonths.{knows_month};
+ghost use Rattle.cal_tables.specs.Kinds.{table_contents};
 ghost use Rattle.cal_holidays.specs.Merging.{IsFirstDay};
-ghost use Rattle.cal_holidays.specs.MonthDays.{IsNthNumber};
-ghost use Rattle.cal_holidays.specs.Naming.{is_nth, names_day};
-ghost use Rattle.cal_holidays.specs.Rules.{is_nth_number, is_proper, rule_said};
+ghost use Rattle.cal_holidays.specs.Naming.{names_day, names_in};
+ghost use Rattle.cal_holidays.specs.OwnDays.{has_month};
+ghost use Rattle.cal_holidays.specs.Rules.{easter_calendar, is_proper_observed, observed, rule_calendar, rule_said};
 
 use crate::book::Book;
-use crate::easter::first_easter;
+use crate::first_observed::first_observed;
 use crate::holiday_rule::HolidayRule;
-use crate::nth::{NthWeekday, first_nth};
+use crate::observance::Observance;
 use crate::rules::NumberedRules;
-use cal_anniversary::first_anniversary;
 use cal_base::Calendar;
 use cal_days::RataDie;
 use cal_kinds::AnyCalendarKind;
 use cal_tables::Tables;
-use cal_types::{Leaping, Month, Window};
 use kind_calls::{CalendarTask, run_in_kind};
 
 /// The rules of a book, in calendars over tables.
@@ -31,129 +26,68 @@ pub struct BookRules<'b, 't> {
     pub(crate) tables: Tables<'t>,
 }
 
-/// The task of finding the first day of a window on which a month and a day fall.
+/// The task of finding the first day from `first` to `last` that a rule names.
 #[derive(Clone, Copy)]
-struct FirstFixed {
-    month: Month,
-    day: u8,
-    leaping: Leaping,
-    window: Window,
+struct FirstObserved {
+    observance: Observance,
+    first: RataDie,
+    last: RataDie,
 }
 
-impl CalendarTask<()> for FirstFixed {
+impl CalendarTask<()> for FirstObserved {
     type Answer = Option<RataDie>;
 
-    ghost asks = { λ t s _. (s.list.is_of_kind (month_parts t.month) ≡ true)
-        × ((nat_le 1 t.day && nat_le t.day 31) ≡ true) };
+    ghost asks = { λ t s _. (is_proper_observed (observed t.observance) ≡ true)
+        × (has_month s.list (rule_said t.observance.rule) ≡ true) × (IsValidDay t.first) × (IsValidDay t.last) };
 
-    ghost done = { λ t s _ _ day.
-        IsFirstDay (is_anniversary s.list t.leaping (month_parts t.month) t.day) t.window.first t.window.last day };
+    ghost done = { λ t s _ _ day. IsFirstDay (names_in s.list (observed t.observance)) t.first t.last day };
 
     fn run<C: Calendar + Copy>(&self, _nothing: &mut (), calendar: C) -> Option<RataDie> {
-        first_anniversary(&calendar, self.month, self.day, self.leaping, self.window)
+        first_observed(&calendar, self.observance, self.first, self.last)
     }
 }
 
-/// The task of finding the first day from `first` to `last` that is the nth weekday of a month.
-#[derive(Clone, Copy)]
-struct FirstWeekday {
-    asked: NthWeekday,
-    first: RataDie,
-    last: RataDie,
-}
-
-impl CalendarTask<()> for FirstWeekday {
-    type Answer = Option<RataDie>;
-
-    ghost asks = { λ t _ _. (IsNthNumber t.asked.nth) × (IsValidDay t.first) × (IsValidDay t.last) };
-
-    ghost done = { λ t s _ _ day. let asked = t.asked in
-        IsFirstDay (is_nth s.list (month_parts asked.month) asked.nth asked.weekday) t.first t.last day };
-
-    fn run<C: Calendar + Copy>(&self, _nothing: &mut (), calendar: C) -> Option<RataDie> {
-        first_nth(&calendar, self.asked, self.first, self.last)
+/// Returns the calendar of Easter.
+fn easter_calendar(julian: bool) -> AnyCalendarKind
+    ensures { result ≡ easter_calendar julian }
+{
+    if julian {
+        AnyCalendarKind::Julian
+    } else {
+        AnyCalendarKind::Gregorian
     }
 }
 
-/// Returns the first day from `first` to `last` on which a month and a day of the calendar of a kind fall.
-fn first_fixed(
-    tables: &Tables<'_>,
-    calendar: AnyCalendarKind,
-    month: Month,
-    day: u8,
-    leaping: Leaping,
-    first: RataDie,
-    last: RataDie,
-) -> Option<RataDie>
-    requires month { knows_month calendar (month_parts month) ≡ true }
-    requires day { (nat_le 1 day && nat_le day 31) ≡ true }
-    requires from { IsValidDay first }
-    requires to { IsValidDay last }
-    ensures { let list = (kind_system (table_contents tables.now) calendar).list in
-        IsFirstDay (is_anniversary list leaping (month_parts month) day) first last result }
+/// Returns the calendar whose years a rule counts.
+fn calendar_of(rule: HolidayRule) -> AnyCalendarKind
+    ensures { result ≡ rule_calendar (rule_said rule) }
 {
-    let window = Window::try_new(first, last)?;
-    let task = FirstFixed {
-        month,
-        day,
-        leaping,
-        window,
-    };
-    run_in_kind(&task, &mut (), calendar, tables)
-}
-
-/// Returns the first day from `first` to `last` that is the nth weekday of a month of the calendar of a kind.
-fn first_weekday(
-    tables: &Tables<'_>,
-    calendar: AnyCalendarKind,
-    asked: NthWeekday,
-    first: RataDie,
-    last: RataDie,
-) -> Option<RataDie>
-    requires nth { is_nth_number asked.nth ≡ true }
-    requires from { IsValidDay first }
-    requires to { IsValidDay last }
-    ensures { let list = (kind_system (table_contents tables.now) calendar).list in
-        IsFirstDay (is_nth list (month_parts asked.month) asked.nth asked.weekday) first last result }
-{
-    let task = FirstWeekday { asked, first, last };
-    run_in_kind(&task, &mut (), calendar, tables)
+    match rule {
+        HolidayRule::Fixed { calendar, .. } => calendar,
+        HolidayRule::Easter { julian, .. } => easter_calendar(julian),
+        HolidayRule::Nth { calendar, .. } => calendar,
+        HolidayRule::Span { calendar, .. } => calendar,
+    }
 }
 
 /// Returns the first day from `first` to `last` that a rule names.
 fn first_named(
     tables: &Tables<'_>,
-    rule: HolidayRule,
+    observance: Observance,
     first: RataDie,
     last: RataDie,
 ) -> Option<RataDie>
-    requires rule { is_proper (rule_said rule) ≡ true }
+    requires proper { is_proper_observed (observed observance) ≡ true }
     requires from { IsValidDay first }
     requires to { IsValidDay last }
-    ensures { IsFirstDay (names_day (table_contents tables.now) (rule_said rule)) first last result }
+    ensures { IsFirstDay (names_day (table_contents tables.now) (observed observance)) first last result }
 {
-    match rule {
-        HolidayRule::Fixed {
-            calendar,
-            month,
-            day,
-            leaping,
-        } => first_fixed(tables, calendar, month, day, leaping, first, last),
-        HolidayRule::Easter { julian, offset } => first_easter(julian, offset, first, last),
-        HolidayRule::Nth {
-            calendar,
-            month,
-            nth,
-            weekday,
-        } => {
-            let asked = NthWeekday {
-                month,
-                nth,
-                weekday,
-            };
-            first_weekday(tables, calendar, asked, first, last)
-        }
-    }
+    let task = FirstObserved {
+        observance,
+        first,
+        last,
+    };
+    run_in_kind(&task, &mut (), calendar_of(observance.rule), tables)
 }
 
 impl<'b, 't> NumberedRules for BookRules<'b, 't> {
@@ -170,6 +104,6 @@ impl<'b, 't> NumberedRules for BookRules<'b, 't> {
     }
 
     fn first_day(&self, rule: usize, first: RataDie, last: RataDie) -> Option<RataDie> {
-        first_named(&self.tables, self.book.rule(rule), first, last)
+        first_named(&self.tables, self.book.observance(rule), first, last)
     }
 }

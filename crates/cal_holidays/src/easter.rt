@@ -3,38 +3,36 @@
 ghost use Rattle.std.specs.Prelude.{◌-ℤ◌, ◌+ℤ◌, ◌≤ℤ◌, ◌<ℤ◌, pos, neg_ℤ};
 ghost use Rattle.cal_days.specs.Day.{IsBetween, IsValidDay};
 ghost use Rattle.cal_days.specs.Easter.{IsSundayAfter};
-ghost use Rattle.cal_holidays.specs.Naming.{easter_moon, is_easter, year_start};
-ghost use Rattle.cal_holidays.specs.Merging.{IsFirstDay};
+ghost use Rattle.cal_holidays.specs.NamedDays.{IsEasterOf};
+ghost use Rattle.cal_holidays.specs.Naming.{easter_moon, year_start};
+ghost use Rattle.cal_holidays.specs.OwnDays.{AreYearsOf, IsValidOne};
 
-use crate::until::until;
+use crate::own_days::YearSpan;
+use crate::valid_days::{first_valid, last_valid, valid_day};
 use cal_days::{RataDie, gregorian, julian};
 
 /// How many years before and after a day's year have to be searched for an Easter at most 400 days away.
 const YEARS_BESIDE: i32 = 2;
 
-/// Returns the first day from `first` to `last` that lies `offset` days after Easter, or before it if `offset` is
-/// negative.
-pub(crate) fn first_easter(
-    julian: bool,
-    offset: i32,
-    first: RataDie,
-    last: RataDie,
-) -> Option<RataDie>
+/// Returns the day that lies `offset` days after Easter of a year, or before it if `offset` is negative, if it is valid.
+pub(crate) fn easter_day(julian: bool, offset: i32, year: i32) -> Option<RataDie>
     requires near { IsBetween (neg_ℤ (pos 400)) (pos 400) offset }
-    requires from { IsValidDay first }
-    requires to { IsValidDay last }
-    ensures { IsFirstDay (λ n. is_easter julian (n -ℤ offset)) first last result }
+    ensures { IsValidOne (λ n. IsEasterOf julian year (n -ℤ offset)) result }
 {
-    let last_year = year_containing(julian, last) + YEARS_BESIDE;
-    let mut year = year_containing(julian, first) - YEARS_BESIDE;
-    while year <= last_year {
-        let day = easter_and(julian, year, offset);
-        if first.to_i64_date() <= day {
-            return until(day, last);
-        }
-        year += 1;
+    valid_day(easter_and(julian, year, offset))
+}
+
+/// Returns the years whose Easters lie `offset` days before days from one day to another.
+pub(crate) fn easter_years(julian: bool, offset: i32, from: i64, to: i64) -> YearSpan
+    requires near { IsBetween (neg_ℤ (pos 400)) (pos 400) offset }
+    requires from { from ≤ℤ pos 365242134 }
+    requires to { neg_ℤ (pos 365242499) ≤ℤ to }
+    ensures { AreYearsOf (λ y n. IsEasterOf julian y (n -ℤ offset)) from to result }
+{
+    YearSpan {
+        low: year_containing(julian, first_valid(from)) - YEARS_BESIDE,
+        high: year_containing(julian, last_valid(to)) + YEARS_BESIDE,
     }
-    None
 }
 
 /// Returns the number of the day that lies `offset` days after Easter of a year.

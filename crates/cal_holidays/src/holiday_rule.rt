@@ -3,7 +3,16 @@
 use cal_kinds::AnyCalendarKind;
 use cal_types::{Leaping, Month, Weekday};
 
-/// A rule that names days, year after year.
+/// The week in which the weekday of a [`HolidayRule::Span`] lies.
+#[derive(Clone, Copy, Debug, PartialEq, Eq)]
+pub enum SpanWeek {
+    /// The seven days from the day of the month on: the first of the weekday on or after it.
+    From,
+    /// The seven days up to the day of the month: the last of the weekday on or before it.
+    UpTo,
+}
+
+/// A rule that names one day in each year of its calendar, or none.
 ///
 /// Every rule that a [`Book`](crate::Book) returns is in the ranges stated here.
 #[derive(Clone, Copy, Debug, PartialEq)]
@@ -42,6 +51,23 @@ pub enum HolidayRule {
         month: Month,
         /// The number of the weekday in the month: 1 to 5, or -1 for the last.
         nth: i8,
+        /// The weekday.
+        weekday: Weekday,
+    },
+    /// The weekday in the week from a day of a month on, or in the week up to it. The first Sunday of Advent is the
+    /// Sunday in the week from November 27 of the Gregorian calendar.
+    ///
+    /// A year that lacks the month or the day has no such day. If the day found lies in another year than the day of
+    /// the month, it counts for the year of the latter.
+    Span {
+        /// The calendar.
+        calendar: AnyCalendarKind,
+        /// The month, which occurs in some year of the calendar.
+        month: Month,
+        /// The day, from 1 to 31.
+        day: u8,
+        /// Whether the week is that from the day on, or up to it.
+        week: SpanWeek,
         /// The weekday.
         weekday: Weekday,
     },

@@ -11,7 +11,7 @@ pub(crate) enum Unread {
     Bad {
         /// The number of the record, from 1.
         number: usize,
-        /// The number of its first invalid field, from 1; 0 if it doesn't have six fields.
+        /// The number of its first invalid field, from 1; 0 if it doesn't have six to ten fields.
         field: u8,
     },
     /// A record is valid, but there is no memory to keep it.

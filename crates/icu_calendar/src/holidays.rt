@@ -10,4 +10,6 @@
 //! assert!(rt; days.next()?.day.to_i64_date() == 739218); // 2024-11-28
 //! ```
 
-pub use cal_holidays::{Book, BookError, Holiday, HolidayRule, Holidays, Rest, holidays};
+pub use cal_holidays::{
+    Book, BookError, Holiday, HolidayRule, Holidays, Moves, Rest, RuleYears, SpanWeek, holidays,
+};

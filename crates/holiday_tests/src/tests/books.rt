@@ -1,7 +1,7 @@
 //! The names and rules of books.
 
 use super::FOUR;
-use cal_holidays::{Book, HolidayRule};
+use cal_holidays::{Book, HolidayRule, SpanWeek};
 use cal_kinds::AnyCalendarKind;
 use cal_types::{Leaping, Month, Weekday};
 
@@ -56,4 +56,27 @@ fn quotes_enclose_a_field_and_are_no_part_of_it(rt: HostRuntime) {
         offset: -2,
     };
     assert!(rt; book.rule(0) == rule);
+}
+
+#[test]
+fn a_rule_has_years_and_moves(rt: HostRuntime) {
+    let text =
+        b"span,Advent,gregorian,M11,27,-sunday,-12,2024,4,sunday+1 saturday-6\neaster,Easter,gregorian,,0,".as_slice();
+    let book = Book::try_read(rt.alloc(), text).expect(&rt, "no book");
+    assert_eq!(rt; book.len(), 2);
+    let advent = HolidayRule::Span {
+        calendar: AnyCalendarKind::Gregorian,
+        month: Month::new(11),
+        day: 27,
+        week: SpanWeek::UpTo,
+        weekday: Weekday::Sunday,
+    };
+    assert!(rt; book.rule(0) == advent);
+    let years = book.years(0);
+    assert!(rt; years.since == Some(-12) && years.until == Some(2024) && years.every == 4);
+    let moves = book.moves(0);
+    assert!(rt; moves.days[0] == Some(1) && moves.days[6] == Some(-6) && moves.days[1].is_none());
+    let years = book.years(1);
+    assert!(rt; years.since.is_none() && years.until.is_none() && years.every == 1);
+    assert!(rt; book.moves(1).days[0].is_none());
 }

@@ -3,11 +3,11 @@
 use cal_holidays::{Book, BookError};
 
 /// Texts, and the number and the field of the error.
-const REFUSED: [(&[u8], usize, u8); 18] = [
+const REFUSED: [(&[u8], usize, u8); 34] = [
     (b"fixed,X,klingon,M01,1,exact", 1, 3),
     (b"easter,X,gregorian", 1, 0),
     (b"easter,X,gregorian,,0,\neaster,Y,gregorian", 2, 0),
-    (b"easter,X,gregorian,,0,,", 1, 0),
+    (b"easter,X,gregorian,,0,,,,,,", 1, 0),
     (
         b"easter,X,gregorian,,0,\nfixed,,iso,M01,1,exact\n\nfree",
         2,
@@ -26,10 +26,30 @@ const REFUSED: [(&[u8], usize, u8); 18] = [
     (b"easter,X,julian,,0,exact", 1, 6),
     (b"weekday,X,iso,M02,01,sunday", 1, 5),
     (b"weekday,X,iso,M02,1,day", 1, 6),
+    (b"span,X,iso,M13,1,sunday", 1, 4),
+    (b"span,X,iso,M11,0,sunday", 1, 5),
+    (b"span,X,iso,M11,27,--sunday", 1, 6),
+    (b"span,X,iso,M11,27,+sunday", 1, 6),
+    (b"easter,X,gregorian,,0,exact,x", 1, 6),
+    (b"easter,X,gregorian,,0,,1000000", 1, 7),
+    (b"easter,X,gregorian,,0,,+1", 1, 7),
+    (b"easter,X,gregorian,,0,,-,x", 1, 7),
+    (b"easter,X,gregorian,,0,,1,-0000001", 1, 8),
+    (b"easter,X,gregorian,,0,,,,2,x", 1, 9),
+    (b"easter,X,gregorian,,0,,1,,401", 1, 9),
+    (b"easter,X,gregorian,,0,,1,,0", 1, 9),
+    (b"easter,X,gregorian,,0,,,,,saturday-7", 1, 10),
+    (b"easter,X,gregorian,,0,,,,,saturday-1  sunday+1", 1, 10),
+    (b"easter,X,gregorian,,0,,,,,sunday+1 sunday+1", 1, 10),
+    (
+        b"easter,X,gregorian,,0,\neaster,X,gregorian,,0,,,,,saturday1",
+        2,
+        10,
+    ),
 ];
 
 /// Texts with one valid record.
-const READ: [&[u8]; 7] = [
+const READ: [&[u8]; 13] = [
     b"fixed,X,coptic,M13,1,exact",
     b"fixed,X,hebrew,M05L,1,exact",
     b"fixed,X,chinese,M12L,01,constrain",
@@ -37,6 +57,12 @@ const READ: [&[u8]; 7] = [
     b"easter, ,gregorian,,400,\r\n",
     b"weekday,X,iso,M02,5,monday",
     b"\xef\xbb\xbfweekday,X,iso,M02,-1,sunday\n\n",
+    b"easter,X,gregorian,,0,,",
+    b"easter,X,gregorian,,0,,,,,",
+    b"easter,X,gregorian,,0,,-999999,999999,400,",
+    b"easter,X,gregorian,,0,,000001,-0,001,sunday+0",
+    b"span,X,iso,M02,31,-saturday,,,,monday-6 tuesday+6",
+    b"span,X,hebrew,M05L,01,monday,5000",
 ];
 
 #[test]
