@@ -1,13 +1,55 @@
 //! The program `calspan`: dates, differences and lists of days in any calendar. [`run_program`] says what it does.
+//!
+//! Standard output has what the run writes, and nothing else. On standard error stands why a run ended with an exit code
+//! above 1. `--help` and `--version` are answered there, too.
 #![tactic(auto)]
+
+mod usage;
 
 use byte_io::{StdSink, StdSource};
 use calspan_run::run_program;
-use std::env;
+use std::env::Env;
 use std::process::ExitCode;
+use std::{env, io};
+use usage::{USAGE, fault, told, why, written};
+
+/// Returns the first word of the command line. It is empty if there is none, or if it has more than 16 bytes.
+fn first_word<'b>(rt: &HostRuntime, buffer: &'b mut [u8; 16]) -> &'b [u8] {
+    match rt.arg(1, buffer) {
+        Ok(length) => &buffer[..length],
+        Err(_) => &[],
+    }
+}
+
+/// Says on standard error why a run ended with an exit code above 1.
+fn explain(rt: &HostRuntime, code: u8, first: &[u8]) -> io::Result<()> {
+    if code == 2 {
+        eprintln!(rt; "calspan: {}", fault(first))?;
+        return eprint!(rt; "{USAGE}");
+    }
+    match why(code) {
+        None => Ok(()),
+        Some(why) if code == 3 || code == 7 => {
+            eprintln!(rt; "calspan: {why}; {}; see the manual", written(first))
+        }
+        Some(why) => eprintln!(rt; "calspan: {why}; see the manual"),
+    }
+}
 
 fn main(rt: HostRuntime) -> ExitCode {
+    let mut buffer = [0; 16];
+    let first = first_word(&rt, &mut buffer);
+    if let Some(text) = told(first) {
+        return match eprint!(rt; "{text}") {
+            Ok(()) => ExitCode::SUCCESS,
+            Err(_) => ExitCode::FAILURE,
+        };
+    }
     let mut source = StdSource::new(rt.stdin());
     let mut sink = StdSink::new(rt.stdout());
-    ExitCode::from(run_program(rt.alloc(), env::args(&rt), &mut source, &mut sink))
+    let code = run_program(rt.alloc(), env::args(&rt), &mut source, &mut sink);
+    match explain(&rt, code, first) {
+        Ok(()) => ExitCode::from(code),
+        Err(_) => ExitCode::from(code), // standard error can't be written
+    }
 }

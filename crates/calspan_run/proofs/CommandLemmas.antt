@@ -1,10 +1,11 @@
 -- A run of any command: what it says lasts, so that all of its text is written.
 use Rattle.std.proofs.Common.{◌≡◌, ℕ, List, Option, Some, None, ◌↔◌, refl, subst, ◌∙◌}
-use Rattle.calspan_run.specs.Command.{Asked, Span, Generate, Anniversary, Recur, Holidays, Convert}
+use Rattle.calspan_run.specs.Command.{Asked, Span, Generate, Anniversary, Recur, Rrule, Holidays, Convert}
 use Rattle.calspan_run.specs.CommandRuns.{Ends, Runs, RunsAs, ServesAs}
 use Rattle.calspan_run.specs.Laws.{AreLasting}
 use Rattle.calspan_run.specs.ListTexts.{ListsAnniversaries, ListsOccurrences}
-use Rattle.calspan_run.specs.Rules.{generator_rules, holiday_rules, list_rules, span_rules}
+use Rattle.calspan_run.specs.Rules.{end_rules, generator_rules, holiday_rules, list_rules, span_rules}
+use Rattle.calspan_run.specs.RuleLists.{EndsRule}
 use Rattle.calspan_run.specs.Run.{Outside, outside}
 use Rattle.calspan_run.specs.Streaming.{Streams, convert_rules}
 use Rattle.calspan_run.specs.Serving.{Rules, Serves}
@@ -14,7 +15,7 @@ use Rattle.calspan_run.proofs.AnswerLemmas.{span_lasts}
 use Rattle.calspan_run.proofs.ConvertCommandLemmas.{stream_headline}
 use Rattle.calspan_run.proofs.GeneratorLemmas.{generator_lasts}
 use Rattle.calspan_run.proofs.HolidayLemmas.{holidays_last}
-use Rattle.calspan_run.proofs.ListLemmas.{list_lasts}
+use Rattle.calspan_run.proofs.ListLemmas.{end_lasts, list_lasts}
 use Rattle.calspan_run.proofs.ServingLemmas.{headline}
 
 runs_by : (c : Rules) → AreLasting c → (status : Status) (l l2 t t2 : Option (List ℕ)) (r r2 w w2 : ℕ) → Serves c status (outside l t r w) (outside l2 t2 r2 w2) → Runs c status (outside l t r w) (outside l2 t2 r2 w2)
@@ -26,6 +27,7 @@ runs_as Span status l l2 t t2 r r2 w w2 h = runs_by span_rules span_lasts status
 runs_as (Generate count) status l l2 t t2 r r2 w w2 h = runs_by (generator_rules count) (generator_lasts count) status l l2 t t2 r r2 w w2 h
 runs_as (Anniversary asked) status l l2 t t2 r r2 w w2 h = runs_by (list_rules (ListsAnniversaries asked)) (list_lasts (ListsAnniversaries asked)) status l l2 t t2 r r2 w w2 h
 runs_as (Recur asked) status l l2 t t2 r r2 w w2 h = runs_by (list_rules (ListsOccurrences asked)) (list_lasts (ListsOccurrences asked)) status l l2 t t2 r r2 w w2 h
+runs_as (Rrule asked) status l l2 t t2 r r2 w w2 h = runs_by (end_rules (EndsRule asked)) (end_lasts (EndsRule asked)) status l l2 t t2 r r2 w w2 h
 runs_as (Holidays asked) status l l2 t t2 r r2 w w2 h = runs_by (holiday_rules asked) (holidays_last asked) status l l2 t t2 r r2 w w2 h
 runs_as (Convert asked) status l l2 t t2 r r2 w w2 h = record { streams = h; writes = stream_headline asked status l l2 t t2 r r2 w w2 h }
 
@@ -42,6 +44,7 @@ not_words Span status old new h e = no_words span_rules status old new h.serves 
 not_words (Generate count) status old new h e = no_words (generator_rules count) status old new h.serves e
 not_words (Anniversary asked) status old new h e = no_words (list_rules (ListsAnniversaries asked)) status old new h.serves e
 not_words (Recur asked) status old new h e = no_words (list_rules (ListsOccurrences asked)) status old new h.serves e
+not_words (Rrule asked) status old new h e = no_words (end_rules (EndsRule asked)) status old new h.serves e
 not_words (Holidays asked) status old new h e = no_words (holiday_rules asked) status old new h.serves e
 not_words (Convert asked) status old new h e = subst (λ (s : Status). Streams (convert_rules asked) s old new) e h.streams
 

@@ -21,7 +21,7 @@ use Rattle.calspan_run.specs.ConvertAsked.{ConvertAsked}
 use Rattle.calspan_run.specs.Converted.{is_bad, line_text}
 use Rattle.calspan_run.specs.ConvertTexts.{AtEnd, AtLine, Converts, Dated, HeadLine, SaysConvert, SaysFrom, any_bad, head_line}
 use Rattle.calspan_run.specs.Converting.{ConvertsChunk, ConvertsTo, HasConverted, IsConverting, open_lines}
-use Rattle.calspan_run.specs.Endings.{EndsWith}
+use Rattle.calspan_run.specs.Endings.{EndsWith, IsEnd}
 use Rattle.calspan_run.specs.Heading.{AreHead, MetDate, MetHeadEnd, MetLastDate, Said}
 use Rattle.calspan_run.specs.Refusals.{status_of}
 use Rattle.calspan_run.specs.Run.{Outside, outside}
@@ -33,7 +33,6 @@ use Rattle.calspan_run.specs.Written.{WrotePrefix}
 use Rattle.calspan_run.specs.declared.status.Status.{Status}
 use Rattle.calspan_run.specs.declared.status.Status.TheVariants.{Done, TableRefused, WriteFault}
 use Rattle.calspan_run.proofs.ConvertHeadLemmas.{RefusedAt, all_lines, given_all, open_one}
-use Rattle.calspan_run.proofs.EndLemmas.{IsEnd}
 use Rattle.calspan_run.proofs.KnownLemmas.{appends_none}
 use Rattle.calspan_run.proofs.WriterLemmas.{short_more, text_all}
 

@@ -3,17 +3,13 @@ use Rattle.std.proofs.Common.{◌≡◌, ℕ, ◌≤◌, Bool, true, false, List
 use Rattle.std.proofs.lemmas.List.{take_all, take-append-drop}
 use Rattle.std.specs.Io.KnownBytes.{Appends, IsAtEnd}
 use Rattle.byte_io.specs.Faults.{Rose}
-use Rattle.calspan_run.specs.Endings.{EndsWith, MayEnd}
+use Rattle.calspan_run.specs.Endings.{EndsOver, EndsWith, IsEnd, MayEnd}
 use Rattle.calspan_run.specs.Laws.{AreLasting}
 use Rattle.calspan_run.specs.Run.{outside, limit}
 use Rattle.calspan_run.specs.Serving.{Rules, Answered, StoppedWriting, Serves}
 use Rattle.calspan_run.specs.Written.{WrotePrefix}
 use Rattle.calspan_run.specs.declared.status.Status.{Status}
 use Rattle.calspan_run.specs.declared.status.Status.TheVariants.{Done, Refused, TableRefused}
-
--- how a run may end where its text is written
-abbrev pub IsEnd : Status → Type 0
-IsEnd s = (s ≡ Done) ⊎ ((s ≡ Refused) ⊎ (s ≡ TableRefused))
 
 module _ (c : Rules) (lasting : AreLasting c) (left l t t2 : Option (List ℕ)) (faults reads w w2 : ℕ) (text : List ℕ) (status : Status) (h : MayEnd c left l text status) where
   answered : Appends t t2 text → Answered c (outside left t faults w) (outside l t2 reads w2) status
@@ -59,3 +55,8 @@ module _ (c : Rules) (lasting : AreLasting c) (left l t t2 : Option (List ℕ)) 
   pub ends_serve : (result : Status) → IsEnd status → EndsWith result status t t2 w w2 text → Serves c result (outside left t faults w) (outside l t2 reads w2)
   ends_serve result end (inl (e, wrote)) = subst (λ (x : Status). Serves c x (outside left t faults w) (outside l t2 reads w2)) (sym e) (answered_serves end wrote)
   ends_serve result end (inr (e, wrote, rose)) = subst (λ (x : Status). Serves c x (outside left t faults w) (outside l t2 reads w2)) (sym e) (stopped_writing wrote rose)
+
+  -- the same where how it ended says which
+  pub ends_over : (result : Status) → EndsOver result status t t2 w w2 text → Serves c result (outside left t faults w) (outside l t2 reads w2)
+  ends_over result (inl (end, e, wrote)) = ends_serve result end (inl (e, wrote))
+  ends_over result (inr (e, wrote, rose)) = subst (λ (x : Status). Serves c x (outside left t faults w) (outside l t2 reads w2)) (sym e) (stopped_writing wrote rose)

@@ -14,14 +14,15 @@ use Rattle.cal_holidays.specs.Books.{IsBookFault, IsFirstBad, book_records}
 use Rattle.cal_holidays.specs.Items.{holiday_of}
 use Rattle.cal_holidays.specs.Listing.{pair_given}
 use Rattle.cal_holidays.specs.Merging.{pairs_in}
-use Rattle.cal_holidays.specs.Rules.{NamedRule, record_read}
+use Rattle.cal_holidays.specs.Records.{record_read}
+use Rattle.cal_holidays.specs.Rules.{NamedRule}
 use Rattle.cal_holidays.specs.declared.book.BookError.{BookError}
 use Rattle.cal_holidays.specs.declared.book.BookError.TheVariants as book
 use Rattle.cal_holidays.specs.declared.merged.Holiday.{Holiday}
 use Rattle.cal_tables.specs.Kinds.{TableContents}
 use Rattle.calspan_run.specs.Asked.{HolidaysAsked}
 use Rattle.calspan_run.specs.DayLines.{is_refused, is_window, list_text}
-use Rattle.calspan_run.specs.Endings.{EndsWith, MayEnd}
+use Rattle.calspan_run.specs.Endings.{EndsWith, IsEnd, MayEnd}
 use Rattle.calspan_run.specs.HolidayEndings.{EndsHolidays, EndsInput, EndsOverRows, LacksMemory}
 use Rattle.calspan_run.specs.HolidayLines.{book_read, holiday_line, holidays_answer, holidays_by, record_fault, with_record}
 use Rattle.calspan_run.specs.HolidayRuns.{AllRead, HolidayEnds, RowsRefused}
@@ -42,7 +43,7 @@ use Rattle.calspan_run.specs.Serving.{Serves, WantedMemory}
 use Rattle.calspan_run.specs.TextSoFar.{lines_text}
 use Rattle.calspan_run.specs.declared.status.Status.{Status}
 use Rattle.calspan_run.specs.declared.status.Status.TheVariants.{Done, Refused, Words, ReadFault, WriteFault, NoMemory, TableRefused, TooLong}
-use Rattle.calspan_run.proofs.EndLemmas.{IsEnd, ends_serve}
+use Rattle.calspan_run.proofs.EndLemmas.{ends_serve}
 use Rattle.calspan_run.proofs.KnownLemmas.{appends_none}
 
 -- where each record is a holiday, these are the book

@@ -14,12 +14,16 @@ mod GeneratorLemmas
 mod HolidayLemmas
 mod HolidayLineLemmas
 mod KindLimits
+mod KindNear
 mod KnownLemmas
 mod ListLemmas
 mod ListRunLemmas
 mod ListTextLemmas
 mod ListYieldLemmas
 mod ProgramLemmas
+mod RuleListLemmas
+mod RuleYieldLemmas
+mod SameDayLemmas
 mod ServingLemmas
 mod UnderwayLemmas
 mod WordLemmas

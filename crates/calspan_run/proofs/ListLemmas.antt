@@ -6,11 +6,11 @@ use Rattle.cal_tables.specs.Kinds.{TableContents}
 use Rattle.byte_io.specs.Lines.{lines_in}
 use Rattle.calspan_run.specs.Refusals.{status_of}
 use Rattle.calspan_run.specs.BehindRows.{OverTables, SaysAt, SaysBehindRows}
-use Rattle.calspan_run.specs.ListAnswers.{line_refusal, list_behind}
+use Rattle.calspan_run.specs.ListAnswers.{end_behind, line_refusal, list_behind, list_end}
 use Rattle.calspan_run.specs.ListEnds.{AllListed, MetOther, MetFaultyRow, TablesRefused, ListEnds}
 use Rattle.calspan_run.specs.Laws.{EveryInputHas, IsUnique, IsList, AreLasting}
 use Rattle.table_rows.specs.RowLines.{AreRows, RowsEnd, WithLines, AtFaultyRow, AtRequest, EndRows}
-use Rattle.calspan_run.specs.Rules.{list_rules}
+use Rattle.calspan_run.specs.Rules.{end_rules, list_rules}
 use Rattle.calspan_run.specs.Run.{Outside, Exchanged, limit}
 use Rattle.calspan_run.specs.Serving.{Answered, StoppedReading, TookTooMuch, Serves}
 use Rattle.table_rows.specs.TableRows.{TableRows, contents_of}
@@ -22,6 +22,20 @@ use Rattle.table_rows.proofs.RowMemoryLemmas.{row_lacks}
 refused_is_not : (c : Bool) (s : Status) → s ≡ status_of c → s ≡ TableRefused → ⊥
 refused_is_not true s e f = cc
 refused_is_not false s e f = cc
+
+-- a run that goes on is done with no line
+pub list_lasts-done : ((◌≡◌ {A = Status} Done Refused) ⊎ (◌≡◌ {A = Status} Done TableRefused)) → ⊥
+list_lasts-done (inl e) = cc
+list_lasts-done (inr e) = cc
+
+pub end_lasts : (Ends : TableContents → List ℕ → Status → Type 0) → AreLasting (end_rules Ends)
+end_lasts Ends = record {
+  ends = behind_ends (end_behind Ends) (λ status. (status ≡ Refused) ⊎ (status ≡ TableRefused)) (record {
+    done = list_lasts-done;
+    at_line = λ rows n request others more text status ends h. h;
+  });
+  lacks = row_lacks;
+}
 
 module _ (Lists : TableContents → List ℕ → Bool → Type 0) where
   pub list_exists : IsList Lists → EveryInputHas (SaysBehindRows (list_behind Lists))
@@ -36,18 +50,8 @@ module _ (Lists : TableContents → List ℕ → Bool → Type 0) where
     at_line = λ rows n request others x y s t (e, d) (f, g). (e ∙ sym f, d ∙ sym g);
   })
 
-  pub list_lasts-done : ((◌≡◌ {A = Status} Done Refused) ⊎ (◌≡◌ {A = Status} Done TableRefused)) → ⊥
-  list_lasts-done (inl e) = cc
-  list_lasts-done (inr e) = cc
-
   pub list_lasts : AreLasting (list_rules Lists)
-  list_lasts = record {
-    ends = behind_ends (list_behind Lists) (λ status. (status ≡ Refused) ⊎ (status ≡ TableRefused)) (record {
-      done = list_lasts-done;
-      at_line = λ rows n request others more text status ends h. h;
-    });
-    lacks = row_lacks;
-  }
+  list_lasts = end_lasts (list_end Lists)
 
   -- where no line ended the run, nothing is written, and all whole lines are rows
   goes_on : (lines : List (List ℕ)) (rows : TableRows) (end : RowsEnd) (text : List ℕ) (status : Status) → EndRows end lines rows → SaysAt (list_behind Lists) end false rows text status → ((status ≡ Refused) ⊎ (status ≡ TableRefused) → ⊥) → (text ≡ []) × AreRows lines rows

@@ -14,7 +14,7 @@ use Rattle.request_lines.proofs.LineLemmas.{line_says}
 use Rattle.calspan_run.specs.Underway.{AnswersBehind, IsUnderway}
 use Rattle.cal_errors.specs.declared.errors.TableFault.{TableFault}
 use Rattle.calspan_run.specs.BehindRows.{OverTables}
-use Rattle.calspan_run.specs.Endings.{EndsWith, MayEnd}
+use Rattle.calspan_run.specs.Endings.{EndsWith, IsEnd, MayEnd}
 use Rattle.calspan_run.specs.Progress.{standing_of, answered_status}
 use Rattle.table_rows.specs.RowLines.{AreRows, EndBefore, WithLines, AtFaultyRow, AtRequest}
 use Rattle.table_rows.specs.Gathering.{with_open_line, MetEnd, MetFaulty, MetLast, MetOther, MetRequest, Stops}
@@ -38,7 +38,7 @@ use Rattle.table_rows.specs.declared.table.Table.{Table}
 use Rattle.table_rows.proofs.GatheringLemmas.{open_line_is, not_request}
 use Rattle.std.proofs.KnownBytes.{Consumes-kept, Consumes-trans}
 use Rattle.calspan_run.proofs.KnownLemmas.{appends_none, prefix_then}
-use Rattle.calspan_run.proofs.EndLemmas.{IsEnd, ends_serve}
+use Rattle.calspan_run.proofs.EndLemmas.{ends_serve}
 use Rattle.table_rows.proofs.InputLemmas.{consumes_end, lines_in-whole}
 use Rattle.calspan_run.proofs.AnswerLemmas.{answers_append, span_exists, lines_exist, ended_append, span_lasts}
 use Rattle.calspan_run.proofs.WriterLemmas.{text_all, short_more}

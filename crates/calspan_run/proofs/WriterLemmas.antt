@@ -3,10 +3,11 @@ use Rattle.std.proofs.Common.{◌≡◌, ℕ, Bool, OnOk, List, [], ◌∷◌, �
 use Rattle.std.proofs.lemmas.List.{append-nil, append_assoc, take-append-drop}
 use Rattle.std.proofs.lemmas.Iterator.Consumers.{YieldsList-so_far, YieldsList-end}
 use Rattle.std.specs.Iterator.{AlwaysYields, Yields}
-use Rattle.std.specs.Result.{IsErr}
+use Rattle.std.specs.Result.{IsErr, IsOk}
 use Rattle.std.specs.Io.KnownBytes.{Appends}
 use Rattle.byte_io.specs.declared.Failed.{Failed}
-use Rattle.calspan_run.specs.Endings.{Listed}
+use Rattle.calspan_run.specs.Endings.{EndsList}
+use Rattle.calspan_run.specs.declared.status.Status.{Status}
 use Rattle.calspan_run.specs.TextSoFar.{TextSoFar, Pushed, lines_text}
 use Rattle.calspan_run.specs.Written.{WrotePrefix, Wrote}
 use Rattle.calspan_run.proofs.KnownLemmas.{appends_none, appends_then, wrote_behind, prefix_more}
@@ -88,6 +89,11 @@ flushed_all (Ok x) before now pending text h none = text_all before now pending 
 flushed_all (Err e) before now pending text h none = h
 
 -- a list whose text failed to be written
-pub listed_err : (r : Result Bool Failed) (before now : Option (List ℕ)) (Lists : List ℕ → Bool → Type 0) (text : List ℕ) (refused : Bool) → IsErr r → Lists text refused → WrotePrefix before now text → Listed r before now Lists
-listed_err (Ok x) before now Lists text refused failed lists wrote = absurd (true≢false (sym failed))
-listed_err (Err e) before now Lists text refused failed lists wrote = (text, refused, lists, wrote)
+pub ended_err : (r : Result Bool Failed) (before now : Option (List ℕ)) (Ends : List ℕ → Status → Type 0) (text : List ℕ) (status : Status) → IsErr r → Ends text status → WrotePrefix before now text → EndsList r before now Ends
+ended_err (Ok x) before now Ends text status failed ends wrote = absurd (true≢false (sym failed))
+ended_err (Err e) before now Ends text status failed ends wrote = (text, status, ends, wrote)
+
+-- a result isn't both
+pub not_both : {T E P : Type 0} (r : Result T E) → IsOk r → IsErr r → P
+not_both (Ok x) ok err = absurd (true≢false (sym err))
+not_both (Err e) ok err = absurd (true≢false (sym ok))

@@ -12,8 +12,9 @@ use Rattle.cal_recur.specs.declared.rule.Rule.{Rule}
 use Rattle.cal_tables.specs.Kinds.{TableContents}
 use Rattle.calspan_run.specs.Anniversaries.{unless_fault}
 use Rattle.calspan_run.specs.Asked.{RecurAsked}
-use Rattle.calspan_run.specs.DayLines.{IsListText, is_window, occurrence_line}
-use Rattle.calspan_run.specs.Endings.{Listed}
+use Rattle.calspan_run.specs.DayLines.{IsListEnd, IsListText, is_window, occurrence_line}
+use Rattle.calspan_run.specs.Endings.{EndsList}
+use Rattle.calspan_run.specs.ListAnswers.{list_end}
 use Rattle.calspan_run.specs.ListTexts.{ListsOccurrences}
 use Rattle.calspan_run.specs.Recurrences.{IsRecurAnswer, answer_by_rule, occurrence_lines}
 use Rattle.calspan_run.specs.TextSoFar.{lines_text}
@@ -24,9 +25,9 @@ lines_listed None lines e = (refl, refl)
 lines_listed (Some f) lines e = cc
 
 -- a window that is none is refused
-pub window_refused : (r : Result Bool Failed) (before now : Option (List ℕ)) (window : Bool) (x : Result (List ℕ) (List ℕ)) → window ≡ false → Listed r before now (IsListText (Err (codes "InvalidWindow"))) → Listed r before now (IsListText (cond window x (Err (codes "InvalidWindow"))))
+pub window_refused : (r : Result Bool Failed) (before now : Option (List ℕ)) (window : Bool) (x : Result (List ℕ) (List ℕ)) → window ≡ false → EndsList r before now (IsListEnd (Err (codes "InvalidWindow"))) → EndsList r before now (IsListEnd (cond window x (Err (codes "InvalidWindow"))))
 window_refused r before now window x e h =
-    subst (λ (b : Bool). Listed r before now (IsListText (cond b x (Err (codes "InvalidWindow"))))) (sym e) h
+    subst (λ (b : Bool). EndsList r before now (IsListEnd (cond b x (Err (codes "InvalidWindow"))))) (sym e) h
 
 -- where the fields name a start, the lines are the text
 pub occurrences_listed : (c shown : CalendarSystem) (a : RecurAsked) (rule : Rule) (o : Result Date DateFromFieldsError) (t : Date) → Ok t ≡ o → IsListText (occurrence_lines c shown a rule o) (lines_text (occurrence_line c shown) (occurrences c t rule a.header.first a.header.last)) false
@@ -34,9 +35,9 @@ occurrences_listed c shown a rule o t e =
     subst (λ (x : Result Date DateFromFieldsError). IsListText (occurrence_lines c shown a rule x) (lines_text (occurrence_line c shown) (occurrences c t rule a.header.first a.header.last)) false) e (refl, refl)
 
 -- the text of an answer of `recur`
-recur_listed : (r : Result Bool Failed) (before now : Option (List ℕ)) (a : RecurAsked) (tables : TableContents) (x : Result (List ℕ) (List ℕ)) → IsRecurAnswer a tables x → Listed r before now (IsListText x) → Listed r before now (ListsOccurrences a tables)
-recur_listed (Ok refused) before now a tables x is (text, lists, wrote) = (text, (x, is, lists), wrote)
-recur_listed (Err e) before now a tables x is (text, refused, lists, wrote) = (text, refused, (x, is, lists), wrote)
+recur_listed : (r : Result Bool Failed) (before now : Option (List ℕ)) (a : RecurAsked) (tables : TableContents) (x : Result (List ℕ) (List ℕ)) → IsRecurAnswer a tables x → EndsList r before now (IsListEnd x) → EndsList r before now (list_end (ListsOccurrences a) tables)
+recur_listed (Ok refused) before now a tables x is (text, (r, lists, e), wrote) = (text, (r, (x, is, lists), e), wrote)
+recur_listed (Err f) before now a tables x is (text, status, (r, lists, e), wrote) = (text, status, (r, (x, is, lists), e), wrote)
 
 module _ (r : Result Bool Failed) (before now : Option (List ℕ)) (a : RecurAsked) (tables : TableContents) where
   abbrev Every : Result (List ℕ) (List ℕ) → Bool → Type 0
@@ -45,12 +46,12 @@ module _ (r : Result Bool Failed) (before now : Option (List ℕ)) (a : RecurAsk
   in_window : (x : Result (List ℕ) (List ℕ)) → is_window a.header.first a.header.last ≡ true → Every x (a.header.every == 0) → IsRecurAnswer a tables x
   in_window x e h = subst (λ (b : Bool). MatchBool b (Every x (a.header.every == 0)) (x ≡ Err (codes "InvalidWindow"))) (sym e) h
 
-  pub recur_window_refused : is_window a.header.first a.header.last ≡ false → Listed r before now (IsListText (Err (codes "InvalidWindow"))) → Listed r before now (ListsOccurrences a tables)
+  pub recur_window_refused : is_window a.header.first a.header.last ≡ false → EndsList r before now (IsListEnd (Err (codes "InvalidWindow"))) → EndsList r before now (list_end (ListsOccurrences a) tables)
   recur_window_refused e h =
       let x : Result (List ℕ) (List ℕ) = Err (codes "InvalidWindow") in
       recur_listed r before now a tables x (subst (λ (b : Bool). MatchBool b (Every x (a.header.every == 0)) (x ≡ Err (codes "InvalidWindow"))) (sym e) refl) h
 
-  pub every_refused : is_window a.header.first a.header.last ≡ true → a.header.every ≡ 0 → Listed r before now (IsListText (Err (codes "Every"))) → Listed r before now (ListsOccurrences a tables)
+  pub every_refused : is_window a.header.first a.header.last ≡ true → a.header.every ≡ 0 → EndsList r before now (IsListEnd (Err (codes "Every"))) → EndsList r before now (list_end (ListsOccurrences a) tables)
   every_refused window none h =
       let x : Result (List ℕ) (List ℕ) = Err (codes "Every") in
       recur_listed r before now a tables x (in_window x window (subst (Every x) (sym (ap (λ (n : ℕ). n == 0) none)) refl)) h
@@ -58,7 +59,7 @@ module _ (r : Result Bool Failed) (before now : Option (List ℕ)) (a : RecurAsk
   some_every : (n : ℕ) → 0 < n → (n == 0) ≡ false
   some_every n h = ⊎_elim (λ (e : ((n == 0) ≡ true) × (n ≡ 0)). absurd (omega (arith, h, e.1))) (λ (e : ((n == 0) ≡ false) × (n ≢ 0)). e.0) (eqb_tells n 0)
 
-  pub rule_listed : (rule : Rule) → is_window a.header.first a.header.last ≡ true → IsRule a.header.unit a.header.every a.header.missing rule → Listed r before now (IsListText (answer_by_rule a tables rule)) → Listed r before now (ListsOccurrences a tables)
+  pub rule_listed : (rule : Rule) → is_window a.header.first a.header.last ≡ true → IsRule a.header.unit a.header.every a.header.missing rule → EndsList r before now (IsListEnd (answer_by_rule a tables rule)) → EndsList r before now (list_end (ListsOccurrences a) tables)
   rule_listed rule window is h =
       let x = answer_by_rule a tables rule in
       let some : 0 < a.header.every = subst (λ (n : ℕ). 0 < n) is.every rule.some in

@@ -5,6 +5,7 @@ use Rattle.word_values.specs.Numbers.{number_of}
 use Rattle.request_lines.specs.Words.{is_text}
 use Rattle.request_lines.specs.Reading.{next_word, and_then}
 use Rattle.calspan_run.specs.ConvertAsked.{ConvertAsked, convert_read}
+use Rattle.calspan_run.specs.RruleAsked.{RruleAsked, rrule_of}
 use Rattle.calspan_run.specs.Asked.{AnniversaryAsked, HolidaysAsked, RecurAsked, anniversary_read, holidays_read, recur_of}
 
 -- answers to the lines of an input, counts and sums over the answers to so many requests, a list, or dates in a second
@@ -14,6 +15,7 @@ pub data Asked : Type 0 where
   Generate : ℕ → Asked
   Anniversary : AnniversaryAsked → Asked
   Recur : RecurAsked → Asked
+  Rrule : RruleAsked → Asked
   Holidays : HolidaysAsked → Asked
   Convert : ConvertAsked → Asked
 
@@ -49,8 +51,9 @@ named_of name words =
     else (if is_text name (codes "gen") then generate_of words
     else (if is_text name (codes "anniversary") then anniversary_of words
     else (if is_text name (codes "recur") then option_map Recur (recur_of words)
+    else (if is_text name (codes "rrule") then option_map Rrule (rrule_of words)
     else (if is_text name (codes "holidays") then holidays_of words
-    else (if is_text name (codes "convert") then convert_of words else None)))))
+    else (if is_text name (codes "convert") then convert_of words else None))))))
 
 -- the word `span` alone; the word `gen` and a number of requests; or the name of a list and its words
 abbrev pub command_of : List (List ℕ) → Option Asked
@@ -63,5 +66,6 @@ is_command Span = ⊤
 is_command (Generate n) = n ≤ 100000
 is_command (Anniversary asked) = ⊤
 is_command (Recur asked) = ⊤
+is_command (Rrule asked) = ⊤
 is_command (Holidays asked) = ⊤
 is_command (Convert asked) = ⊤

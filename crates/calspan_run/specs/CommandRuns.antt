@@ -1,8 +1,9 @@
 -- How a run of any command ends, and how the program does.
 use Rattle.std.specs.Prelude.{◌≡◌, ◌≢◌, ◌≤◌, ℕ, true, List, ◌⊎◌, Option, Some, None, IfSome, length}
-use Rattle.calspan_run.specs.Command.{Asked, Span, Generate, Anniversary, Recur, Holidays, Convert, command_of}
+use Rattle.calspan_run.specs.Command.{Asked, Span, Generate, Anniversary, Recur, Rrule, Holidays, Convert, command_of}
 use Rattle.calspan_run.specs.ListTexts.{ListsAnniversaries, ListsOccurrences}
-use Rattle.calspan_run.specs.Rules.{generator_rules, holiday_rules, list_rules, span_rules}
+use Rattle.calspan_run.specs.Rules.{end_rules, generator_rules, holiday_rules, list_rules, span_rules}
+use Rattle.calspan_run.specs.RuleLists.{EndsRule}
 use Rattle.calspan_run.specs.Run.{Outside, NoFault, limit}
 use Rattle.calspan_run.specs.Serving.{IsAnswered, Rules, Serves}
 use Rattle.calspan_run.specs.Status.{code_of}
@@ -16,6 +17,7 @@ ServesAs Span status old new = Serves span_rules status old new
 ServesAs (Generate count) status old new = Serves (generator_rules count) status old new
 ServesAs (Anniversary asked) status old new = Serves (list_rules (ListsAnniversaries asked)) status old new
 ServesAs (Recur asked) status old new = Serves (list_rules (ListsOccurrences asked)) status old new
+ServesAs (Rrule asked) status old new = Serves (end_rules (EndsRule asked)) status old new
 ServesAs (Holidays asked) status old new = Serves (holiday_rules asked) status old new
 ServesAs (Convert asked) status old new = Streams (convert_rules asked) status old new
 
@@ -33,6 +35,7 @@ RunsAs Span status old new = Runs span_rules status old new
 RunsAs (Generate count) status old new = Runs (generator_rules count) status old new
 RunsAs (Anniversary asked) status old new = Runs (list_rules (ListsAnniversaries asked)) status old new
 RunsAs (Recur asked) status old new = Runs (list_rules (ListsOccurrences asked)) status old new
+RunsAs (Rrule asked) status old new = Runs (end_rules (EndsRule asked)) status old new
 RunsAs (Holidays asked) status old new = Runs (holiday_rules asked) status old new
 RunsAs (Convert asked) status old new = RunsStream (convert_rules asked) status old new
 

@@ -4,12 +4,13 @@ use Rattle.cal_types.specs.MonthParts.{month_parts}
 use Rattle.calspan_run.specs.Asked as asked
 use Rattle.calspan_run.specs.Command as command
 use Rattle.calspan_run.specs.ConvertSaid.{convert_said}
+use Rattle.calspan_run.specs.RruleSaid.{rrule_said}
 use Rattle.calspan_run.specs.declared.anniversary.words.AnniversaryWords.{AnniversaryWords}
 use Rattle.calspan_run.specs.declared.holidays.words.HolidayWords.{HolidayWords}
 use Rattle.calspan_run.specs.declared.recur.words.RecurHeader.{RecurHeader}
 use Rattle.calspan_run.specs.declared.recur.words.RecurWords.{RecurWords}
 use Rattle.calspan_run.specs.declared.command.Command.{Command}
-use Rattle.calspan_run.specs.declared.command.Command.TheVariants.{Span, Generate, Anniversary, Recur, Holidays, Convert}
+use Rattle.calspan_run.specs.declared.command.Command.TheVariants.{Span, Generate, Anniversary, Recur, Rrule, Holidays, Convert}
 
 abbrev pub anniversary_said : AnniversaryWords → asked.AnniversaryAsked
 anniversary_said w =
@@ -47,5 +48,6 @@ command_said Span = command.Span
 command_said (Generate n) = command.Generate n
 command_said (Anniversary w) = command.Anniversary (anniversary_said w)
 command_said (Recur w) = command.Recur (recur_said w)
+command_said (Rrule w) = command.Rrule (rrule_said w)
 command_said (Holidays w) = command.Holidays (holidays_said w)
 command_said (Convert w) = command.Convert (convert_said w)

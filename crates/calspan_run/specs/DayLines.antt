@@ -6,6 +6,8 @@ use Rattle.cal_types.specs.CalendarSystem.{CalendarSystem}
 use Rattle.cal_types.specs.DayDates.{date_on}
 use Rattle.cal_recur.specs.declared.recurrence.Occurrence.{Occurrence}
 use Rattle.reply_texts.specs.DateTexts.{day_text}
+use Rattle.calspan_run.specs.Refusals.{status_of}
+use Rattle.calspan_run.specs.declared.status.Status.{Status}
 
 -- the line of a day: its date in a calendar, and its date in the one that is shown
 abbrev pub day_line : CalendarSystem → CalendarSystem → ℤ → List ℕ
@@ -31,3 +33,7 @@ is_refused (Err why) = true
 -- the text of a list, and whether it is refused
 abbrev pub IsListText : Result (List ℕ) (List ℕ) → List ℕ → Bool → Type 0
 IsListText answer text refused = (text ≡ list_text answer) × (refused ≡ is_refused answer)
+
+-- the text of a list, and the status that it ends with
+abbrev pub IsListEnd : Result (List ℕ) (List ℕ) → List ℕ → Status → Type 0
+IsListEnd answer text status = (refused : Bool) × IsListText answer text refused × (status ≡ status_of refused)

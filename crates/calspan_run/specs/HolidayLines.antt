@@ -4,7 +4,8 @@ use Rattle.std.specs.Fmt.{decimal}
 use Rattle.cal_base.specs.IsoSystem.{iso_system}
 use Rattle.cal_holidays.specs.BookNames.{holidays_in}
 use Rattle.cal_holidays.specs.Books.{book_records}
-use Rattle.cal_holidays.specs.Rules.{NamedRule, record_read}
+use Rattle.cal_holidays.specs.Records.{record_read}
+use Rattle.cal_holidays.specs.Rules.{NamedRule}
 use Rattle.cal_types.specs.DayDates.{date_on}
 use Rattle.cal_tables.specs.Kinds.{TableContents}
 use Rattle.reply_texts.specs.DateTexts.{date_text}

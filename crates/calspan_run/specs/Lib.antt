@@ -29,6 +29,10 @@ pub mod Progress
 pub mod Recurrences
 pub mod Refusals
 pub mod Replies
+pub mod RruleAsked
+pub mod RruleSaid
+pub mod RuleErrors
+pub mod RuleLists
 pub mod Rules
 pub mod Run
 pub mod Serving

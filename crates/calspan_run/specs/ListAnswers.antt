@@ -18,8 +18,11 @@ abbrev pub list_end : (TableContents → List ℕ → Bool → Type 0) → Table
 list_end Lists tables text status = (refused : Bool) × Lists tables text refused × (status ≡ status_of refused)
 
 -- any line but a row line is refused, whatever the tables are
-abbrev pub list_behind : (TableContents → List ℕ → Bool → Type 0) → Behind
-list_behind Lists = record {
-  AtEnd = list_end Lists;
+abbrev pub end_behind : (TableContents → List ℕ → Status → Type 0) → Behind
+end_behind Ends = record {
+  AtEnd = Ends;
   AtLine = λ rows n request others text status. (text ≡ line_refusal n request) × (status ≡ Refused);
 }
+
+abbrev pub list_behind : (TableContents → List ℕ → Bool → Type 0) → Behind
+list_behind Lists = end_behind (list_end Lists)

@@ -8,7 +8,7 @@ use Rattle.calspan_run.specs.BookRows.{behind_lines}
 use Rattle.calspan_run.specs.DayLines.{is_refused, list_text}
 use Rattle.calspan_run.specs.Generator.{IsGenerated}
 use Rattle.calspan_run.specs.HolidayLines.{holidays_answer}
-use Rattle.calspan_run.specs.ListAnswers.{list_behind}
+use Rattle.calspan_run.specs.ListAnswers.{end_behind, list_end}
 use Rattle.calspan_run.specs.Refusals.{status_of}
 use Rattle.table_rows.specs.RowLines.{RowTakesMemory}
 use Rattle.calspan_run.specs.Serving.{Rules}
@@ -25,14 +25,18 @@ span_rules = record {
   KeepsInput = ⊥;
 }
 
--- a list over the tables: any line that is no row line ends the run too
-abbrev pub list_rules : (TableContents → List ℕ → Bool → Type 0) → Rules
-list_rules Lists = record {
-  Says = SaysBehindRows (list_behind Lists);
+-- a list over the tables, by the status that it ends with: any line that is no row line ends the run too
+abbrev pub end_rules : (TableContents → List ℕ → Status → Type 0) → Rules
+end_rules Ends = record {
+  Says = SaysBehindRows (end_behind Ends);
   EndsAtLine = λ status. (status ≡ Refused) ⊎ (status ≡ TableRefused);
   MayLack = λ bytes whole. RowTakesMemory (lines_in bytes whole);
   KeepsInput = ⊥;
 }
+
+-- the same where the text is the list, or the line that refuses it
+abbrev pub list_rules : (TableContents → List ℕ → Bool → Type 0) → Rules
+list_rules Lists = end_rules (list_end Lists)
 
 -- `gen`: the line of so many requests is written, whatever the input is
 abbrev pub generator_rules : ℕ → Rules

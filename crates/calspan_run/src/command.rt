@@ -11,6 +11,7 @@ use crate::command_words::CommandWords;
 use crate::convert::words::{ConvertWords, read_convert};
 use crate::holidays::words::{HolidayWords, read_holidays};
 use crate::recur::words::{RecurWords, read_recur};
+use crate::rrule::words::{RruleWords, read_rrule};
 use word_values::read_number;
 
 /// The most requests of `gen`.
@@ -27,6 +28,8 @@ pub enum Command<'a> {
     Anniversary(AnniversaryWords),
     /// `recur CAL SHOWN UNIT EVERY skip|constrain FIRST LAST FIELDS`: list the occurrences of a rule.
     Recur(RecurWords<'a>),
+    /// `rrule CAL SHOWN FIRST LAST START RULE`: list the occurrences of a recurrence rule of iCalendar.
+    Rrule(RruleWords<'a>),
     /// `holidays FIRST LAST`: list the holidays of a book.
     Holidays(HolidayWords),
     /// `convert CAL SHOWN constrain|reject`: write the date of each line in a second calendar.
@@ -110,6 +113,9 @@ fn read_words(mut words: CommandWords<'_>) -> Option<Command<'_>>
     }
     if name == b"recur".as_slice() {
         return Some(Command::Recur(read_recur(words)?));
+    }
+    if name == b"rrule".as_slice() {
+        return Some(Command::Rrule(read_rrule(words)?));
     }
     if name == b"holidays".as_slice() {
         return read_window(words);

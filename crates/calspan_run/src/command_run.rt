@@ -35,6 +35,7 @@ fn run_command<S: Source, K: Sink>(
         Command::Generate(count) => serve_totals(count, sink),
         Command::Anniversary(asked) => serve_list(alloc, &asked, source, sink),
         Command::Recur(asked) => serve_list(alloc, &asked, source, sink),
+        Command::Rrule(asked) => serve_list(alloc, &asked, source, sink),
         Command::Holidays(asked) => serve_holidays(alloc, asked, source, sink),
         Command::Convert(asked) => serve_convert(alloc, asked, source, sink),
     }
@@ -72,6 +73,7 @@ fn run_read<S: Source, K: Sink>(
 /// | `gen COUNT` | nothing | one line of counts and sums | `Done` |
 /// | `anniversary ..` | row lines | a line for each anniversary | `Done`, `Refused`, `TableRefused` |
 /// | `recur ..` | row lines | a line for each occurrence | `Done`, `Refused`, `TableRefused` |
+/// | `rrule ..` | row lines | a line for each occurrence | `Done`, `Refused`, `TableRefused` |
 /// | `holidays FIRST LAST` | row lines, then a book | a line for each holiday | `Done`, `Refused`, `TableRefused` |
 /// | `convert ..` | row lines, then dates | a line for each date | `Done`, `Refused`, `TableRefused` |
 ///
@@ -82,6 +84,9 @@ fn run_read<S: Source, K: Sink>(
 /// - `recur CAL SHOWN UNIT EVERY skip|constrain FIRST LAST FIELDS` lists the occurrences of a rule: the date of the
 ///   fields with 0, 1, 2, .. times `EVERY` `years`, `months`, `weeks` or `days` added. A line has the index, the date
 ///   in `CAL` and the date in `SHOWN`.
+/// - `rrule CAL SHOWN FIRST LAST START RULE` lists the occurrences of a recurrence rule of iCalendar (RFC 5545 and RFC
+///   7529) in the calendar `CAL`. `START` is a day number or fields, `RULE` the text of the rule. A line has the index,
+///   the date in `CAL` and the date in `SHOWN`.
 /// - `holidays` reads a book (see [`cal_holidays`]): the input from its first line on that is neither ignored nor a row
 ///   line. A line has the date in the ISO calendar and the holiday's name. The lines are in order of their days, and on
 ///   one day in the order of the book.
@@ -96,10 +101,12 @@ fn run_read<S: Source, K: Sink>(
 /// - `err InvalidWindow` if `FIRST` and `LAST` aren't valid days in order.
 /// - `anniversary`: `err MonthNotInCalendar`, then `err InvalidDay`.
 /// - `recur`: `err Every` if `EVERY` is 0, then `err` with the first invalid field.
+/// - `rrule`: `err` with the first error of the rule ([`RuleError`](cal_rule::RuleError)) and the part that it is about,
+///   then `err Overflow` for a day number that isn't valid, or `err` with the first invalid field.
 /// - `holidays`: `err record R field F` for the first invalid record and its first invalid field. `F` is 0 if the
-///   record doesn't have six fields.
+///   record doesn't have six to ten fields.
 ///
-/// With `anniversary` and `recur`, the first line that isn't a row line ends the run with `err line N syntax` or
+/// With `anniversary`, `recur` and `rrule`, the first line that isn't a row line ends the run with `err line N syntax` or
 /// `err line N long`.
 ///
 /// The status says how the run ended.
@@ -110,7 +117,8 @@ fn run_read<S: Source, K: Sink>(
 ///   (`table NAME ROW PART`). The answers before it and the line about it are written.
 /// - `ReadFault`: the source counted a fault. With `span` and `convert`, the answers to all lines whose LF was read are
 ///   written; otherwise nothing.
-/// - `WriteFault`: the sink counted a fault. A prefix of the text is written; its length isn't specified.
+/// - `WriteFault`: the sink counted a fault. A prefix of the text is written; its length isn't specified. With `rrule` it
+///   is a prefix of the lines of the occurrences up to a day of the window.
 /// - `TooLong`: the source has more than 16777216 bytes. With `span`, the answers to all lines whose LF is among the
 ///   first 16777216 bytes are written; otherwise nothing. With `convert`, 18446744073709551615 reads were made.
 /// - `NoMemory`: there was no memory for a row of a year, with `holidays` for the input, or with `convert` for a line.

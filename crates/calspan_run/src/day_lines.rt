@@ -44,8 +44,9 @@ pub(crate) fn push_day_line<C: Calendar>(text: &mut Pending, form: &DayForm<'_, 
 ghost use Rattle.std.specs.Prelude.{MatchOption, Err, length, true, false};
 ghost use Rattle.cal_types.specs.declared.window.Window.{Window};
 ghost use Rattle.byte_io.specs.Faults.{HasCause};
-ghost use Rattle.calspan_run.specs.DayLines.{is_window, IsListText};
-ghost use Rattle.calspan_run.specs.Endings.{Listed};
+ghost use Rattle.calspan_run.specs.DayLines.{is_window, IsListEnd, list_text};
+ghost use Rattle.calspan_run.specs.Endings.{EndsList};
+ghost use Rattle.calspan_run.specs.Written.{Wrote};
 
 /// Returns the window from the day number `first` to `last`. `None` exactly if they aren't valid days in order.
 pub(crate) fn window_of(first: i32, last: i32) -> Option<Window>
@@ -58,16 +59,25 @@ pub(crate) fn window_of(first: i32, last: i32) -> Option<Window>
     )
 }
 
-/// Writes an `err` line in place of a list. The reason has at most 100 bytes.
-pub(crate) fn refuse_list<K: Sink>(why: &[u8], sink: &mut K) -> Result<bool, Failed>
+/// Writes an `err` line. The reason has at most 100 bytes.
+fn write_refusal<K: Sink>(why: &[u8], sink: &mut K) -> Result<(), Failed>
     requires { length why.now ≤ 100 }
-    ensures listed { Listed result (K.taken sink.old) (K.taken sink.new) (IsListText (Err why.now)) }
+    ensures wrote { Wrote result (K.taken sink.old) (K.taken sink.new) (list_text (Err why.now)) }
     ensures cause { HasCause (K.faults sink.old) (K.faults sink.new) result }
 {
     let mut text = Pending::new();
     push_all(&mut text, b"err ");
     push_all(&mut text, why);
     text.push(b'\n');
-    write_all(&text, sink)?;
+    write_all(&text, sink)
+}
+
+/// Writes an `err` line in place of a list. The reason has at most 100 bytes.
+pub(crate) fn refuse_list<K: Sink>(why: &[u8], sink: &mut K) -> Result<bool, Failed>
+    requires { length why.now ≤ 100 }
+    ensures listed { EndsList result (K.taken sink.old) (K.taken sink.new) (IsListEnd (Err why.now)) }
+    ensures cause { HasCause (K.faults sink.old) (K.faults sink.new) result }
+{
+    write_refusal(why, sink)?;
     Ok(true)
 }

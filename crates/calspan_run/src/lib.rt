@@ -24,6 +24,7 @@ pub mod lists;
 mod program;
 mod recur;
 mod row_refusals;
+mod rrule;
 mod span;
 mod status;
 pub mod writer;

@@ -5,10 +5,9 @@ ghost use Rattle.cal_types.specs.CalendarSystem.{CalendarSystem};
 ghost use Rattle.cal_tables.specs.Kinds.{TableContents, table_contents};
 ghost use Rattle.calspan_run.specs.Refusals.{refusal};
 ghost use Rattle.calspan_run.specs.BehindRows.{OverTables};
-ghost use Rattle.calspan_run.specs.Endings.{EndsWith, Listed};
-ghost use Rattle.calspan_run.specs.ListAnswers.{list_end};
+ghost use Rattle.calspan_run.specs.Endings.{EndsList, EndsOver, EndsWith};
 ghost use Rattle.table_rows.specs.RowsSaid.{rows_said};
-ghost use Rattle.calspan_run.specs.Rules.{list_rules};
+ghost use Rattle.calspan_run.specs.Rules.{end_rules};
 ghost use Rattle.calspan_run.specs.Run.{outside};
 ghost use Rattle.calspan_run.specs.Serving.{Serves};
 ghost use Rattle.calspan_run.specs.declared.status.Status.{Status};
@@ -24,8 +23,8 @@ use table_rows::{Gathered, TableRows, gather};
 
 /// A list over tables.
 pub trait TableList {
-    /// The text over some tables, and whether it is an `err` line instead of the list.
-    ghost lists: { Self → TableContents → List ℕ → Bool → Type 0 };
+    /// The text over some tables, and the status that it ends with.
+    ghost ends: { Self → TableContents → List ℕ → Status → Type 0 };
 
     /// Writes the list, or one `err` line instead. Returns whether the text is an `err` line.
     ///
@@ -33,15 +32,18 @@ pub trait TableList {
     ///
     /// - [`Failed`] if the sink counted a fault. A prefix of the text is written.
     fn write<K: Sink>(&self, tables: &Tables<'_>, sink: &mut K) -> Result<bool, Failed>
-        ensures listed { Listed result (K.taken sink.old) (K.taken sink.new)
-            (lists self.now (table_contents tables.now)) }
+        ensures listed { EndsList result (K.taken sink.old) (K.taken sink.new)
+            (ends self.now (table_contents tables.now)) }
         ensures cause { HasCause (K.faults sink.old) (K.faults sink.new) result };
 }
 
 /// A list in one calendar, shown in others over tables.
 pub trait CalendarListing {
-    /// The text in a calendar and over some tables, and whether it is an `err` line instead of the list.
-    ghost lists_in: { Self → CalendarSystem → TableContents → List ℕ → Bool → Type 0 };
+    /// The condition on the calendar.
+    ghost asks_in: { Self → CalendarSystem → Type 0 };
+
+    /// The text in a calendar and over some tables, and the status that it ends with.
+    ghost ends_in: { Self → CalendarSystem → TableContents → List ℕ → Status → Type 0 };
 
     /// Writes the list in a calendar, or one `err` line instead. Returns whether the text is an `err` line.
     ///
@@ -54,8 +56,9 @@ pub trait CalendarListing {
         tables: &Tables<'_>,
         sink: &mut K,
     ) -> Result<bool, Failed>
-        ensures listed { Listed result (K.taken sink.old) (K.taken sink.new)
-            (lists_in self.now (C.system calendar) (table_contents tables.now)) }
+        requires { asks_in self.now (C.system calendar) }
+        ensures listed { EndsList result (K.taken sink.old) (K.taken sink.new)
+            (ends_in self.now (C.system calendar) (table_contents tables.now)) }
         ensures cause { HasCause (K.faults sink.old) (K.faults sink.new) result };
 }
 
@@ -73,8 +76,8 @@ fn refuse_line<K: Sink>(number: u64, is_long: bool, sink: &mut K) -> Status
 /// Writes the list over the tables of the rows, or the line for an invalid table.
 fn list_over<L: TableList, K: Sink>(rows: &TableRows, list: &L, sink: &mut K) -> Status
     ensures { (text : List ℕ) × (status : Status)
-        × OverTables (list_end (L.lists list.now)) (rows_said rows.now) text status
-        × EndsWith result status (K.taken sink.old) (K.taken sink.new) (K.faults sink.old) (K.faults sink.new) text }
+        × OverTables (L.ends list.now) (rows_said rows.now) text status
+        × EndsOver result status (K.taken sink.old) (K.taken sink.new) (K.faults sink.old) (K.faults sink.new) text }
 {
     let tables = match rows.tables() {
         Ok(tables) => tables,
@@ -95,7 +98,7 @@ pub fn serve_list<L: TableList, S: Source, K: Sink>(
     source: &mut S,
     sink: &mut K,
 ) -> Status
-    ensures { Serves (list_rules (L.lists list.now)) result
+    ensures { Serves (end_rules (L.ends list.now)) result
         (outside (S.left source.old) (K.taken sink.old) (S.faults source.old) (K.faults sink.old))
         (outside (S.left source.new) (K.taken sink.new) (S.faults source.new) (K.faults sink.new)) }
 {

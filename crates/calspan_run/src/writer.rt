@@ -1,6 +1,6 @@
 //! Writing a text of any length in pieces, with about one write for each full buffer.
-ghost use Rattle.std.specs.Prelude.{◌≡◌, ◌+◌, ◌≤◌, ◌++◌, [], ℕ, List, Option, Some, length, OnOk};
-ghost use Rattle.std.specs.Iterator.{AlwaysYields, IsFinite};
+ghost use Rattle.std.specs.Prelude.{◌≡◌, ◌+◌, ◌≤◌, ◌++◌, [], ℕ, List, Option, Some, length, IsOk, OnOk};
+ghost use Rattle.std.specs.Iterator.{AlwaysYields, DrainsIf, IsFinite};
 ghost use Rattle.arrayvec.specs.ArrayVec.{array_vec_len};
 ghost use Rattle.byte_io.specs.Faults.{HasCause};
 ghost use Rattle.calspan_run.specs.TextSoFar.{TextSoFar, Pushed, lines_text};
@@ -130,6 +130,9 @@ where
     ensures text { (all : List L.Item) (before : Option (List ℕ)) (text : List ℕ)
         → AlwaysYields I.next_gives (λ x. x) items all → TextSoFar before (K.taken sink.old) pending.old.items text
         → Pushed result before (K.taken sink.new) pending.new.items (text ++ lines_text (L.line_of lines.now) all) }
+    ensures given { (given : List L.Item) × DrainsIf I.next_gives (IsOk result) items given
+        × ((before : Option (List ℕ)) (text : List ℕ) → TextSoFar before (K.taken sink.old) pending.old.items text
+        → Pushed result before (K.taken sink.new) pending.new.items (text ++ lines_text (L.line_of lines.now) given)) }
     ensures cause { HasCause (K.faults sink.old) (K.faults sink.new) result }
 {
     for item in items {
@@ -156,6 +159,8 @@ where
     requires shown { (s t : I) (x : L.Item) → I.next_gives s (Some x) t → L.is_shown lines.now x }
     ensures wrote { (all : List L.Item) → AlwaysYields I.next_gives (λ x. x) items all
         → Wrote result (K.taken sink.old) (K.taken sink.new) (lines_text (L.line_of lines.now) all) }
+    ensures given { (given : List L.Item) × DrainsIf I.next_gives (IsOk result) items given
+        × Wrote result (K.taken sink.old) (K.taken sink.new) (lines_text (L.line_of lines.now) given) }
     ensures cause { HasCause (K.faults sink.old) (K.faults sink.new) result }
 {
     let mut pending = Pending::new();

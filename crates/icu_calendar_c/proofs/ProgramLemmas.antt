@@ -1,6 +1,6 @@
 -- A run over an input in memory: what it leaves, and the codes that a call may return.
 use Rattle.std.proofs.Common.{◌≡◌, ◌≢◌, ◌≤◌, ◌<◌, ℕ, Bool, true, false, List, [], ◌++◌, ◌⊎◌, inl, inr, length, drop, Option, Some, None, refl, arith, ap, subst, sym, ◌∙◌}
-use Rattle.calspan_run.specs.Command.{Asked, Span, Generate, Anniversary, Recur, Holidays, Convert}
+use Rattle.calspan_run.specs.Command.{Asked, Span, Generate, Anniversary, Recur, Rrule, Holidays, Convert}
 use Rattle.calspan_run.specs.CommandRuns.{Ends}
 use Rattle.calspan_run.specs.Run.{outside}
 use Rattle.calspan_run.specs.Status.{code_of}
@@ -29,6 +29,7 @@ not_read (Some Span) input text faults r = let rose = r.ends.serves.rose in omeg
 not_read (Some (Generate count)) input text faults r = let rose = r.ends.serves.rose in omega (arith, rose)
 not_read (Some (Anniversary asked)) input text faults r = let rose = r.ends.serves.rose in omega (arith, rose)
 not_read (Some (Recur asked)) input text faults r = let rose = r.ends.serves.rose in omega (arith, rose)
+not_read (Some (Rrule asked)) input text faults r = let rose = r.ends.serves.rose in omega (arith, rose)
 not_read (Some (Holidays asked)) input text faults r = let rose = r.ends.serves.rose in omega (arith, rose)
 not_read (Some (Convert asked)) input text faults r = let rose = r.ends.streams.rose in omega (arith, rose)
 

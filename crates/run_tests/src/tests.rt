@@ -9,6 +9,7 @@ mod own_rows;
 mod programs;
 mod requests;
 mod rows;
+mod rules;
 mod runs;
 mod source_lines;
 mod sources;

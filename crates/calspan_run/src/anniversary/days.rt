@@ -1,10 +1,11 @@
 //! The list of `anniversary`.
-ghost use Rattle.std.specs.Prelude.{◌≡◌, ◌+◌, Err};
+ghost use Rattle.std.specs.Prelude.{◌≡◌, ◌+◌, Err, ⊤};
 ghost use Rattle.cal_days.specs.Day.{IsValidDay};
 ghost use Rattle.cal_tables.specs.Kinds.{kind_system, table_contents};
 ghost use Rattle.calspan_run.specs.Anniversaries.{anniversary_error, anniversaries_in};
 ghost use Rattle.calspan_run.specs.CommandSaid.{anniversary_said};
-ghost use Rattle.calspan_run.specs.DayLines.{day_line, IsListText};
+ghost use Rattle.calspan_run.specs.DayLines.{day_line, IsListEnd};
+ghost use Rattle.calspan_run.specs.ListAnswers.{list_end};
 ghost use Rattle.calspan_run.specs.ListTexts.{ListsAnniversaries};
 
 use crate::anniversary::words::AnniversaryWords;
@@ -59,8 +60,10 @@ struct InWindow {
 }
 
 impl CalendarListing for InWindow {
-    ghost lists_in = { λ s c tables text refused.
-        IsListText (anniversaries_in c (kind_system tables s.words.shown) (anniversary_said s.words)) text refused };
+    ghost asks_in = { λ _ _. ⊤ };
+
+    ghost ends_in = { λ s c tables text status.
+        IsListEnd (anniversaries_in c (kind_system tables s.words.shown) (anniversary_said s.words)) text status };
 
     fn write_in<C: Calendar + Copy, K: Sink>(
         &self,
@@ -90,7 +93,7 @@ impl CalendarListing for InWindow {
 }
 
 impl TableList for AnniversaryWords {
-    ghost lists = { λ s. ListsAnniversaries (anniversary_said s) };
+    ghost ends = { λ s. list_end (ListsAnniversaries (anniversary_said s)) };
 
     fn write<K: Sink>(&self, tables: &Tables<'_>, sink: &mut K) -> Result<bool, Failed> {
         let Some(window) = window_of(self.first, self.last) else {

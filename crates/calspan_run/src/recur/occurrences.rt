@@ -1,10 +1,11 @@
 //! The list of `recur`.
-ghost use Rattle.std.specs.Prelude.{◌≡◌, Err};
+ghost use Rattle.std.specs.Prelude.{◌≡◌, Err, ⊤};
 ghost use Rattle.cal_days.specs.Day.{IsValidDay};
 ghost use Rattle.cal_types.specs.CalendarSystem.{resolve_fields};
 ghost use Rattle.cal_tables.specs.Kinds.{kind_system, table_contents};
 ghost use Rattle.calspan_run.specs.CommandSaid.{recur_said};
-ghost use Rattle.calspan_run.specs.DayLines.{occurrence_line, IsListText};
+ghost use Rattle.calspan_run.specs.DayLines.{occurrence_line, IsListEnd};
+ghost use Rattle.calspan_run.specs.ListAnswers.{list_end};
 ghost use Rattle.calspan_run.specs.ListTexts.{ListsOccurrences};
 ghost use Rattle.calspan_run.specs.Recurrences.{no_options, occurrence_lines};
 
@@ -52,9 +53,11 @@ struct InWindow<'a> {
 }
 
 impl<'a> CalendarListing for InWindow<'a> {
-    ghost lists_in = { λ s c tables text refused. let a = recur_said s.words in
-        IsListText (occurrence_lines c (kind_system tables s.words.header.shown) a s.rule
-        (resolve_fields c a.start no_options)) text refused };
+    ghost asks_in = { λ _ _. ⊤ };
+
+    ghost ends_in = { λ s c tables text status. let a = recur_said s.words in
+        IsListEnd (occurrence_lines c (kind_system tables s.words.header.shown) a s.rule
+        (resolve_fields c a.start no_options)) text status };
 
     fn write_in<C: Calendar + Copy, K: Sink>(
         &self,
@@ -86,7 +89,7 @@ impl<'a> CalendarListing for InWindow<'a> {
 }
 
 impl<'a> TableList for RecurWords<'a> {
-    ghost lists = { λ s. ListsOccurrences (recur_said s) };
+    ghost ends = { λ s. list_end (ListsOccurrences (recur_said s)) };
 
     fn write<K: Sink>(&self, tables: &Tables<'_>, sink: &mut K) -> Result<bool, Failed> {
         let header = self.header;

@@ -29,6 +29,12 @@ returns-in-Recur-clause-ends g c =
     let new = outside (g.S.Source.left c.serve_list-in-Recur.new.source) (g.K.Sink.taken c.serve_list-in-Recur.new.sink) (g.S.Source.faults c.serve_list-in-Recur.new.source) (g.K.Sink.faults c.serve_list-in-Recur.new.sink) in
     subst (λ (x : Command). ServesAs (command_said x) c.serve_list-in-Recur.result old new) (sym c.in-Recur.is) c.serve_list-in-Recur.ensures
 
+pub returns-in-Rrule-clause-ends : goal.returns-in-Rrule-clause-ends
+returns-in-Rrule-clause-ends g c =
+    let old = outside (g.S.Source.left c.args.source.now) (g.K.Sink.taken c.args.sink.now) (g.S.Source.faults c.args.source.now) (g.K.Sink.faults c.args.sink.now) in
+    let new = outside (g.S.Source.left c.serve_list-in-Rrule.new.source) (g.K.Sink.taken c.serve_list-in-Rrule.new.sink) (g.S.Source.faults c.serve_list-in-Rrule.new.source) (g.K.Sink.faults c.serve_list-in-Rrule.new.sink) in
+    subst (λ (x : Command). ServesAs (command_said x) c.serve_list-in-Rrule.result old new) (sym c.in-Rrule.is) c.serve_list-in-Rrule.ensures
+
 pub returns-in-Holidays-clause-ends : goal.returns-in-Holidays-clause-ends
 returns-in-Holidays-clause-ends g c =
     let old = outside (g.S.Source.left c.args.source.now) (g.K.Sink.taken c.args.sink.now) (g.S.Source.faults c.args.source.now) (g.K.Sink.faults c.args.sink.now) in

@@ -3,7 +3,7 @@ use Rattle.std.proofs.lemmas.List.{append_assoc}
 use Rattle.std.specs.Iterator.{Yields}
 use Rattle.calspan_run.specs.TextSoFar.{TextSoFar, lines_text}
 use Rattle.calspan_run.specs.Written.{WrotePrefix}
-use Rattle.calspan_run.proofs.WriterLemmas.{text_more, short_more, pushed_err, lines_so_far, lines_end, lines_more}
+use Rattle.calspan_run.proofs.WriterLemmas.{not_both, text_more, short_more, pushed_err, lines_so_far, lines_end, lines_more}
 use Rattle.calspan_run.proofs.writer.push_lines.Goals as goal
 
 pub returns-in_err-make_room-clause-text : goal.returns-in_err-make_room-clause-text
@@ -34,3 +34,22 @@ returns-clause-text g c all before text yields h =
     subst (λ t. TextSoFar before (g.K.Sink.taken c.loop-item.sink) c.loop-item.pending.items (text ++ t))
     (lines_end g.I.Iterator.next_gives line c.args.items c.loop-item.item-iterator c.next.new.self all c.loop-item.yielded c.next.result yields (subst (λ i. Yields g.I.Iterator.next_gives i c.loop-item.yielded c.loop-item.item-iterator) c.into_iter-item-iterator.ensures.into_iter_gives c.loop-item.yielded_by) c.in-None.is c.next.ensures.steps)
     (c.loop-item.invariant.text before text h)
+
+pub returns-in_err-make_room-clause-given : goal.returns-in_err-make_room-clause-given
+returns-in_err-make_room-clause-given g c =
+    let line = g.L.ItemLines.line_of c.args.lines.now in
+    let xs = c.loop-item.yielded in
+    let yields = subst (λ i. Yields g.I.Iterator.next_gives i xs c.loop-item.item-iterator) c.into_iter-item-iterator.ensures.into_iter_gives c.loop-item.yielded_by in (
+      xs,
+      (c.loop-item.item-iterator, yields, λ ok. not_both c.from_residual.result ok c.from_residual.ensures.0),
+      λ before text h.
+          pushed_err c.from_residual.result before _ _ (text ++ lines_text line xs) c.from_residual.ensures.0
+          (c.in_err-make_room.ensures.text before (text ++ lines_text line xs) (c.loop-item.invariant.text before text h)),
+    )
+
+pub returns-clause-given : goal.returns-clause-given
+returns-clause-given g c =
+    let xs = c.loop-item.yielded in
+    let yields = subst (λ i. Yields g.I.Iterator.next_gives i xs c.loop-item.item-iterator) c.into_iter-item-iterator.ensures.into_iter_gives c.loop-item.yielded_by in
+    let last = subst (λ r. g.I.Iterator.next_gives c.loop-item.item-iterator r c.next.new.self) c.in-None.is c.next.ensures.steps in
+    (xs, (c.loop-item.item-iterator, yields, λ ok. (c.next.new.self, last)), λ before text h. c.loop-item.invariant.text before text h)

@@ -1,0 +1,84 @@
+//! What the program takes, and why a run failed, for standard error.
+
+/// What the program takes.
+pub const USAGE: &str = "\
+usage: calspan convert CALENDAR SHOWN constrain|reject < FILE
+                                      writes the date of each line in a second calendar
+       calspan span < FILE            answers the request lines of a file
+       calspan gen N                  counts and sums over the answers to N requests, 0 to 100000
+       calspan anniversary CALENDAR SHOWN exact|constrain CODE DAY FIRST LAST < ROWS
+                                      lists the days from FIRST to LAST that a month and a day name
+       calspan recur CALENDAR SHOWN UNIT EVERY skip|constrain FIRST LAST KEY=VALUE.. < ROWS
+                                      lists the occurrences from FIRST to LAST, counted from the date of the fields
+       calspan rrule CALENDAR SHOWN FIRST LAST DAY|KEY=VALUE.. RULE < ROWS
+                                      lists the occurrences of a recurrence rule of iCalendar from FIRST to LAST
+       calspan holidays FIRST LAST < BOOK
+                                      lists the holidays from FIRST to LAST by the rules of a book
+       calspan --help | --version     this text, or which program this is
+";
+
+/// Which program this is.
+pub const VERSION: &str =
+    "calspan, of icu_calendar proved in Rattle (a port of icu_calendar 2.4.0)\n";
+
+/// The names of the commands.
+const COMMANDS: [&[u8]; 7] = [
+    b"convert",
+    b"span",
+    b"gen",
+    b"anniversary",
+    b"recur",
+    b"rrule",
+    b"holidays",
+];
+
+/// Returns the text that a first word asks for, if it asks for one.
+pub fn told(first: &[u8]) -> Option<&'static str> {
+    if first == b"--help".as_slice() || first == b"-h".as_slice() {
+        return Some(USAGE);
+    }
+    if first == b"--version".as_slice() {
+        return Some(VERSION);
+    }
+    None
+}
+
+/// Returns whether a word is the name of a command.
+fn is_command(first: &[u8]) -> bool {
+    for name in COMMANDS {
+        if first == name {
+            return true;
+        }
+    }
+    false
+}
+
+/// Returns why words are no command, by their first one.
+pub fn fault(first: &[u8]) -> &'static str {
+    if is_command(first) {
+        "these words don't fit the command; nothing was read"
+    } else {
+        "the first word is no command; nothing was read"
+    }
+}
+
+/// Returns why a run ended with an exit code above 2, or `None` for any other.
+pub fn why(code: u8) -> Option<&'static str> {
+    match code {
+        3 => Some("reading standard input failed"),
+        4 => Some("writing standard output failed; the output is incomplete"),
+        5 => Some("out of memory; nothing is written"),
+        6 => Some("invalid row or table, which the last line names"),
+        7 => Some("input longer than 16777216 bytes"),
+        _ => None,
+    }
+}
+
+/// Returns what is written of a run that ended before its input did, by the command.
+pub fn written(first: &[u8]) -> &'static str {
+    if first == b"span".as_slice() || first == b"convert".as_slice() {
+        "the answers to the lines before are written"
+    } else {
+        "nothing is written"
+    }
+}
