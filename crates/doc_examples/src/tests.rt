@@ -6,6 +6,7 @@ mod hebrew;
 mod hijri;
 mod iso;
 mod lists;
+mod over_any;
 mod rows;
 mod rules;
 mod solar;

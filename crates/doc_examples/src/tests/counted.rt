@@ -2,10 +2,10 @@
 
 ghost use Rattle.std.specs.Prelude.{◌≡◌, ◌<◌};
 
+use super::over_any::show_indices;
 use icu_calendar::{
-    Calendar, Date, DateDifferenceOptions, DateDurationUnit, EastAsianTable, HijriTable, Iso,
-    JapaneseEras, Missing, PersianCorrections, RataDie, Rule, Side, Steps, Tables,
-    first_index_counted, occurrence_counted,
+    Date, DateDifferenceOptions, EastAsianTable, HijriTable, Iso, JapaneseEras, PersianCorrections,
+    Side, Tables,
 };
 use std::marker::Brand;
 use std::process::Abort;
@@ -17,14 +17,7 @@ fn show_counted_calls<L: Ledger>(rt: &impl Abort, blank: Blank) -> Option<()>
     requires parts { blank.parts ≡ L.parts }
     requires some { 0 < blank.parts }
 {
-    let mut steps = Steps::<L>::new(blank);
-    let monthly = Rule::try_new(DateDurationUnit::Months, 1, Missing::Constrain)?;
-    let start = Iso.from_rata_die(RataDie::new(737821)); // 2021-01-31
-    let second = occurrence_counted(&Iso, &start, monthly, 1, &mut steps)?;
-    assert!(rt; second.to_i64_date() == 737849); // 2021-02-28
-    let march = RataDie::new(737850);
-    assert!(rt; first_index_counted(&Iso, &start, monthly, march, &mut steps) == Some(2));
-
+    let mut steps = show_indices::<Iso, L>(rt, Iso, blank)?;
     let first = Date::try_new_iso(2024, 3, 1).ok()?;
     let second = Date::try_new_iso(2024, 3, 8).ok()?;
     let Ok(difference) = first.until_counted(&second, DateDifferenceOptions::default(), &mut steps);

@@ -1,8 +1,9 @@
 //! The examples of the docs: dates of the Hebrew calendar.
 
+use super::over_any::{dates_of_hebrew, hebrew_text, show_record};
 use icu_calendar::{
-    AnyCalendar, AnyCalendarKind, AsCalendar, Calendar, Date, DateRecord, EraYear, Hebrew,
-    IxdtfRecord, LeapStatus, Month, MonthInfo, RataDie, published,
+    AnyCalendar, AnyCalendarKind, AsCalendar, Calendar, Date, EraYear, Hebrew, LeapStatus, Month,
+    MonthInfo, RataDie, published,
 };
 use std::process::Abort;
 use std::test::Fail;
@@ -42,24 +43,17 @@ where
 
 #[test]
 fn dates_of_fields_and_days(rt: HostRuntime) -> Result<(), Fail> {
-    let date = Date::try_new(5784.into(), Month::leap(5), 21, Hebrew)?;
-    assert!(rt; Date::try_new(5783.into(), Month::leap(5), 21, Hebrew).is_err());
-    let first = date;
-
+    let (first, third) = dates_of_hebrew(&rt, Hebrew)?;
     let date = Date::try_new_hebrew_v2(5784, Month::leap(5), 21)?;
     assert!(rt; Date::try_new_hebrew_v2(5783, Month::leap(5), 21).is_err());
     let second = date;
-
-    let date = Date::from_rata_die(RataDie::new(738946), Hebrew);
-    show_dates(&rt, first, second, date);
+    show_dates(&rt, first, second, third);
     Ok(())
 }
 
 #[test]
 fn dates_of_texts_and_other_calendars(rt: HostRuntime) -> Result<(), Fail> {
-    let date = Date::try_from_str("2024-03-01[u-ca=hebrew]", Hebrew)?;
-    let first = date;
-
+    let first = hebrew_text(Hebrew)?;
     let iso = Date::try_new_iso(2024, 3, 1)?;
     let date = iso.to_calendar(Hebrew);
     let second = date;
@@ -71,23 +65,7 @@ fn dates_of_texts_and_other_calendars(rt: HostRuntime) -> Result<(), Fail> {
 
 #[test]
 fn records(rt: HostRuntime) -> Result<(), Fail> {
-    let date = Some(DateRecord {
-        year: 2024,
-        month: 3,
-        day: 1,
-    });
-    let calendar = None;
-    let record = IxdtfRecord { date, calendar };
-    let date = Date::try_from_ixdtf_record(&record, Hebrew)?;
-    assert!(rt; date.era_year().year == 5784);
-    match Date::try_from_ixdtf_record_with_rd(&record, Hebrew) {
-        Ok((date, rd)) => {
-            assert!(rt; rd.to_i64_date() == 738946);
-            assert!(rt; date.era_year().year == 5784);
-        }
-        Err(_) => assert!(rt; false),
-    }
-
+    show_record(&rt, Hebrew)?;
     Ok(())
 }
 

@@ -1,6 +1,7 @@
 //! The examples of the docs: dates of the ISO calendar.
 
 use super::lists::show_last_days;
+use super::over_any::dates_of_iso;
 use icu_calendar::{
     AnyCalendar, AsCalendar, Calendar, Date, DateAddError, DateAddOptions, DateDifferenceOptions,
     DateDuration, DateDurationUnit, Hebrew, Iso, Missing, RataDie, Rule, Weekday, Window, laws,
@@ -48,11 +49,7 @@ where
 
 #[test]
 fn a_date_and_its_copies(rt: HostRuntime) -> Result<(), Fail> {
-    let date = Date::try_from_utf8(b"2024-03-01", Iso)?;
-    let of_text = date;
-    let again = Date::from_rata_die(RataDie::new(738946), Iso);
-    let of_day = again;
-    let date = Date::from_rata_die(RataDie::new(738946), Iso);
+    let (of_text, of_day, date) = dates_of_iso(Iso)?;
     let again = date.clone();
     let cloned = again;
     let again = date.try_clone()?;

@@ -76,6 +76,24 @@ fn holidays_of_a_book(rt: HostRuntime) {
     assert!(rt; show_holidays_of_a_book(&rt, rt.alloc()).is_some());
 }
 
+/// The examples of [`Book`] on years and moves.
+fn show_years_and_moves(rt: &impl Abort, alloc: Global) -> Option<()> {
+    let book = Book::try_read(alloc, b"fixed,Juneteenth,gregorian,M06,19,exact,2021").ok()?;
+    assert!(rt; book.len() == 1);
+    assert!(rt; book.years(0).since == Some(2021));
+
+    let text = b"fixed,Christmas,gregorian,M12,25,exact,,,,saturday-1 sunday+1";
+    let book = Book::try_read(alloc, text).ok()?;
+    assert!(rt; book.len() == 1);
+    assert!(rt; book.moves(0).days[0] == Some(1)); // a Sunday
+    Some(())
+}
+
+#[test]
+fn years_and_moves_of_a_book(rt: HostRuntime) {
+    assert!(rt; show_years_and_moves(&rt, rt.alloc()).is_some());
+}
+
 /// The examples of [`rules`].
 fn show_rules(rt: &impl Abort) -> Option<()> {
     let monthly = Rule::try_new(DateDurationUnit::Months, 1, Missing::Constrain)?;

@@ -1,11 +1,12 @@
 //! The examples of the docs: calendars of the sun, but for ISO.
 
+use super::over_any::constrained;
 use icu_calendar::rows::TableRows;
 use icu_calendar::{
-    AsCalendar, Buddhist, Calendar, Date, DateFields, DateFromFieldsOptions, DateNewError,
-    EraStartDate, EraYear, Ethiopian, EthiopianEraStyle, Gregorian, Indian, Iso, Japanese,
-    JapaneseEras, Julian, Month, Overflow, Persian, PersianCorrections, RataDie, TinyAsciiStr,
-    YearInfo, easter_gregorian, easter_julian, laws, published,
+    AsCalendar, Buddhist, Calendar, Date, DateNewError, EraStartDate, EraYear, Ethiopian,
+    EthiopianEraStyle, Gregorian, Indian, Iso, Japanese, JapaneseEras, Julian, Month, Persian,
+    PersianCorrections, RataDie, TinyAsciiStr, YearInfo, easter_gregorian, easter_julian, laws,
+    published,
 };
 use std::process::Abort;
 use std::test::Fail;
@@ -40,14 +41,7 @@ where
 
 #[test]
 fn gregorian(rt: HostRuntime) -> Result<(), Fail> {
-    let fields = DateFields::from_year_month_day(2024, Month::new(2), 30);
-    let constrain = DateFromFieldsOptions {
-        overflow: Some(Overflow::Constrain),
-        missing_fields_strategy: None,
-    };
-    let date = Date::try_from_fields(fields, constrain, Gregorian)?;
-    let constrained = date;
-
+    let constrained = constrained(Gregorian)?;
     let date = Date::try_new_gregorian(2024, 3, 1)?;
     assert!(rt; Date::try_new_gregorian(2023, 2, 29).is_err());
     let easter = easter_gregorian(2024);
