@@ -1,8 +1,9 @@
 #!/usr/bin/env python3
 """Lists the holidays of the books in `books/` by the built program, and compares them with the days that other programs have.
 
-The days are in `books/expected/`, a file for each book. A day that one side has alone is a fault, and so is another name for it. The rows of
-published years stand before each book: without a rule in their calendars they change nothing.
+The days are in `books/expected/`, a file for each book; those of the books in `books/countries/` are in a folder of that name there. A day that
+one side has alone is a fault, and so is another name for it. The rows of published years stand before each book: without a rule in their
+calendars they change nothing.
 """
 
 import re
@@ -16,7 +17,10 @@ TOP = Path(__file__).resolve().parent.parent
 BOOKS = TOP / "books"
 ROWS = b"".join(it.read_bytes() for it in sorted((TOP / "rows").glob("*.rows")))
 # The books whose calendars have rows, and whose days are others without them.
-WITH_ROWS = {"chinese", "korean", "umm-al-qura"}
+WITH_ROWS = {
+    *("chinese", "korean", "umm-al-qura", "countries/china", "countries/hong-kong", "countries/taiwan", "countries/south-korea"),
+    *("countries/egypt", "countries/saudi-arabia", "countries/turkiye"),
+}
 # The script builds the program where a source is newer.
 PROGRAM = [str(TOP / "calspan"), "holidays"]
 HEAD = re.compile(r"# Days of (\d{4}) to (\d{4}), ")
@@ -54,21 +58,22 @@ def listed(book: Path, first: date, last: date, rows: bytes) -> list[Holiday]:
 
 def compare(book: Path) -> int:
     """How many holidays of the book agree."""
-    first, last, wanted = expected_of(BOOKS / "expected" / f"{book.stem}.txt")
+    name = book.relative_to(BOOKS).with_suffix("").as_posix()
+    first, last, wanted = expected_of(BOOKS / "expected" / f"{name}.txt")
     got = listed(book, first, last, ROWS)
-    if (listed(book, first, last, b"") == got) == (book.stem in WITH_ROWS):
-        raise SystemExit(f"{book.name}: what the rows change is something else")
+    if (listed(book, first, last, b"") == got) == (name in WITH_ROWS):
+        raise SystemExit(f"{name}: what the rows change is something else")
     lacking, more = Counter(wanted) - Counter(got), Counter(got) - Counter(wanted)
     faults = [f"  lacking {day} {name}" for day, name in sorted(lacking)] + [f"  no such {day} {name}" for day, name in sorted(more)]
     if faults:
-        raise SystemExit("\n".join([f"{book.name}:", *faults[:20]]))
+        raise SystemExit("\n".join([f"{name}:", *faults[:20]]))
     if [day for day, _ in got] != sorted(day for day, _ in got):
-        raise SystemExit(f"{book.name}: the days don't rise")
+        raise SystemExit(f"{name}: the days don't rise")
     return len(got)
 
 
 def main() -> int:
-    books = sorted(BOOKS.glob("*.csv"))
+    books = sorted(BOOKS.rglob("*.csv"))
     counts = [compare(book) for book in books]
     print(f"books: {sum(counts)} holidays of {len(books)} books agree with the days of other programs")
     return 0

@@ -20,7 +20,7 @@ from lists import cases_of, compare_lists, compare_words
 
 HERE = Path(__file__).resolve().parent
 TABLES = HERE / "tables"
-LISTS = HERE / "lists.jsonl"
+LISTS = [HERE / "lists.jsonl", HERE / "rrule.jsonl"]
 PROGRAM = [lists.PROGRAM, "span"]
 STATUSES = {name: int(status) for name, status in (line.split() for line in (TABLES / "statuses").read_text().splitlines())}
 TABLE_REFUSED = 6
@@ -40,7 +40,7 @@ LONGEST_LINE = 512
 
 def answers(data: bytes) -> tuple[int, list[bytes]]:
     run = subprocess.run(PROGRAM, input=data, capture_output=True, timeout=20, check=False)
-    if run.stderr:
+    if run.stderr and run.returncode < 2:
         raise SystemExit(f"standard error: {run.stderr[:200]!r}")
     if run.stdout and not run.stdout.endswith(b"\n"):
         raise SystemExit(f"an answer without a line feed: {run.stdout[-80:]!r}")
@@ -67,7 +67,7 @@ def compare_table(name: str) -> int:
     """An input with row lines: its text and its status."""
     run = subprocess.run(PROGRAM, input=(TABLES / f"{name}.in").read_bytes(), capture_output=True, timeout=20, check=False)
     wanted = (TABLES / f"{name}.out").read_bytes()
-    if run.stdout != wanted or run.stderr:
+    if run.stdout != wanted or (run.stderr and run.returncode < 2):
         raise SystemExit(f"tables/{name}:\n  wanted {wanted!r}\n  got    {run.stdout!r}")
     if run.returncode != STATUSES[name]:
         raise SystemExit(f"tables/{name}: status {run.returncode} in place of {STATUSES[name]}")
@@ -195,7 +195,7 @@ def compare_all() -> None:
     inputs = [(TABLES / f"{name}.in").read_bytes() for name in STATUSES]
     for _ in range(BROKEN_ROWS):
         check_broken_rows(chance, inputs)
-    compare_words(chance, cases_of(LISTS), BROKEN_WORDS)
+    compare_words(chance, [case for path in LISTS for case in cases_of(path)], BROKEN_WORDS)
     print(f"cases: {compared}; {BROKEN_INPUTS + BROKEN_ROWS} broken inputs and {BROKEN_WORDS} broken command lines are answered")
 
 
@@ -212,7 +212,7 @@ def main() -> int:
     # The script builds the program where a source is newer; what it built is asked.
     subprocess.run([lists.SCRIPT, "span"], stdin=subprocess.DEVNULL, check=True)
     if path:
-        print(f"cases: {compare_lists(path)}")
+        print(f"cases: {compare_lists([path])}")
     else:
         compare_all()
     return 0

@@ -31,12 +31,13 @@ CALENDAR = one_of(CALENDARS)
 OPTIONS = rb" ".join([one_of(UNITS), one_of(OVERFLOWS), one_of(STRATEGIES)])
 REQUEST = re.compile(rb"span " + CALENDAR + rb" " + CALENDAR + rb" " + OPTIONS + rb" from" + BAG + rb" to" + BAG)
 
-# The words behind the name of a command. Those of `recur` are followed by fields.
+# The words behind the name of a command. Those of `recur` are followed by fields, and those of `rrule` by a start and a rule.
 FORMS = {
     b"span": [],
     b"gen": [rb"0?[0-9]{1,5}|100000"],
     b"anniversary": [CALENDAR, CALENDAR, one_of(LEAPINGS), CODE, BYTE, INT, INT],
     b"recur": [CALENDAR, CALENDAR, one_of(UNITS[:4]), rb"[0-9]{1,9}", one_of(MISSINGS), INT, INT],
+    b"rrule": [CALENDAR, CALENDAR, INT, INT],
     b"holidays": [INT, INT],
     b"convert": [CALENDAR, CALENDAR, one_of(OVERFLOWS[:2])],
 }
@@ -67,16 +68,19 @@ FIELDS = [
 SHOWN = [*CALENDARS, b"julia", b"Iso", b"iso ", b""]
 DAYS = [b"-365242500", b"-365242499", b"365242134", b"365242135", b"-000000001", b"0000000001", b"999999999", b"-", b"+1", b"1\n"]
 CODES = [b"M00", b"M01", b"M02", b"M05L", b"M12", b"M13", b"M99L", b"M1", b"m01", b"M02l", b"M001", b"2"]
+# Any word is a rule: what is wrong with it is said in an answer. A rule that is valid ends at once, however far the start is from the window.
+RULES = [b"FREQ=DAILY;COUNT=1", b"freq=weekly;byday=mo;count=1", b"FREQ=HOURLY", b"FREQ", b";", b"=", b"", b"\xc3\xa9", b"\xff", b"FREQ=DAILY\n", b"0"]
 NEAR = {
     b"gen": [[b"0", b"007", b"100", b"0100000", b"100001", b"-1", b""]],
     b"anniversary": [SHOWN, SHOWN, [*LEAPINGS, b"skip"], CODES, [b"0", b"029", b"30", b"255", b"256", b"-1", b"0001"], DAYS, DAYS],
     b"recur": [SHOWN, SHOWN, [*UNITS, b"day"], [b"0", b"1", b"000000012", b"999999999", b"1000000000", b"-1", b""], MISSINGS, DAYS, DAYS],
+    b"rrule": [SHOWN, SHOWN, DAYS, DAYS, [*DAYS, *FIELDS], [*FIELDS, *RULES]],
     b"holidays": [DAYS, DAYS],
     b"convert": [SHOWN, SHOWN, [*OVERFLOWS, b"skip", b""]],
 }
 ANYWHERE = [
-    *[b"span", b"gen", b"anniversary", b"recur", b"holidays", b"convert", b"iso", b"exact", b"constrain", b"M02", b"1", b"-1", b"", b" ", b"day=1 month=M02"],
-    *[b"era=\n", b"era=\t", b"era=\xff", b"\xff", *FIELDS],
+    *[b"span", b"gen", b"anniversary", b"recur", b"rrule", b"holidays", b"convert", b"iso", b"exact", b"constrain", b"M02", b"1", b"-1", b"", b" "],
+    *[b"day=1 month=M02", b"era=\n", b"era=\t", b"era=\xff", b"\xff", *FIELDS, *RULES],
 ]
 
 
@@ -99,7 +103,18 @@ def is_command(words: list[bytes]) -> bool:
     if not words or words[0] not in FORMS or not all(map(is_text, words)):
         return False
     form, given = FORMS[words[0]], words[1:]
-    fixed, fields = given[: len(form)], given[len(form) :]
-    if len(fixed) < len(form) or fields and words[0] != b"recur":
-        return False
-    return all(map(re.fullmatch, form, fixed)) and are_fields(fields)
+    fixed, others = given[: len(form)], given[len(form) :]
+    return len(fixed) == len(form) and all(map(re.fullmatch, form, fixed)) and is_end(words[0], others)
+
+
+def is_end(command: bytes, words: list[bytes]) -> bool:
+    """Whether a command may end with these words, behind those of its form."""
+    if command == b"recur":
+        return are_fields(words)
+    if command == b"rrule":
+        return bool(words) and (are_fields(words[:-1]) or is_day(words[:-1]))
+    return not words
+
+
+def is_day(words: list[bytes]) -> bool:
+    return len(words) == 1 and bool(re.fullmatch(INT, words[0]))

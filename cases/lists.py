@@ -10,7 +10,7 @@ from dataclasses import dataclass, replace
 from itertools import zip_longest
 from pathlib import Path
 
-from grammar import ANYWHERE, NEAR, is_command
+from grammar import ANYWHERE, NEAR, RULES, is_command
 
 TOP = Path(__file__).resolve().parent.parent
 # The script refuses words by itself, so that the program's own answer is asked of the program.
@@ -20,7 +20,7 @@ WORDS_REFUSED = 2
 ENDS = {0, 1, 6}
 MOST_DAYS = 4000
 # The place of the last day among the words of a list; the first day stands before it.
-LAST_DAY = {b"anniversary": 7, b"recur": 7, b"holidays": 2}
+LAST_DAY = {b"anniversary": 7, b"recur": 7, b"rrule": 4, b"holidays": 2}
 SHORT = [[b"span"], [b"gen", b"100"], [b"convert", b"hebrew", b"iso", b"reject"]]
 PROCESSES = os.cpu_count() or 1
 
@@ -56,7 +56,7 @@ def fault_of_case(case: Case) -> str | None:
     ran = run(PROGRAM, case.words, case.source)
     if ran.stdout != case.out:
         return f"{case}:\n{first_difference(case.out, ran.stdout)}"
-    if ran.stderr:
+    if ran.stderr and ran.returncode < 2:
         return f"{case}: standard error: {ran.stderr[:200]!r}"
     return None if ran.returncode == case.status else f"{case}: status {ran.returncode} in place of {case.status}"
 
@@ -68,8 +68,8 @@ def stop_at_first(fault_of: Callable[[Case], str | None], cases: list[Case]) -> 
         raise SystemExit(fault)
 
 
-def compare_lists(path: Path) -> str:
-    cases = cases_of(path)
+def compare_lists(paths: list[Path]) -> str:
+    cases = [case for path in paths for case in cases_of(path)]
     stop_at_first(fault_of_case, cases)
     return f"{len(cases)} lists agree"
 
@@ -96,10 +96,13 @@ def words_like(chance: random.Random, words: list[bytes]) -> list[bytes]:
 
 
 def narrowed(words: list[bytes]) -> list[bytes]:
-    """The words of a command, with a last day that isn't far behind the first: a long list would tell no more."""
+    """The words of a command, with a last day that isn't far behind the first: a long list would tell no more. A rule is replaced
+    by one that ends at once, since its start may lie far away."""
     at = LAST_DAY.get(words[0])
     if not at:
         return words
+    if words[0] == b"rrule" and words[-1] not in RULES:
+        words = [*words[:-1], RULES[0]]
     first, last = int(words[at - 1]), int(words[at])
     return [*words[:at], b"%d" % min(last, first + MOST_DAYS), *words[at + 1 :]] if first <= last else words
 

@@ -2,7 +2,8 @@
 """Runs the linked program once for each exit status, and compares the status and what is written.
 
 A read fails on a folder as standard input, a write on /dev/full, and memory for a book under a limit of the process's memory.
-The script `calspan` has to end as the program does, with the same output, and to say on standard error in one line why the status is above 1.
+The program says on standard error in one line why the status is above 1, with its usage where the words are no command, and the script ends as
+the program does, with the same output.
 A signal to the script has to end the program, too.
 """
 
@@ -44,12 +45,20 @@ RUNS = [
     Run(6, ["span"], ROW, b"table line 1 syntax\n"),
     Run(7, ["span"], b"#" * LIMIT + b"#\n", b""),
 ]
+TOLD = {"--help": b"usage: calspan ", "-h": b"usage: calspan ", "--version": b"calspan, of icu_calendar proved in Rattle"}
+
+
+def is_said(status: int, said: bytes) -> bool:
+    """Whether standard error says why a run ended with a status."""
+    if status < 2:
+        return not said
+    return bool(re.fullmatch(rb"calspan: .*; nothing was read\nusage: calspan (.*\n)+" if status == 2 else rb"calspan: .*; see the manual\n", said))
 
 
 def ends_with(wanted: int, begins: bytes, words: list[str], **options) -> bool:
     run = subprocess.run([PROGRAM, *words], timeout=60, check=False, stderr=subprocess.PIPE, **options)
     written = run.stdout or b""
-    if run.returncode == wanted and written.startswith(begins) and (begins or not written) and not run.stderr:
+    if run.returncode == wanted and written.startswith(begins) and (begins or not written) and is_said(wanted, run.stderr):
         return True
     print(f"{words}: status {run.returncode} in place of {wanted}, {written[:80]!r}, {run.stderr[:80]!r}", file=sys.stderr)
     return False
@@ -59,11 +68,18 @@ def says_why(run: Run) -> bool:
     """Whether the script ends as the program does, and says why. It rejects words that are no command by itself, with its usage."""
     source = {"stdin": subprocess.DEVNULL} if run.source is None else {"input": run.source}
     it = subprocess.run([SCRIPT, *run.words], timeout=60, check=False, capture_output=True, **source)
-    said = it.stderr.decode(errors="replace")
-    is_said = bool(re.fullmatch("calspan: .*; see docs/MANUAL.md\n", said)) if run.status > 1 else not said
-    if it.returncode == run.status and it.stdout.startswith(run.begins) and (run.begins or not it.stdout) and is_said:
+    if it.returncode == run.status and it.stdout.startswith(run.begins) and (run.begins or not it.stdout) and is_said(run.status, it.stderr):
         return True
-    print(f"script, {run.words}: status {it.returncode} in place of {run.status}, {it.stdout[:80]!r}, {said!r}", file=sys.stderr)
+    print(f"script, {run.words}: status {it.returncode} in place of {run.status}, {it.stdout[:80]!r}, {it.stderr!r}", file=sys.stderr)
+    return False
+
+
+def tells(word: str) -> bool:
+    """Whether the program answers a word about itself on standard error."""
+    it = subprocess.run([PROGRAM, word], timeout=60, check=False, capture_output=True, stdin=subprocess.DEVNULL)
+    if it.returncode == 0 and not it.stdout and it.stderr.startswith(TOLD[word]):
+        return True
+    print(f"{word}: status {it.returncode}, {it.stdout[:80]!r}, {it.stderr[:80]!r}", file=sys.stderr)
     return False
 
 
@@ -110,6 +126,7 @@ def main() -> int:
     good.append(ends_with(5, b"", ["holidays", "1", "2"], stdout=subprocess.PIPE, input=book, preexec_fn=limit_memory))
     good += [says_why(it) for it in RUNS if it.status != 2]
     good.append(says_why(Run(2, ["recur", "iso", "iso", "days", "1", "skip", "1", "2", b"era=\xff"], None, b"")))
+    good += [tells(it) for it in TOLD]
     good.append(ends_with_script())
     print(f"statuses: {len(good)} runs, {good.count(False)} end otherwise")
     return int(not all(good))
