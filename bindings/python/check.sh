@@ -23,6 +23,7 @@ export ICU_CALENDAR_LIBRARY
 for name in numpy pandas; do
   "$python" -c "import $name" 2>/dev/null || lacks "columns, since $python has no $name"
 done
+"$python" -c 'import icalendar' 2>/dev/null || lacks "iCalendar files by another reader, since $python has no icalendar"
 if command -v mypy >/dev/null; then
   (cd "$here" && mypy --config-file pyproject.toml icu_calendar)
 else

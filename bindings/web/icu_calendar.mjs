@@ -75,7 +75,26 @@ const CAUSES = new Map([
   [20, ["InvalidDay", "The month doesn't have the day."]],
   [101, ["InvalidWindow", "The window's days aren't valid days in order."]],
   [102, ["Every", "The number of units isn't from 1 to 4294967295."]],
+  [103, ["InvalidRule", "The text is no recurrence rule of the calendar."]],
 ]);
+
+/** What is wrong with a recurrence rule, by the program's names. @type {Readonly<Record<string, string>>} */
+const RULE_CAUSES = Object.freeze({
+  BadPart: "A part isn't NAME=VALUE.",
+  UnknownPart: "There is no part of this name.",
+  RepeatedPart: "A part comes twice.",
+  TimeNotSupported: "Times of the day aren't supported.",
+  BadValue: "A value doesn't have its part's form.",
+  ValueOutOfRange: "A value is out of range, or the calendar doesn't have the month.",
+  UnknownCalendar: "There is no calendar of the name in RSCALE.",
+  MismatchedCalendar: "RSCALE names another calendar.",
+  MissingPart: "A part is missing.",
+  CountWithUntil: "COUNT and UNTIL exclude each other.",
+  PartNotAllowed: "The frequency doesn't allow a part.",
+  OrdinalNotAllowed: "A number in BYDAY needs FREQ=YEARLY or MONTHLY, without BYWEEKNO.",
+  SetPosAlone: "BYSETPOS needs another BY-part.",
+  TooLong: "The rule is too long.",
+});
 
 /** A call failed: `cause` names the cause, and `max` is the greatest valid number, if there is one. */
 export class CalendarError extends RangeError {
@@ -87,6 +106,18 @@ export class CalendarError extends RangeError {
     this.cause = cause;
     this.code = code;
     this.max = max;
+  }
+}
+
+/** A text is no recurrence rule of a calendar: `cause` is the program's name of the error, and `part` the part that it is about, or null. */
+export class RuleError extends CalendarError {
+  /** @param {string} cause @param {string | null} [part] */
+  constructor(cause, part = null) {
+    super(103);
+    this.name = "RuleError";
+    this.cause = cause;
+    this.part = part;
+    this.message = `${part ? `${part}: ` : ""}${RULE_CAUSES[cause] ?? cause}`;
   }
 }
 
@@ -245,19 +276,39 @@ export class CalendarDate {
 }
 
 // Where values stand in the module's memory, from the start of the host's part of it on.
-const AT = { date: 0, fields: 32, duration: 64, max: 96, count: 104, week: 112, text: 128, code: 192, line: 256, output: 1024, known: 1536 };
+const AT = { date: 0, fields: 32, duration: 64, max: 96, count: 104, week: 112, text: 128, code: 192, line: 256, output: 1024, known: 1536, words: 4608, list: 12800 };
 // Texts that are put there once, each in a slot of its own, and how many.
 const SLOT = 24;
 const SLOTS = 128;
 // A character takes at most three bytes.
 const MOST_CHARACTERS = SLOT / 3;
-const EXTENT = AT.known + SLOT * SLOTS;
+// The words of a list, and the lines that come back.
+const LONGEST_WORDS = AT.list - AT.words;
+const LIST_ROOM = 1 << 16;
+const EXTENT = AT.list + LIST_ROOM;
+const NO_ROOM = 8;
+// The first window that a list is asked for, in days. Windows double as long as they have fewer lines than these.
+const FIRST_DAYS = 512;
+const MANY_LINES = 256;
 const DECODER = new TextDecoder();
 const ENCODER = new TextEncoder();
 // Why a year may lack a day that other years have.
 const LACKING = new Set(["MonthNotInYear", "InvalidDay", "OutOfRange"]);
 const LONGEST_LINE = 700;
 const LONGEST_ANSWER = 512;
+
+/**
+ * Grows a memory by so many pages. Their number is a `BigInt` since 64-bit memories are a standard, and was a number before (as in Node 20).
+ * @param {WebAssembly.Memory} memory @param {bigint} pages
+ */
+function growBy(memory, pages) {
+  try {
+    memory.grow(pages);
+  } catch (error) {
+    if (!(error instanceof TypeError)) throw error;
+    memory.grow(Number(pages));
+  }
+}
 
 /** The module's calls. `load` creates one. */
 export class Calendars {
@@ -276,7 +327,7 @@ export class Calendars {
     this.#base = (instance.exports.__heap_base.value + 15n) & ~15n;
     const { memory } = this.#calls;
     const missing = this.#base + BigInt(EXTENT) - BigInt(memory.buffer.byteLength);
-    if (missing > 0n) memory.grow((missing + 65535n) / 65536n);
+    if (missing > 0n) growBy(memory, (missing + 65535n) / 65536n);
     this.#address = Object.fromEntries(Object.entries(AT).map(([name, place]) => [name, this.#base + BigInt(place)]));
     // The module never grows its memory, so the views last.
     this.#view = new DataView(memory.buffer, Number(this.#base), EXTENT);
@@ -402,6 +453,59 @@ export class Calendars {
       if (date === undefined || (date && date.dayNumber > last)) return;
       if (date && date.dayNumber >= first) yield { index, date };
     }
+  }
+
+  /** Whether the module lists recurrence rules. */
+  get hasRules() {
+    return "calspan_list" in this.#calls;
+  }
+
+  /**
+   * Yields the occurrences from `first` to `last` of a recurrence rule of iCalendar (the value of RRULE in RFC 5545, with RSCALE and SKIP of RFC
+   * 7529), counted in the calendar of a start, each with its index: how many come before it from the start on. The start is one of them only if the
+   * rule names it. Throws a `RuleError` for a text that is no rule.
+   * @param {CalendarDate} start
+   * @param {{ rule: string, first?: number, last?: number }} window from the start to the last valid day, unless days are named
+   * @returns {Generator<{ index: number, date: CalendarDate }>}
+   */
+  *rrule(start, { rule, first = start.dayNumber, last = LAST_DAY }) {
+    this.#window(first, last, start.calendar, start.years);
+    let days = FIRST_DAYS;
+    for (let from = first; from <= last; ) {
+      const to = Math.min(from + days - 1, last);
+      const lines = this.#ruleLines(start, rule, from, to);
+      if (lines === null) {
+        days = Math.ceil(days / 2);
+        continue;
+      }
+      for (const line of lines) {
+        const [index, day] = [line.slice(0, line.indexOf(" ")), line.slice(line.lastIndexOf("@") + 1)];
+        yield { index: Number(index), date: this.dateOfDay(Number(day), start.calendar, start.years) };
+      }
+      from = to + 1;
+      if (lines.length < MANY_LINES) days *= 2;
+    }
+  }
+
+  /**
+   * Returns the program's lines of a rule in a window, or null if there is no room for them.
+   * @param {CalendarDate} start @param {string} rule @param {number} first @param {number} last
+   */
+  #ruleLines({ calendar, years, dayNumber }, rule, first, last) {
+    // A rule without spaces is one word, and none is empty. Another text that is no rule, for the same reason, stands for one that is no word.
+    const word = rule.replaceAll(" ", "?") || ";";
+    const words = ENCODER.encode(`rrule ${calendar} iso ${first} ${last} ${dayNumber} ${word}`);
+    if (words.length > LONGEST_WORDS) throw new RuleError("TooLong");
+    this.#bytes.set(words, AT.words);
+    const { words: given, list, count } = this.#address;
+    const status = this.#calls.calspan_list(codeOf(YEARS, years, 2), given, BigInt(words.length), list, BigInt(LIST_ROOM), count);
+    if (status === NO_ROOM) return null;
+    const lines = this.#text(AT.list).split("\n").slice(0, -1);
+    if (status) {
+      const [, cause, part] = (lines[0] ?? "err BadPart").split(" ");
+      throw new RuleError(cause, part ?? null);
+    }
+    return lines;
   }
 
   /** The sum, null where it isn't there, or undefined where it is beyond what the calendars hold. */

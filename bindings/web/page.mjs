@@ -1,6 +1,6 @@
 // The page: a date in any calendar, shown in all; differences; anniversaries and recurrences; all of it kept in the address.
 import { addressOf, fieldsOfAddress, fieldsOfText } from "./address.mjs";
-import { CALENDARS, CalendarError, LAST_DAY } from "./icu_calendar.mjs";
+import { CALENDARS, CalendarError, LAST_DAY, RuleError } from "./icu_calendar.mjs";
 import { iCalendar, plainDate } from "./lists.mjs";
 import { CALENDAR_NAMES, isComputed, monthName } from "./names.mjs";
 import { EPOCH, Words, inEnglish } from "./words.mjs";
@@ -14,6 +14,8 @@ const ANNIVERSARIES = 20;
 const ANNIVERSARY_DAYS = 220_000;
 const UNIT_DAYS = { years: 366, months: 30, weeks: 7, days: 1 };
 const MOST_RECURRENCES = 200;
+// How many days a recurrence rule is looked for: longer than any interval that a person waits for.
+const RULE_DAYS = 150_000;
 
 const element = (id) => document.getElementById(id);
 
@@ -211,21 +213,38 @@ class Shown {
     this.#list("anniversaries", `anniversary/${calendar}/${plainDate(there)}`, `Anniversary (${CALENDAR_NAMES[calendar]})`, found);
   }
 
-  /** The dates that the small form asks for. */
+  /** The dates that the rule's text asks for or, without one, the small form. */
   recurrences(date) {
     const [every, count] = ["recurrence-every", "recurrence-count"].map((id) => Number(element(id).value));
-    const [unit, overflow] = ["recurrence-unit", "recurrence-overflow"].map((id) => element(id).value);
-    const isValid = Number.isInteger(every) && every >= 1 && every <= 9999 && Number.isInteger(count) && count >= 1 && count <= MOST_RECURRENCES;
+    const isCount = Number.isInteger(count) && count >= 1 && count <= MOST_RECURRENCES;
+    const isValid = isCount && Number.isInteger(every) && every >= 1 && every <= 9999;
     element("recurrence-error").textContent = isValid ? "" : `Numbers are whole: from 1 to 9999 units, and from 1 to ${MOST_RECURRENCES} times.`;
-    const found = [];
-    if (isValid) {
-      const last = Math.min(LAST_DAY, date.dayNumber + UNIT_DAYS[unit] * every * (count + 2) * 20);
-      for (const it of this.calendars.recurrences(date, { first: date.dayNumber, last, unit, every, overflow })) {
-        if (found.push(it.date) === count) break;
-      }
-    }
+    element("rule-text").removeAttribute("aria-invalid");
+    const rule = element("rule-text").value.trim().replace(/^RRULE:/i, "");
+    if (rule) this.#byRule(date, rule, isCount ? count : 0);
+    else this.#byForm(date, every, isValid ? count : 0);
+  }
+
+  #byForm(date, every, count) {
+    const [unit, overflow] = ["recurrence-unit", "recurrence-overflow"].map((id) => element(id).value);
+    const last = Math.min(LAST_DAY, date.dayNumber + UNIT_DAYS[unit] * every * (count + 2) * 20);
+    const found = count ? taken(this.calendars.recurrences(date, { first: date.dayNumber, last, unit, every, overflow }), count) : [];
     const name = `recurrence/${date.calendar}/${plainDate(date)}/${every}-${unit}`;
     this.#list("recurrences", name, `Every ${every} ${unit} (${CALENDAR_NAMES[date.calendar]})`, found);
+  }
+
+  /** Lists by a rule, or says what is wrong with it. */
+  #byRule(date, rule, count) {
+    let found = [];
+    try {
+      found = taken(this.calendars.rrule(date, { rule, last: Math.min(LAST_DAY, date.dayNumber + RULE_DAYS) }), count);
+    } catch (error) {
+      if (!(error instanceof RuleError)) throw error;
+      element("rule-text").setAttribute("aria-invalid", "true");
+      element("recurrence-error").textContent = error.message;
+    }
+    const name = `rule/${date.calendar}/${plainDate(date)}/${rule.toUpperCase().replace(/[^A-Z0-9]+/g, "-")}`;
+    this.#list("recurrences", name, `${rule.toUpperCase()} (${CALENDAR_NAMES[date.calendar]})`, found);
   }
 
   /** Saves a list as a file. */
@@ -236,6 +255,16 @@ class Shown {
     setTimeout(() => URL.revokeObjectURL(address), 1000);
     say("The file is saved.");
   }
+}
+
+/** The first dates of a list. */
+function taken(occurrences, count) {
+  const found = [];
+  for (const { date } of occurrences) {
+    if (found.length === count) break;
+    found.push(date);
+  }
+  return found;
 }
 
 /** The day number of today, where the browser is. */
@@ -255,6 +284,7 @@ class Page {
     this.calendars = calendars;
     this.shown = new Shown(calendars, new Words(navigator.language || "en"));
     this.forms = ["first", "second"].map((side) => new DateForm(calendars, side));
+    element("rule").hidden = !calendars.hasRules;
     element("anniversary-calendar").append(...ORDER.map((it) => made("option", { value: it }, CALENDAR_NAMES[it])));
   }
 
@@ -340,7 +370,7 @@ class Page {
   }
 
   listenElsewhere() {
-    for (const id of ["anniversary-calendar", "anniversary-overflow", "recurrence-every", "recurrence-unit", "recurrence-count", "recurrence-overflow"]) {
+    for (const id of ["anniversary-calendar", "anniversary-overflow", "recurrence-every", "recurrence-unit", "recurrence-count", "recurrence-overflow", "rule-text"]) {
       element(id).addEventListener("input", () => this.update());
     }
     for (const id of ["anniversaries", "recurrences"]) element(`${id}-save`).addEventListener("click", () => this.shown.save(id));

@@ -289,7 +289,10 @@ uint8_t icu_calendar_weeks_of_days(const int64_t *days, size_t days_len, icu_cal
 /* Runs the program `calspan`: `words` is its command line as one text in UTF-8, with a single space between two words,
  * and `input` is its standard input. Its output is written to the start of `output`, and the number of its bytes to
  * `*written`. With CALSPAN_NO_ROOM `output` is unchanged, and `*written` is the number of bytes needed. With 2, 4 and 5
- * nothing is written. */
+ * nothing is written. docs/MANUAL.md has the commands: `span`, `convert`, `gen`, and lists by `anniversary`, `recur`,
+ * `rrule` (recurrence rules of iCalendar) and `holidays`. For example, the last days of the months of 2024:
+ *
+ *     rrule iso iso 738886 739251 738886 FREQ=MONTHLY;BYMONTHDAY=-1 */
 uint8_t calspan(const uint8_t *words, size_t words_len, const uint8_t *input, size_t input_len, uint8_t *output,
                 size_t output_len, size_t *written);
 

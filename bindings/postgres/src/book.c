@@ -12,9 +12,9 @@ typedef struct {
     int count;
 } reader;
 
-/* Raises the error of a book that the program took, and that isn't read here. It can't occur. */
+/* Raises the error of a book that the program took, and that isn't read here: one with years, moves or the kind span. */
 static void pg_attribute_noreturn() misread(void) {
-    elog(ERROR, "icu_calendar: the book is read in two ways");
+    elog(ERROR, "icu_calendar: the book has records of more than six fields, or of the kind span");
 }
 
 /* Refuses a text that the program doesn't take as a book. */
@@ -134,6 +134,9 @@ static pgcal_rule rule_of(const reader *it, uint8_t years) {
         rule.day = (uint8_t)number_of(it, 4, 1, 31);
         rule.overflow = is_field(it, 5, "constrain") ? ICU_CALENDAR_CONSTRAIN : ICU_CALENDAR_REJECT;
         return rule;
+    }
+    if (!is_field(it, 0, "weekday")) {
+        misread();
     }
     rule.kind = PGCAL_WEEKDAY;
     rule.nth = number_of(it, 4, -1, 5);

@@ -33,6 +33,7 @@ from .errors import (
     OutOfRange,
     ProgramError,
     Refused,
+    RuleError,
     TooManyFields,
     UnknownCalendar,
     UnknownOption,
@@ -41,6 +42,7 @@ from .errors import (
 from .holidays import Holiday, holidays
 from .lists import Occurrence, anniversaries, recurrences
 from .program import Outcome, run, span
+from .rules import rrule
 
 __all__ = [
     "Calendar",
@@ -68,6 +70,7 @@ __all__ = [
     "Overflow",
     "ProgramError",
     "Refused",
+    "RuleError",
     "TooManyFields",
     "Unit",
     "UnknownCalendar",
@@ -78,6 +81,7 @@ __all__ = [
     "easter",
     "holidays",
     "recurrences",
+    "rrule",
     "run",
     "span",
 ]

@@ -135,6 +135,33 @@ class InvalidText(CalendarError):
     advice = "A text such as 2024-03-01, +012024-03-01 or 2024-03-01[u-ca=hebrew] would do."
 
 
+# What is wrong with a recurrence rule, by the program's names.
+RULE_CAUSES = {
+    "BadPart": "A part isn't NAME=VALUE.",
+    "UnknownPart": "A part has a name that neither RFC 5545 nor RFC 7529 has.",
+    "RepeatedPart": "A part comes twice.",
+    "TimeNotSupported": "A part is about times of the day.",
+    "BadValue": "A value doesn't have the form of its part.",
+    "ValueOutOfRange": "A value isn't in the range of its part, or the calendar doesn't have the month.",
+    "UnknownCalendar": "No calendar has the name in RSCALE.",
+    "MismatchedCalendar": "RSCALE names another calendar than that of the list.",
+    "MissingPart": "A part is missing.",
+    "CountWithUntil": "COUNT and UNTIL exclude each other.",
+    "PartNotAllowed": "The frequency doesn't allow a part.",
+    "OrdinalNotAllowed": "A number in BYDAY needs FREQ=YEARLY or MONTHLY, without BYWEEKNO.",
+    "SetPosAlone": "BYSETPOS needs another BY-part.",
+}
+
+
+class RuleError(CalendarError):
+    """The text isn't a recurrence rule of the calendar."""
+
+    def __init__(self, cause: str, part: str | None = None, given: str = ""):
+        super().__init__(given=given, advice=f"{RULE_CAUSES[cause]} ({' '.join(it for it in (cause, part) if it)})")
+        # The program's name of the error, and the name of the part that it is about, such as BYDAY, or None.
+        self.cause, self.part = cause, part
+
+
 def settle(code: int, limit: int = 0, given: str = "") -> None:
     """Raises the error of a code, unless the code is 0."""
     if code:

@@ -14,6 +14,8 @@ from .lists import Window, window_of
 from .program import holiday_lines
 
 WEEKDAYS = ["monday", "tuesday", "wednesday", "thursday", "friday", "saturday", "sunday"]
+# The numbers of the days that have dates.
+VALID_DAYS = range(-365242499, 365242135)
 # How many days before and behind an ISO year the year of another calendar may lie that has a holiday in it.
 MOST_PART = 255
 
@@ -37,7 +39,7 @@ class Rule(NamedTuple):
 def holidays(book: str | bytes, first: DayLike, last: DayLike | None = None, *, years: YearsLike = Years.PUBLISHED) -> Iterator[Holiday]:
     """Returns an iterator over the holidays of a book from `first` to `last`, in order of their days, and on one day in the order of the book.
 
-    The book is the text of CSV records, as the folder `books/` of the repository has them. Without `last` the list goes on to the last valid day.
+    The book is the text of CSV records, as the folder `books/` of the repository has them; the manual describes their six to ten fields. Without `last` the list goes on to the last valid day.
 
     >>> [(str(it.date.to_date()), it.name) for it in holidays("easter,Easter,gregorian,,0,", datetime.date(2024, 1, 1), datetime.date(2024, 12, 31))]
     [('2024-03-31', 'Easter')]
@@ -72,15 +74,40 @@ def _days(rule: Rule, start: int, end: int) -> Iterator[int]:
 
 
 def _rule(record: list[str], years: Years) -> Rule:
-    kind, name, calendar, month_code, value, end = record
+    """The rule of a record of six to ten fields: the kind, name, calendar, month, value and last one; the first year, the last year and the
+    steps of years; and the moves."""
+    kind, name, calendar, month_code, value, end, since, until, every, moved = [*record, "", "", "", ""][:10]
     chosen = Calendar.of(calendar)
+    own = _own(kind, chosen, years, month_code, int(value), end)
+    moves = {WEEKDAYS.index(it[:-2]) + 1: int(it[-2:]) for it in moved.split()}
+
+    def day_in(year: int) -> int | None:
+        if since and (year < int(since) or (year - int(since)) % int(every or 1)) or until and year > int(until):
+            return None
+        day = own(year)
+        return None if day is None or day not in VALID_DAYS else day + moves.get((day - 1) % 7 + 1, 0)
+
+    return Rule(name, chosen, day_in)
+
+
+def _own(kind: str, calendar: Calendar, years: Years, month_code: str, value: int, end: str) -> Callable[[int], int | None]:
+    """Returns the day of a year, before it moves, by the kind of the rule."""
     if kind == "easter":
-        return Rule(name, chosen, lambda year: _easter(year, chosen, int(value)))
+        return lambda year: _easter(year, calendar, value)
     if kind == "fixed":
         overflow = Overflow.REJECT if end == "exact" else Overflow.CONSTRAIN
-        return Rule(name, chosen, lambda year: _day(chosen, years, year, month_code, int(value), overflow))
-    weekday = WEEKDAYS.index(end) + 1
-    return Rule(name, chosen, lambda year: _weekday(chosen, years, year, month_code, int(value), weekday))
+        return lambda year: _day(calendar, years, year, month_code, value, overflow)
+    weekday = WEEKDAYS.index(end.removeprefix("-")) + 1
+    if kind == "span":
+        return lambda year: _beside(_day(calendar, years, year, month_code, value, Overflow.REJECT), weekday, end.startswith("-"))
+    return lambda year: _weekday(calendar, years, year, month_code, value, weekday)
+
+
+def _beside(day: int | None, weekday: int, is_before: bool) -> int | None:
+    """Returns the first of a weekday on or after a day, or the last on or before it."""
+    if day is None:
+        return None
+    return day - (day - weekday) % 7 if is_before else day + (weekday - day) % 7
 
 
 def _day(calendar: Calendar, years: Years, year: int, month_code: str, day: int, overflow: Overflow) -> int | None:

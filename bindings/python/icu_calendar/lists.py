@@ -18,7 +18,8 @@ MOST_DAYS = 31
 
 @dataclass(frozen=True)
 class Occurrence:
-    """A date of a recurrence. `index` is how often the step was added to the start; steps that lead to no date count, too."""
+    """A date of a recurrence. `index` is how often the step was added to the start; steps that lead to no date count, too. By a rule of iCalendar it
+    is how many occurrences come before this one."""
 
     index: int
     date: Date
@@ -102,7 +103,7 @@ def recurrences(
 
     Raises UnknownOption for a unit that isn't years, months, weeks or days, OutOfRange if `every` isn't from 1 on, and InvalidDayNumber for the
     days."""
-    from_start = _start(start, calendar, years)
+    from_start = start_of(start, calendar, years)
     step = Unit.of(unit)
     if step is Unit.DEFAULT:
         raise UnknownOption(given=f"unit={unit!r}", advice="Unit.YEARS, MONTHS, WEEKS or DAYS would do.")
@@ -112,7 +113,8 @@ def recurrences(
     return _recurrences(from_start, step, every, window, skip)
 
 
-def _start(start: DayLike, calendar: CalendarLike | None, years: YearsLike | None) -> Date:
+def start_of(start: DayLike, calendar: CalendarLike | None, years: YearsLike | None) -> Date:
+    """Returns the date of a start, in its own calendar or in ISO, unless another is named."""
     if isinstance(start, Date):
         return start.to_calendar(start.calendar if calendar is None else calendar, years)
     return Date.of_day(day_number_of(start), Calendar.ISO if calendar is None else calendar, Years.PUBLISHED if years is None else years)

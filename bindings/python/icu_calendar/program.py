@@ -101,6 +101,22 @@ def recurrence_lines(
     return lines_of(["recur", *names, "skip" if skip else "constrain", str(first), str(last), *fields], rows)
 
 
+def rule_lines(
+    calendar: CalendarLike,
+    first: int,
+    last: int,
+    start: Sequence[str],
+    rule: str,
+    *,
+    shown: CalendarLike = Calendar.ISO,
+    rows: bytes = b"",
+) -> list[str]:
+    """Returns the program's occurrences of a recurrence rule of iCalendar from day number `first` to `last`, over the years of rows. The start is a
+    day number, or fields such as `year=2024`, as words. A line each, with the index, the date in the calendar and in `shown`."""
+    names = Calendar.of(calendar).program_name, Calendar.of(shown).program_name
+    return lines_of(["rrule", *names, str(first), str(last), *start, rule], rows)
+
+
 def holiday_lines(book: bytes, first: int, last: int) -> list[str]:
     """Returns the program's holidays of a book from day number `first` to `last`, over computed years: a line each, with the ISO date and the
     name."""

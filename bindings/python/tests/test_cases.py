@@ -6,7 +6,7 @@ from concurrent.futures import ThreadPoolExecutor
 from pathlib import Path
 
 from icu_calendar import Calendar, run, span
-from icu_calendar.program import anniversary_lines, holiday_lines, recurrence_lines
+from icu_calendar.program import anniversary_lines, holiday_lines, recurrence_lines, rule_lines
 
 TOP = Path(__file__).resolve().parents[3]
 CASES = TOP / "cases"
@@ -33,8 +33,8 @@ class Cases(unittest.TestCase):
             self.assertEqual(run(["span"], file.read_bytes()), (int(STATUSES[file.stem]), file.with_suffix(".out").read_bytes()), file.name)
 
     def test_lists(self):
-        cases = cases_of(CASES / "lists.jsonl")
-        self.assertGreater(len(cases), 2000)
+        cases = [case for name in ("lists", "rrule") for case in cases_of(CASES / f"{name}.jsonl")]
+        self.assertGreater(len(cases), 3000)
         for case in cases:
             self.assertEqual(run([word.decode() for word in case.words], case.source), (case.status, case.out), str(case))
 
@@ -65,6 +65,10 @@ class Shorthands(unittest.TestCase):
     def test_recurrences(self):
         lines = recurrence_lines(Calendar.ISO, "months", 1, 738886, 738976, ["year=2024", "month=M01", "day=31"])
         self.assertEqual(len(lines), 2)
+
+    def test_rules(self):
+        lines = rule_lines(Calendar.ISO, 738886, 738976, ["year=2024", "month=M01", "day=31"], "FREQ=MONTHLY;BYMONTHDAY=-1")
+        self.assertEqual(len(lines), 3)
 
     def test_holidays(self):
         lines = holiday_lines((TOP / "examples/holidays.csv").read_bytes(), 738886, 739251)

@@ -7,7 +7,7 @@ import importlib.util
 import itertools
 import unittest
 
-PLAIN = ["icu_calendar", "icu_calendar.durations", "icu_calendar.lists", "icu_calendar.holidays"]
+PLAIN = ["icu_calendar", "icu_calendar.durations", "icu_calendar.lists", "icu_calendar.rules", "icu_calendar.holidays"]
 NEEDS = {"icu_calendar.arrays": "numpy", "icu_calendar.pandas": "pandas"}
 
 

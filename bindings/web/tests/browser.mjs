@@ -102,6 +102,13 @@ async function testLists(session) {
   assert.equal(await count("recurrences"), 1);
   assert.match(await browser.value(session, `document.getElementById("recurrence-error").textContent`), /from 1 to 9999/);
   await browser.value(session, `type("recurrence-every", "1"); type("anniversary-calendar", "")`);
+  if (await browser.value(session, `document.getElementById("rule").hidden`)) return;
+  await browser.value(session, `type("rule-text", "RRULE:FREQ=MONTHLY;BYDAY=-1FR")`);
+  assert.equal(await count("recurrences"), 9);
+  await browser.value(session, `type("rule-text", "FREQ=HOURLY")`);
+  assert.equal(await count("recurrences"), 1);
+  assert.match(await browser.value(session, `document.getElementById("recurrence-error").textContent`), /^FREQ: Times/);
+  await browser.value(session, `type("rule-text", "")`);
 }
 
 /** Each field and button has a name, nothing is wider than a small window, and no address is asked for. */

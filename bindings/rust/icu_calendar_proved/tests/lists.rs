@@ -1,11 +1,12 @@
-//! The cases of the lists, `cases/lists.jsonl`, through the iterators of this crate.
+//! The cases of the lists, `cases/lists.jsonl` and `cases/rrule.jsonl`, through the iterators of this crate and its rows.
 
 mod common;
 
 use icu_calendar::holidays::{holidays, Book, Years};
 use icu_calendar::lists::{anniversaries, AnniversaryError, Leaping, Missing, Rule, Window};
+use icu_calendar::rows::{Rows, RuleError};
 use icu_calendar::types::{Month, RataDie};
-use icu_calendar::{Date, Iso};
+use icu_calendar::{AnyCalendarKind, Date, Iso};
 use std::fs;
 
 /// A case: the words of a command, what it reads and what it writes.
@@ -66,7 +67,8 @@ fn case(line: &str) -> Case {
 }
 
 fn cases(command: &str) -> Vec<Case> {
-    let lines = fs::read_to_string(common::top().join("cases/lists.jsonl")).unwrap();
+    let name = if command == "rrule" { "rrule" } else { "lists" };
+    let lines = fs::read_to_string(common::top().join(format!("cases/{name}.jsonl"))).unwrap();
     let all = lines
         .lines()
         .map(case)
@@ -177,6 +179,60 @@ fn list_holidays(words: &[&str], source: &str) -> String {
         )
     })
     .collect()
+}
+
+/// Lists a rule from a day number on. Cases of other starts are passed over.
+fn list_rule(words: &[&str], case: &Case) -> Option<String> {
+    let &[_, calendar, _, first, last, start, rule] = words else {
+        return None;
+    };
+    let kind = AnyCalendarKind::from_program_name(calendar.as_bytes())?;
+    let start = start.parse().ok().map(RataDie::new)?;
+    let Some(window) = window(first, last) else {
+        return Some("err InvalidWindow\n".to_owned());
+    };
+    let rows = Rows::try_read(case.source.as_bytes()).unwrap();
+    let found = match rows.rule(kind, start, rule, window) {
+        Ok(found) => found,
+        Err(RuleError { fault, part }) => {
+            let part = part.map_or(String::new(), |it| format!(" {}", it.as_str()));
+            return Some(format!("err {fault:?}{part}\n"));
+        }
+    };
+    // What is compared of a line: its index and its day.
+    let lines = found
+        .iter()
+        .map(|it| format!("{} @{}", it.index, it.date.day_number.to_i64_date()));
+    Some(lines.collect::<Vec<_>>().join("\n"))
+}
+
+/// Returns the index and the day of each line, or the error line.
+fn indexed_days(out: &str) -> String {
+    if out.starts_with("err") {
+        return out.to_owned();
+    }
+    let day = |line: &str| {
+        let (index, _) = line.split_once(' ').unwrap();
+        format!("{index} @{}", line.rsplit_once('@').unwrap().1)
+    };
+    out.lines().map(day).collect::<Vec<_>>().join("\n")
+}
+
+#[test]
+fn rules_are_the_programs() {
+    let mut compared = 0;
+    for case in cases("rrule") {
+        // A start that is no valid day is clamped here, and an error of the program.
+        if is_about_lines(&case) || case.out == "err Overflow\n" {
+            continue;
+        }
+        let words: Vec<&str> = case.words.iter().map(String::as_str).collect();
+        if let Some(found) = list_rule(&words, &case) {
+            assert_eq!(found, indexed_days(&case.out), "{words:?}");
+            compared += 1;
+        }
+    }
+    assert!(compared > 100, "{compared}");
 }
 
 fn compare(command: &str, list: impl Fn(&[&str], &Case) -> String) {

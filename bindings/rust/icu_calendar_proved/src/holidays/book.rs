@@ -24,7 +24,7 @@ use core::{fmt, str};
 pub struct BookError {
     /// The record's number, from 1.
     pub number: usize,
-    /// The number of its first invalid field, from 1, or 0 if the record doesn't have six fields.
+    /// The number of its first invalid field, from 1, or 0 if the record doesn't have six to ten fields.
     pub field: u8,
 }
 
@@ -202,9 +202,12 @@ fn rule(kind: &[u8], fields: [&[u8]; 4]) -> Result<HolidayRule, u8> {
 
 /// Reads a record, or finds the number of its first invalid field.
 fn entry(fields: &[Vec<u8>]) -> Result<(String, HolidayRule), u8> {
-    let [kind, name, calendar, month, value, last] = fields else {
+    let [kind, name, calendar, month, value, last, more @ ..] = fields else {
         return Err(0);
     };
+    if more.len() > 4 {
+        return Err(0);
+    }
     if ![&b"fixed"[..], b"easter", b"weekday"].contains(&kind.as_slice()) {
         return Err(1);
     }
@@ -212,14 +215,17 @@ fn entry(fields: &[Vec<u8>]) -> Result<(String, HolidayRule), u8> {
         .ok()
         .filter(|it| is_name(it.as_bytes()))
         .ok_or(2)?;
-    Ok((
-        String::from(text),
-        rule(kind, [calendar, month, value, last])?,
-    ))
+    let rule = rule(kind, [calendar, month, value, last])?;
+    // Years and moves aren't read here.
+    if let Some(place) = more.iter().position(|it| !it.is_empty()) {
+        return Err(7 + place as u8);
+    }
+    Ok((String::from(text), rule))
 }
 
 impl Book {
-    /// Reads a book: records of six fields, with commas between them. `docs/MANUAL.md` describes the fields.
+    /// Reads a book: records of fields with commas between them, which `docs/MANUAL.md` describes. Unlike the program, it
+    /// refuses records of the kind `span`, and those that say years or moves in their fields 7 to 10.
     ///
     /// # Errors
     ///

@@ -23,10 +23,12 @@
 mod answers;
 mod errors;
 mod requests;
+mod rules;
 
 pub use answers::{RowDate, Span};
 pub use errors::{LineFault, RowsError, Side, SpanError, TableName, TablePart};
 pub use requests::Request;
+pub use rules::{RowOccurrence, RuleError, RuleFault};
 
 use crate::any_calendar::AnyCalendarKind;
 use crate::cal::Iso;
@@ -238,6 +240,57 @@ impl Rows {
             (Status::Done, lines) => Ok(lines.lines().filter_map(answers::first_date).collect()),
             (_, "err InvalidDay\n") => Err(AnniversaryError::InvalidDay),
             _ => Err(AnniversaryError::MonthNotInCalendar),
+        }
+    }
+
+    /// Lists the occurrences of a recurrence rule of iCalendar (RFC 5545, with RSCALE and SKIP of RFC 7529) in a window,
+    /// counted in a calendar over the rows. The start is clamped to the valid range. It is an occurrence only if the
+    /// rule names it.
+    ///
+    /// # Errors
+    ///
+    /// - [`RuleError`] if the text isn't a rule of the calendar.
+    ///
+    /// # Panics
+    ///
+    /// Panics if there is no memory.
+    ///
+    /// # Examples
+    ///
+    /// ```
+    /// use icu_calendar::lists::Window;
+    /// use icu_calendar::rows::Rows;
+    /// use icu_calendar::types::RataDie;
+    /// use icu_calendar::AnyCalendarKind;
+    ///
+    /// # fn main() -> Result<(), Box<dyn std::error::Error>> {
+    /// let start = RataDie::new(738886); // 2024-01-01
+    /// let window = Window::try_new(start, RataDie::new(740000)).unwrap();
+    /// let adar = "FREQ=YEARLY;BYMONTH=5L;BYMONTHDAY=10;SKIP=FORWARD";
+    /// let found = Rows::default().rule(AnyCalendarKind::Hebrew, start, adar, window)?;
+    /// let days: Vec<_> = found.iter().map(|it| it.date.day_number.to_i64_date()).collect();
+    /// assert_eq!(days, [738935, 739320, 739674]); // 2024-02-19, 2025-03-10, 2026-02-27
+    /// # Ok(())
+    /// # }
+    /// ```
+    pub fn rule(
+        &self,
+        calendar: AnyCalendarKind,
+        start: RataDie,
+        rule: &str,
+        window: Window,
+    ) -> Result<Vec<RowOccurrence>, RuleError> {
+        let name = calendar.program_name();
+        let start = Date::from_rata_die(start, Iso).to_rata_die().to_i64_date();
+        let (first, last) = (window.first().to_i64_date(), window.last().to_i64_date());
+        let words = format!(
+            "rrule {name} iso {first} {last} {start} {}",
+            rules::word(rule)
+        );
+        let (status, output) = self.run(&words, "");
+        match status {
+            Status::Done => Ok(output.lines().filter_map(rules::occurrence).collect()),
+            _ => Err(RuleError::read(&output).expect("an error has its form")),
         }
     }
 }
