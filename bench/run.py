@@ -3,7 +3,7 @@
 
 - `operations`: operations on dates in each calendar, in nanoseconds (build first: `rt run -- day iso 1000` in crates/dates_bench).
 - `requests`: requests a second of the program, and instructions for each.
-- `lists`: items a second of long lists of days.
+- `lists`: items a second of long lists of days, and of recurrence rules beside dateutil (for that, run it by /usr/bin/python3).
 - `holidays`: a book of a hundred rules over a century.
 - `from_c`: a conversion from C beside the same in Rattle (build first: the above, and bindings/c/build.sh).
 - `arrays`: columns of dates from C and in NumPy beside the loop in Rattle (build first: the same).
