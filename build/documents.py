@@ -1,5 +1,5 @@
 #!/usr/bin/env python3
-"""Runs the commands and the sample of README.md, docs/MANUAL.md and books/README.md, as they stand there, and compares what they print.
+"""Runs the commands and the sample of README.md, docs/MANUAL.md and the pages of books/, as they stand there, and compares what they print.
 
 The word behind the opening fence of a block says what it is:
 
@@ -22,7 +22,7 @@ from pathlib import Path
 from typing import NamedTuple
 
 TOP = Path(__file__).resolve().parent.parent
-DOCUMENTS = ["README.md", "docs/MANUAL.md", "books/README.md"]
+DOCUMENTS = ["README.md", "docs/MANUAL.md", "books/README.md", "books/countries/README.md"]
 KINDS = ["console", "rust", "crates", "output", "sh", "text"]
 MOST_SECONDS = 150
 

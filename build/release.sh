@@ -68,7 +68,8 @@ put_texts() {
   for it in examples/first.txt examples/holidays.csv bindings/c/examples/dates.c bindings/c/examples/dates.out; do
     put 644 "$top/$it" "$docs/examples/$(basename "$it")"
   done
-  for it in "$top"/rows/*.rows "$top/rows/README.md" "$top"/books/*.csv "$top/books/README.md"; do
+  for it in "$top"/rows/*.rows "$top/rows/README.md" "$top"/books/*.csv "$top/books/README.md" \
+    "$top"/books/countries/*.csv "$top/books/countries/README.md"; do
     put 644 "$it" "share/calspan/${it#"$top"/}"
   done
   mkdir -p "$tree/share/man/man1"
