@@ -19,6 +19,7 @@ mod NearListLemmas
 mod NearMonthLemmas
 mod NearYearLemmas
 mod OccurrenceLemmas
+mod PlainYearLemmas
 mod PositionLemmas
 mod ProbeLemmas
 mod RowLemmas

@@ -8,6 +8,7 @@ pub mod NearDays
 pub mod Occurrences
 pub mod PeriodSets
 pub mod Periods
+pub mod PlainYears
 pub mod Probes
 pub mod Stretches
 pub mod Weekly

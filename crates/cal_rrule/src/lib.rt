@@ -19,6 +19,7 @@ mod named_months;
 mod near_months;
 mod near_years;
 mod occurrences;
+mod plain_years;
 mod probes;
 mod rule_periods;
 mod set_positions;
