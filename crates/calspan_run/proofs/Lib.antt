@@ -14,7 +14,6 @@ mod GeneratorLemmas
 mod HolidayLemmas
 mod HolidayLineLemmas
 mod KindLimits
-mod KindNear
 mod KnownLemmas
 mod ListLemmas
 mod ListRunLemmas

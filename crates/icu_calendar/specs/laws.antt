@@ -1,1 +1,2 @@
+pub mod AnyNear
 pub mod Comparing

@@ -23,6 +23,8 @@ pub mod published;
 mod record_dates;
 mod recurrences;
 pub mod rows;
+mod rule_calendar;
+pub mod rules;
 mod span_answer;
 mod spans;
 mod weeks;

@@ -5,7 +5,7 @@ use Rattle.calspan_run.specs.RruleSaid.{rrule_said}
 use Rattle.calspan_run.specs.DayLines.{IsListEnd, is_window}
 use Rattle.calspan_run.specs.Endings.{EndsList}
 use Rattle.calspan_run.specs.RuleErrors.{rule_error_text}
-use Rattle.calspan_run.proofs.KindNear.{kind_near}
+use Rattle.near_years.proofs.KindNear.{kind_near}
 use Rattle.calspan_run.proofs.RuleListLemmas.{rule_window_refused, rule_refused, rule_listed}
 use Rattle.calspan_run.proofs.rrule.listing.RruleWordsTableList.write.Goals as goal
 

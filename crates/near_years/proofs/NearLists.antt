@@ -1,4 +1,4 @@
--- The years of days near the valid ones, in the calendar of each kind.
+-- Lists of years near the valid days.
 use Rattle.std.proofs.Common.{◌≡◌, ℕ, ◌≤◌, Bool, true, false, not, if◌then◌else◌, List, [], refl, sym, subst, arith, ◌∙◌, ℤ, pos, neg_ℤ, ◌+ℤ◌, ◌-ℤ◌, ◌*ℤ◌, ◌≤ℤ◌, ◌<ℤ◌}
 use Rattle.std.specs.Prelude.{IsTrue, ◌&&◌, ◌==◌, nat_le}
 use Rattle.std.proofs.lemmas.Bool.Decides.{nat_tests}
@@ -24,6 +24,7 @@ use Rattle.cal_coptic.specs.declared.ethiopian.EthiopianEraStyle.TheVariants.{Am
 use Rattle.cal_east_asian.specs.laws.ComputedLaws.{computed_year, computed-years}
 use Rattle.cal_east_asian.specs.laws.EastAsianStartLaws as east_asian_bounds
 use Rattle.cal_east_asian.specs.EastAsianList.{east_asian_list}
+use Rattle.cal_east_asian.specs.EastAsianYears.{AreYears}
 use Rattle.cal_east_asian.specs.EastAsianRows as east_asian
 use Rattle.cal_east_asian.specs.TableAccepted as lunisolar
 use Rattle.cal_east_asian.specs.TableYears.{chosen_year}
@@ -190,49 +191,32 @@ east_asian-months : (year_of : ℤ → EastAsianTraditionalYear) (m : MonthParts
 unfolding east_asian_list
 east_asian-months year_of m h = let tested = both-second true (nat_le 1 m.number) (nat_le m.number 12) h in grind (arith, nat_tests)
 
--- ---- kinds
+-- ---- lists
 
-side_near : (s : Side) (rows : List EastAsianTraditionalYear) → lunisolar.IsAccepted (computed_year s) rows → IsNearList (side_system s rows).list
-side_near s rows accepted =
-    let law = chosen-years (computed_year s) rows accepted (computed-years s) in
-    let year_of = chosen_year (computed_year s) rows in
-    record {
-      years = list-near (east_asian_list year_of) (record {
-        before = omega (arith, signed, east_asian_bounds.start-near year_of law (neg_ℤ (pos 1036000)) (omega (arith, signed), omega (arith, signed)), gregorian_start-bounds (neg_ℤ (pos 1036000)));
-        behind = omega (arith, signed, east_asian_bounds.start-near year_of law (pos 1036000) (omega (arith, signed), omega (arith, signed)), gregorian_start-bounds (pos 1036000));
-      });
-      months = east_asian-months year_of;
-      apart = east_asian_bounds.months-apart year_of law;
-    }
-
--- the Chinese or the Korean calendar over a table of its side
-table_side_near : (s : Side) (table : EastAsianTable) → table.side ≡ s → IsNearList (side_system s (east_asian.years_of table.rows.now)).list
-table_side_near s table same =
-    side_near s (east_asian.years_of table.rows.now)
-    (subst (λ (s : Side). lunisolar.IsAccepted (computed_year s) (east_asian.years_of table.rows.now)) same table.accepted)
-
-tabular_near : (a : TabularAlgorithm) → IsNearList (tabular_system a).list
-tabular_near a = record {
-  years = list-near (hijri_list (tabular_year a)) (hijri_surrounds (tabular_year a) (tabular-numbered a) (tabular-joins a));
-  months = plain-months 12 (hijri_list (tabular_year a)) (hijri_list-plain (tabular_year a)) (omega arith);
-  apart = hijri_bounds.months-apart (tabular_year a) (tabular-numbered a) (tabular-joins a);
-}
-
-table_near : (rows : List HijriYear) → hijri.IsAccepted friday_year rows → IsNearList (table_system rows).list
-table_near rows accepted = record {
-  years = list-near (hijri_list (table_year rows)) (hijri_surrounds (table_year rows) (table-numbered rows accepted) (table-joins rows accepted));
-  months = plain-months 12 (hijri_list (table_year rows)) (hijri_list-plain (table_year rows)) (omega arith);
-  apart = hijri_bounds.months-apart (table_year rows) (table-numbered rows accepted) (table-joins rows accepted);
-}
-
-offset_near : (offset : ℤ) → IsShift offset → IsNearList (offset_list offset)
+pub offset_near : (offset : ℤ) → IsShift offset → IsNearList (offset_list offset)
 offset_near offset small = record {
   years = renumbered-near offset small gregorian_list gregorian_surrounds;
   months = plain-months 12 (offset_list offset) (offset_list-plain offset) (omega arith);
   apart = apart-renumbered offset small gregorian_list gregorian_list-bounded;
 }
 
-ethiopian_near : (style : EthiopianEraStyle) → IsNearList (ethiopian_system style).list
+pub gregorian_near : IsNearList (offset_list (pos 0))
+gregorian_near = offset_near (pos 0) (true-offset (pos 0) refl)
+
+pub buddhist_near : IsNearList (offset_list buddhist_offset)
+buddhist_near = offset_near buddhist_offset (true-offset buddhist_offset refl)
+
+pub roc_near : IsNearList (offset_list roc_offset)
+roc_near = offset_near roc_offset (true-offset roc_offset refl)
+
+pub coptic_near : IsNearList coptic_list
+coptic_near = record {
+  years = list-near coptic_list coptic_wide;
+  months = plain-months 13 coptic_list coptic_list-plain (omega arith);
+  apart = coptic_list-bounded.apart;
+}
+
+pub ethiopian_near : (style : EthiopianEraStyle) → IsNearList (ethiopian_system style).list
 ethiopian_near style =
     let small = coptic_offset-small style in
     record {
@@ -241,49 +225,49 @@ ethiopian_near style =
       apart = apart-renumbered (coptic_offset style) small coptic_list coptic_list-bounded;
     }
 
-persian_near : (years : List ℤ) → AreCorrectable years → IsNearList (persian_list years)
+pub julian_near : IsNearList julian_list
+julian_near = record {
+  years = list-near julian_list julian_surrounds;
+  months = plain-months 12 julian_list julian_list-plain (omega arith);
+  apart = julian_bounds.months-apart;
+}
+
+pub indian_near : IsNearList indian_list
+indian_near = record {
+  years = list-near indian_list indian_surrounds;
+  months = plain-months 12 indian_list indian_list-plain (omega arith);
+  apart = indian_bounds.months-apart;
+}
+
+pub persian_near : (years : List ℤ) → AreCorrectable years → IsNearList (persian_list years)
 persian_near years known = record {
   years = list-near (persian_list years) (persian_surrounds years known);
   months = plain-months 12 (persian_list years) (persian_list-plain years) (omega arith);
   apart = persian_bounds.months-apart years known;
 }
 
--- fields can name the years of days near the valid ones, in the calendar of each kind
-pub kind_near : (t : Tables) (k : AnyCalendarKind) → IsNearList (kind_system (table_contents t) k).list
-kind_near t kind.Buddhist = offset_near buddhist_offset (true-offset buddhist_offset refl)
-kind_near t kind.Chinese = table_side_near side.China t.china t.of_china
-kind_near t kind.Coptic = record {
-  years = list-near coptic_list coptic_wide;
-  months = plain-months 13 coptic_list coptic_list-plain (omega arith);
-  apart = coptic_list-bounded.apart;
-}
-kind_near t kind.Dangi = table_side_near side.Korea t.korea t.of_korea
-kind_near t kind.Ethiopian = ethiopian_near AmeteMihret
-kind_near t kind.EthiopianAmeteAlem = ethiopian_near AmeteAlem
-kind_near t kind.Gregorian = offset_near (pos 0) (true-offset (pos 0) refl)
-kind_near t kind.Hebrew = record {
+pub hebrew_near : IsNearList hebrew_list
+hebrew_near = record {
   years = list-near hebrew_list hebrew_surrounds;
   months = hebrew-months;
   apart = hebrew_bounds.months-apart;
 }
-kind_near t kind.Indian = record {
-  years = list-near indian_list indian_surrounds;
-  months = plain-months 12 indian_list indian_list-plain (omega arith);
-  apart = indian_bounds.months-apart;
+
+-- under any rules of the Hijri calendar
+pub hijri_near : (year_of : ℤ → HijriYear) → Numbered year_of → Joins year_of → IsNearList (hijri_list year_of)
+hijri_near year_of numbered joins = record {
+  years = list-near (hijri_list year_of) (hijri_surrounds year_of numbered joins);
+  months = plain-months 12 (hijri_list year_of) (hijri_list-plain year_of) (omega arith);
+  apart = hijri_bounds.months-apart year_of numbered joins;
 }
-kind_near t kind.HijriTabularTypeIIFriday = tabular_near (record { leap_years = TypeII; epoch = Friday })
-kind_near t kind.HijriSimulatedMecca = table_near [] (λ i row h. absurd cc)
-kind_near t kind.HijriTabularTypeIIThursday = tabular_near (record { leap_years = TypeII; epoch = Thursday })
-kind_near t kind.HijriUmmAlQura = table_near (hijri_rows.years_of t.umm_al_qura.rows.now) t.umm_al_qura.accepted
-kind_near t kind.Iso = offset_near (pos 0) (true-offset (pos 0) refl)
-kind_near t kind.Japanese = offset_near (pos 0) (true-offset (pos 0) refl)
-kind_near t kind.JapaneseExtended = offset_near (pos 0) (true-offset (pos 0) refl)
-kind_near t kind.Julian = record {
-  years = list-near julian_list julian_surrounds;
-  months = plain-months 12 julian_list julian_list-plain (omega arith);
-  apart = julian_bounds.months-apart;
+
+-- under any rules of a calendar of the Chinese kind
+pub east_asian_near : (year_of : ℤ → EastAsianTraditionalYear) → AreYears year_of → IsNearList (east_asian_list year_of)
+east_asian_near year_of law = record {
+  years = list-near (east_asian_list year_of) (record {
+    before = omega (arith, signed, east_asian_bounds.start-near year_of law (neg_ℤ (pos 1036000)) (omega (arith, signed), omega (arith, signed)), gregorian_start-bounds (neg_ℤ (pos 1036000)));
+    behind = omega (arith, signed, east_asian_bounds.start-near year_of law (pos 1036000) (omega (arith, signed), omega (arith, signed)), gregorian_start-bounds (pos 1036000));
+  });
+  months = east_asian-months year_of;
+  apart = east_asian_bounds.months-apart year_of law;
 }
-kind_near t kind.Persian = persian_near t.persian.years.now t.persian.known
-kind_near t kind.Roc = offset_near roc_offset (true-offset roc_offset refl)
-kind_near t kind.HijriTabularTypeIFriday = tabular_near (record { leap_years = TypeI; epoch = Friday })
-kind_near t kind.HijriTabularTypeIThursday = tabular_near (record { leap_years = TypeI; epoch = Thursday })

@@ -1,0 +1,2 @@
+pub mod KindNear
+pub mod NearLists
