@@ -38,6 +38,6 @@ mod year_steps;
 mod year_weeks;
 mod yearly;
 
-pub use occurrences::{resume_occurrences, rule_occurrences};
+pub use occurrences::{resume_occurrences, rule_occurrences, rule_occurrences_counted};
 pub use recurrence_sets::{Listing, Occurrence};
 pub use rule_periods::RulePeriods;

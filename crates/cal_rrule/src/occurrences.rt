@@ -1,6 +1,6 @@
 //! The occurrences of a rule in a window.
 
-ghost use Rattle.std.specs.Prelude.{◌≡◌, ◌↔◌, IsTrue, List, ℕ, ℤ};
+ghost use Rattle.std.specs.Prelude.{◌≡◌, ◌+◌, ◌≤◌, ◌↔◌, IsTrue, List, ℕ, ℤ};
 ghost use Rattle.std.specs.Option.{ForSome};
 ghost use Rattle.cal_days.specs.Day.{IsValidDay};
 ghost use Rattle.cal_rrule.specs.Blocks.{IsOfBlock, start_of};
@@ -12,11 +12,13 @@ ghost use Rattle.recurrence_sets.specs.Occurrences.{IsOfSome};
 ghost use Rattle.recurrence_sets.specs.declared.occurrence.Occurrence.{Occurrence};
 
 use crate::rule_periods::RulePeriods;
+use cal_arith::Steps;
 use cal_base::Calendar;
 use cal_days::RataDie;
 use cal_rule::RecurrenceRule;
 use cal_types::Window;
 use recurrence_sets::{Bounds, Listing};
+use std::sync::ledger::Ledger;
 
 /// Returns the bounds of a rule that starts on a day.
 fn bounds_from(rule: &RecurrenceRule, day: RataDie) -> Bounds
@@ -42,8 +44,8 @@ fn bounds_from(rule: &RecurrenceRule, day: RataDie) -> Bounds
 ///
 /// [`Listing::rest`] returns the days of the window that are left, and [`Listing::next_index`] the index of the next
 /// item. A list of the same rule and start over the days that are left has exactly the items that are left, and
-/// [`resume_occurrences`] lists them without counting from the start. No memory is allocated. Each item looks at as
-/// many months or years as are passed to find it, and at none that an earlier item has looked at.
+/// [`resume_occurrences`] lists them without counting from the start. No memory is allocated. Each month or year that is
+/// passed is looked at once, from the start on and until the window ends, which [`rule_occurrences_counted`] counts.
 ///
 /// # Examples
 ///
@@ -84,6 +86,40 @@ pub fn rule_occurrences<C: Calendar>(
     let bounds = bounds_from(&rule, day);
     let periods = RulePeriods::new(calendar, rule, day);
     Listing::new(periods, bounds, window)
+}
+
+/// Returns the occurrences as [`rule_occurrences`] does, and counts the looks at the rule's months or years: one tick for
+/// each that is passed, and at most two more. [`Listing::next_counted`] counts on.
+pub fn rule_occurrences_counted<C: Calendar, L: Ledger>(
+    calendar: C,
+    start: &C::DateInner,
+    rule: RecurrenceRule,
+    window: Window,
+    steps: &mut Steps<L>,
+) -> Listing<RulePeriods<C>>
+    requires belongs { IsTrue (C.belongs calendar start.now) }
+    requires nearby { IsNearList (C.system calendar).list }
+    ensures items { let list = (C.system calendar).list in let t = C.date_of calendar start.now in
+        let p = result.periods in (xs : List Occurrence) →
+        AreLeftOf (C.system p.calendar).list p.asked result.bounds result.rest xs
+        ↔ AreOccurrences list rule t window.first window.last xs }
+    ensures counts { let list = (C.system calendar).list in let t = C.date_of calendar start.now in
+        let p = result.periods in (day : ℤ) (index : ℕ) →
+        HasBeforeOf (C.system p.calendar).list p.asked result.bounds day index → HasBefore list rule t day index }
+    ensures days { let list = (C.system calendar).list in let t = C.date_of calendar start.now in
+        let p = result.periods in (n : ℤ) → IsValidDay n →
+        IsOfSome (IsOfBlock (C.system p.calendar).list p.asked.rule (start_of p.asked)) n
+        ↔ IsOfSome (IsKept list rule t) n }
+    ensures bounds { result.bounds ≡ bounds_of (C.system calendar).list rule (C.date_of calendar start.now) }
+    ensures rest { ForSome result.rest (IsRestOf result.bounds window) }
+    ensures parts { let p = result.periods in (p.calendar ≡ calendar) × (p.asked.rule ≡ rule)
+        × (start_of p.asked ≡ C.date_of calendar start.now) }
+    ensures ticks { steps.new ≤ steps.old + 2 + result.looks.period }
+{
+    let day = calendar.to_rata_die(start);
+    let bounds = bounds_from(&rule, day);
+    let periods = RulePeriods::new(calendar, rule, day);
+    Listing::new_counted(periods, bounds, window, steps)
 }
 
 /// Returns the occurrences of a rule in a window, given how many lie before it, from the start on. It goes on where

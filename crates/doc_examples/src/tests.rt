@@ -8,6 +8,7 @@ mod iso;
 mod lists;
 mod over_any;
 mod rows;
+mod rule_days;
 mod rules;
 mod solar;
 mod spans;

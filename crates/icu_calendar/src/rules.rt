@@ -21,15 +21,17 @@ ghost use Rattle.recurrence_sets.specs.Occurrences.{IsOfSome};
 ghost use Rattle.recurrence_sets.specs.declared.occurrence.Occurrence.{Occurrence};
 
 use crate::date::Date;
-use cal_base::{AsCalendar, Calendar};
-use cal_types::Window;
-
 pub use crate::rule_calendar::RuleCalendar;
-pub use cal_rrule::{Listing, Occurrence, RulePeriods, resume_occurrences, rule_occurrences};
+use cal_base::{AsCalendar, Calendar};
+pub use cal_rrule::{
+    Listing, Occurrence, RulePeriods, resume_occurrences, rule_occurrences,
+    rule_occurrences_counted,
+};
 pub use cal_rule::{
     Frequency, MonthSet, Place, PlaceSet, RecurrenceRule, RuleError, RulePart, Skip, WeekdayPlace,
     WeekdayPlaces,
 };
+use cal_types::Window;
 
 impl<A: AsCalendar> Date<A>
 where
@@ -48,18 +50,18 @@ where
     /// # Examples
     ///
     /// ```
-    /// let rule = RecurrenceRule::try_from_str("FREQ=YEARLY;BYMONTH=5L;SKIP=FORWARD", AnyCalendarKind::Hebrew).ok()?;
+    /// let rule = RecurrenceRule::try_from_str(
+    ///     "FREQ=YEARLY;BYMONTH=5L;SKIP=FORWARD",
+    ///     AnyCalendarKind::Hebrew,
+    /// )
+    /// .ok()?;
     /// let window = Window::try_new(RataDie::new(738521), RataDie::new(739616))?;
-    /// let start = Date::from_rata_die(RataDie::new(738204), Hebrew); // 10 Adar I 5782
+    /// let start = Date::from_rata_die(RataDie::new(738197), Hebrew); // 10 Adar I 5782
     /// let mut items = start.rrule(rule, window);
     /// assert!(rt; items.next()?.day.to_i64_date() == 738582); // 10 Adar 5783
     /// assert!(rt; items.next()?.day.to_i64_date() == 738935); // 10 Adar I 5784
     /// ```
-    pub fn rrule(
-        &self,
-        rule: RecurrenceRule,
-        window: Window,
-    ) -> Listing<RulePeriods<A::Calendar>>
+    pub fn rrule(&self, rule: RecurrenceRule, window: Window) -> Listing<RulePeriods<A::Calendar>>
         ensures items { let c = A.cal_of self.now.calendar in
             let list = (A.Calendar.system c).list in let t = A.Calendar.date_of c self.now.inner in
             let p = result.periods in (xs : List Occurrence) →

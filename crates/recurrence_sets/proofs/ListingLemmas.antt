@@ -275,9 +275,14 @@ pub fewer-left : (w : Window) (day : ℤ) → IsBetween w.first w.last day → (
 fewer-left w day within None ends = omega (arith, signed, within.0, within.1)
 fewer-left w day within (Some r) is = omega (arith, signed, within.0, within.1, is.0, is.1)
 
-pub progress : {S A : Type 0} (rest : S → Option Window) (s t : S) (x : A) → days_left (rest t) < days_left (rest s) →
-    MakesProgress (λ _. ⊤) (λ i. at_most (days_left (rest i))) s (Some x) t
-progress rest s t x less = record {
+pub progress-of : {S A : Type 0} (rest : S → Option Window) (s t : S) (r : Option A) → IfSome r (λ _. days_left (rest t) < days_left (rest s)) →
+    MakesProgress (λ _. ⊤) (λ i. at_most (days_left (rest i))) s r t
+progress-of rest s t None less = record {
+  on = λ _. tt;
+  keeps = tt;
+  rests = λ _. tt;
+}
+progress-of rest s t (Some x) less = record {
   on = λ _. (tt, tt, less);
   keeps = tt;
   rests = λ _. tt;

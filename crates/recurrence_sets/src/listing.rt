@@ -1,22 +1,27 @@
 //! An iterator over the occurrences of a recurrence set in a window.
 
-ghost use Rattle.std.specs.Prelude.{◌≡◌};
+ghost use Rattle.std.specs.Prelude.{◌≡◌, ◌<◌};
 ghost use Rattle.std.specs.Option.{ForSome};
-ghost use Rattle.recurrence_sets.specs.Listing.{IsListing};
+ghost use Rattle.cal_days.specs.Day.{IsValidDay};
+ghost use Rattle.recurrence_sets.specs.Listing.{AreLooks, IsListing};
 
 use crate::bounds::Bounds;
 use crate::looks::{Looks, first_looks, next_day};
 use crate::occurrence::Occurrence;
 use crate::passing::pass_before;
 use crate::periods::Periods;
+use cal_arith::Steps;
+use cal_days::RataDie;
 use cal_types::Window;
+use std::marker::Brand;
+use std::sync::ledger::{Blank, Ledger};
 
 /// The occurrences of a recurrence set in a window: an iterator with ascending indices and days.
 ///
 /// The call [`Listing::new`] counts the days before the window. [`Listing::resume`] is given their number.
 ///
-/// An item takes no look at periods that an earlier item has seen. A look at a period is one call of [`Periods::days`],
-/// and each period is looked at once. No memory is allocated.
+/// A look at a period is one call of [`Periods::days`], and each period is looked at once: [`Listing::next_counted`] adds
+/// at most as many ticks as periods are passed, and [`Listing::new_counted`] at most two more. No memory is allocated.
 #[derive(Drop)]
 pub struct Listing<S: Periods> {
     periods: S,
@@ -31,10 +36,10 @@ pub struct Listing<S: Periods> {
 }
 
 impl<S: Periods> Listing<S> {
-    ghost use Rattle.std.specs.Prelude.{◌↔◌, List, None};
+    ghost use Rattle.std.specs.Prelude.{◌+◌, ◌≤◌, ◌↔◌, IfSome, List, None};
     ghost use Rattle.recurrence_sets.specs.Bounds.{IsRestOf};
     ghost use Rattle.recurrence_sets.specs.Occurrences.{AreLeft, AreOccurrences, IsOfSome};
-    ghost use Rattle.recurrence_sets.specs.Listing.{HasBefore};
+    ghost use Rattle.recurrence_sets.specs.Listing.{GoesOn, HasBefore, days_left};
     ghost use Rattle.recurrence_sets.specs.declared.occurrence.Occurrence.{Occurrence};
 
     /// Lists the occurrences in a window, and counts the days before it from the start on.
@@ -44,13 +49,31 @@ impl<S: Periods> Listing<S> {
         ensures rest { ForSome result.rest (IsRestOf bounds window) }
         ensures parts { (result.periods ≡ periods) × (result.bounds ≡ bounds) }
     {
+        Listing::<S>::new_with_blank::<Brand>(periods, bounds, window, Blank::new(1))
+    }
+
+    /// Lists the occurrences in a window as [`Listing::new`] does, and counts the looks at periods: at most two, and one
+    /// for each period that is passed.
+    pub fn new_counted<L: Ledger>(
+        periods: S,
+        bounds: Bounds,
+        window: Window,
+        steps: &mut Steps<L>,
+    ) -> Listing<S>
+        ensures items { (xs : List Occurrence) → AreLeft (IsOfSome (S.has periods)) bounds result.rest xs
+            ↔ AreOccurrences (IsOfSome (S.has periods)) bounds window.first window.last xs }
+        ensures rest { ForSome result.rest (IsRestOf bounds window) }
+        ensures parts { (result.periods ≡ periods) × (result.bounds ≡ bounds) }
+        ensures ticks { steps.new ≤ steps.old + 2 + result.looks.period }
+    {
         let Some(rest) = bounds.days_within(window) else {
-            return Listing::ended(periods, bounds);
+            return Listing::ended(periods, bounds, 0);
         };
         let (first, last) = rest.ends();
         let start = bounds.first_day();
-        let Some(passed) = pass_before(&periods, &bounds, start, first, last) else {
-            return Listing::ended(periods, bounds);
+        let (period, passed) = pass_before(&periods, &bounds, start, first, last, steps);
+        let Some(passed) = passed else {
+            return Listing::ended(periods, bounds, period);
         };
         Listing {
             periods,
@@ -59,6 +82,25 @@ impl<S: Periods> Listing<S> {
             index: passed.index,
             looks: passed.looks,
         }
+    }
+
+    /// Lists the occurrences in a window, with a counter that nobody reads.
+    fn new_with_blank<L: Ledger>(
+        periods: S,
+        bounds: Bounds,
+        window: Window,
+        blank: Blank,
+    ) -> Listing<S>
+        requires name { blank.name ≡ L.name }
+        requires parts { blank.parts ≡ L.parts }
+        requires some { 0 < blank.parts }
+        ensures items { (xs : List Occurrence) → AreLeft (IsOfSome (S.has periods)) bounds result.rest xs
+            ↔ AreOccurrences (IsOfSome (S.has periods)) bounds window.first window.last xs }
+        ensures rest { ForSome result.rest (IsRestOf bounds window) }
+        ensures parts { (result.periods ≡ periods) × (result.bounds ≡ bounds) }
+    {
+        let mut steps = Steps::<L>::new(blank);
+        Listing::new_counted(periods, bounds, window, &mut steps)
     }
 
     /// Lists the occurrences in a window, given how many days of the set lie before it from the start on. It goes on
@@ -71,10 +113,10 @@ impl<S: Periods> Listing<S> {
         ensures parts { (result.periods ≡ periods) × (result.bounds ≡ bounds) }
     {
         let Some(rest) = bounds.days_within(window) else {
-            return Listing::ended(periods, bounds);
+            return Listing::ended(periods, bounds, 0);
         };
         let (_, last) = rest.ends();
-        let looks = first_looks(&periods, last);
+        let looks = first_looks_with_blank::<S, Brand>(&periods, last, Blank::new(1));
         Listing {
             periods,
             bounds,
@@ -84,10 +126,11 @@ impl<S: Periods> Listing<S> {
         }
     }
 
-    /// Lists nothing.
-    fn ended(periods: S, bounds: Bounds) -> Listing<S>
+    /// Lists nothing, once so many periods were passed.
+    fn ended(periods: S, bounds: Bounds, period: u32) -> Listing<S>
         ensures parts { (result.periods ≡ periods) × (result.bounds ≡ bounds) }
         ensures rest { result.rest ≡ None }
+        ensures period { result.looks.period ≡ period }
     {
         Listing {
             periods,
@@ -95,7 +138,7 @@ impl<S: Periods> Listing<S> {
             rest: None,
             index: 0,
             looks: Looks {
-                period: 0,
+                period,
                 current: None,
                 following: None,
             },
@@ -119,28 +162,22 @@ impl<S: Periods> Listing<S> {
     {
         self.index
     }
-}
 
-impl<S: Periods> Iterator for Listing<S> {
-    ghost use Rattle.std.specs.Iterator.{at_most};
-    ghost use Rattle.recurrence_sets.specs.Occurrences.{IsOfSome};
-    ghost use Rattle.recurrence_sets.specs.Listing.{GoesOn, days_left};
-
-    type Item = Occurrence;
-
-    ghost next_gives = { λ s r t. GoesOn (IsOfSome (S.has s.periods)) s.bounds s.rest r t.rest
-        × (t.periods ≡ s.periods) × (t.bounds ≡ s.bounds) };
-
-    ghost remaining = { λ s. at_most (days_left s.rest) };
-
-    fn next(&mut self) -> Option<Occurrence> {
+    /// Returns the next occurrence as `next` does, and counts the looks at periods: at most one for each period that is
+    /// passed, so that no period is looked at twice.
+    pub fn next_counted<L: Ledger>(&mut self, steps: &mut Steps<L>) -> Option<Occurrence>
+        ensures gives { GoesOn (IsOfSome (S.has self.old.periods)) self.old.bounds self.old.rest result self.new.rest
+            × (self.new.periods ≡ self.old.periods) × (self.new.bounds ≡ self.old.bounds) }
+        ensures fewer { IfSome result (λ _. days_left self.new.rest < days_left self.old.rest) }
+        ensures ticks { steps.new + self.old.looks.period ≤ steps.old + self.new.looks.period }
+    {
         let window = self.rest?;
         if self.bounds.has_all(self.index) {
             self.rest = None;
             return None;
         }
         let (first, last) = window.ends();
-        let (looks, found) = next_day(&self.periods, &self.looks, first, last);
+        let (looks, found) = next_day(&self.periods, &self.looks, first, last, steps);
         self.looks = looks;
         match found {
             None => {
@@ -157,5 +194,48 @@ impl<S: Periods> Iterator for Listing<S> {
                 Some(item)
             }
         }
+    }
+
+    /// Returns the next occurrence, with a counter that nobody reads.
+    fn next_with_blank<L: Ledger>(&mut self, blank: Blank) -> Option<Occurrence>
+        requires name { blank.name ≡ L.name }
+        requires parts { blank.parts ≡ L.parts }
+        requires some { 0 < blank.parts }
+        ensures gives { GoesOn (IsOfSome (S.has self.old.periods)) self.old.bounds self.old.rest result self.new.rest
+            × (self.new.periods ≡ self.old.periods) × (self.new.bounds ≡ self.old.bounds) }
+        ensures fewer { IfSome result (λ _. days_left self.new.rest < days_left self.old.rest) }
+    {
+        let mut steps = Steps::<L>::new(blank);
+        self.next_counted(&mut steps)
+    }
+}
+
+/// Looks at the first two periods, with a counter that nobody reads.
+fn first_looks_with_blank<S: Periods, L: Ledger>(periods: &S, last: RataDie, blank: Blank) -> Looks
+    requires valid { IsValidDay last }
+    requires name { blank.name ≡ L.name }
+    requires parts { blank.parts ≡ L.parts }
+    requires some { 0 < blank.parts }
+    ensures looks { AreLooks (S.has periods.now) last result }
+    ensures period { result.period ≡ 0 }
+{
+    let mut steps = Steps::<L>::new(blank);
+    first_looks(periods, last, &mut steps)
+}
+
+impl<S: Periods> Iterator for Listing<S> {
+    ghost use Rattle.std.specs.Iterator.{at_most};
+    ghost use Rattle.recurrence_sets.specs.Occurrences.{IsOfSome};
+    ghost use Rattle.recurrence_sets.specs.Listing.{GoesOn, days_left};
+
+    type Item = Occurrence;
+
+    ghost next_gives = { λ s r t. GoesOn (IsOfSome (S.has s.periods)) s.bounds s.rest r t.rest
+        × (t.periods ≡ s.periods) × (t.bounds ≡ s.bounds) };
+
+    ghost remaining = { λ s. at_most (days_left s.rest) };
+
+    fn next(&mut self) -> Option<Occurrence> {
+        self.next_with_blank::<Brand>(Blank::new(1))
     }
 }

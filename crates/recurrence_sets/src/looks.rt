@@ -1,6 +1,6 @@
 //! Looks at the days of periods, and the first day of any period.
 
-ghost use Rattle.std.specs.Prelude.{◌≡◌, ◌+◌, ◌⊎◌, IsSome, IsTrue, MatchOption, None, Some, ◌≤ℤ◌};
+ghost use Rattle.std.specs.Prelude.{◌≡◌, ◌+◌, ◌<◌, ◌≤◌, ◌⊎◌, IfSome, IsSome, IsTrue, MatchOption, None, Some, ◌≤ℤ◌};
 ghost use Rattle.std.specs.Option.{ForSome};
 ghost use Rattle.cal_days.specs.Day.{IsValidDay};
 ghost use Rattle.cal_types.specs.Windows.{IsWindow};
@@ -8,10 +8,13 @@ ghost use Rattle.recurrence_sets.specs.Days.{IsFirstBetween};
 ghost use Rattle.recurrence_sets.specs.Listing.{AreLooks, ArePassed, IsLook};
 ghost use Rattle.recurrence_sets.specs.Occurrences.{IsOfSome};
 ghost use Rattle.recurrence_sets.specs.PeriodBits.{has_day};
+ghost use Rattle.recurrence_sets.specs.Periods.{HaveEnded, Holds};
 
 use crate::period_days::PeriodDays;
 use crate::periods::Periods;
+use cal_arith::Steps;
 use cal_days::RataDie;
+use std::sync::ledger::Ledger;
 
 /// What was seen of a period and of the next one.
 #[derive(Clone, Copy)]
@@ -24,14 +27,35 @@ pub(crate) struct Looks {
     pub(crate) following: Option<PeriodDays>,
 }
 
-/// Looks at the first two periods.
-pub(crate) fn first_looks<S: Periods>(periods: &S, last: RataDie) -> Looks
+/// Returns the days of a period as [`Periods::days`] does, at the cost of one tick.
+fn days_counted<S: Periods, L: Ledger>(
+    periods: &S,
+    period: u32,
+    last: RataDie,
+    steps: &mut Steps<L>,
+) -> Option<PeriodDays>
+    requires { IsValidDay last }
+    ensures days { MatchOption result (HaveEnded (S.has periods.now) period last) (Holds (S.has periods.now period)) }
+    ensures few { IfSome result (λ _. period < 4294967295) }
+    ensures ticks { steps.new ≡ steps.old + 1 }
+{
+    steps.tick();
+    periods.days(period, last)
+}
+
+/// Looks at the first two periods, at the cost of at most two ticks.
+pub(crate) fn first_looks<S: Periods, L: Ledger>(
+    periods: &S,
+    last: RataDie,
+    steps: &mut Steps<L>,
+) -> Looks
     requires { IsValidDay last }
     ensures looks { AreLooks (S.has periods.now) last result }
     ensures period { result.period ≡ 0 }
+    ensures ticks { steps.new ≤ steps.old + 2 }
 {
-    let current = periods.days(0, last);
-    let following = days_behind(periods, 0, &current, last);
+    let current = days_counted(periods, 0, last, steps);
+    let following = days_behind(periods, 0, &current, last, steps);
     Looks {
         period: 0,
         current,
@@ -39,33 +63,41 @@ pub(crate) fn first_looks<S: Periods>(periods: &S, last: RataDie) -> Looks
     }
 }
 
-/// Returns the days of the period behind one, without a look if no days are left.
-fn days_behind<S: Periods>(
+/// Returns the days of the period behind one, at the cost of at most one tick: without a look if no days are left.
+fn days_behind<S: Periods, L: Ledger>(
     periods: &S,
     period: u32,
     seen: &Option<PeriodDays>,
     last: RataDie,
+    steps: &mut Steps<L>,
 ) -> Option<PeriodDays>
     requires valid { IsValidDay last }
     requires seen { IsLook (S.has periods.now) last period seen.now }
-    ensures { IsLook (S.has periods.now) last (period + 1) result }
+    ensures look { IsLook (S.has periods.now) last (period + 1) result }
+    ensures ticks { steps.new ≤ steps.old + 1 }
 {
     match seen {
         None => None,
-        Some(_) => periods.days(period + 1, last),
+        Some(_) => days_counted(periods, period + 1, last, steps),
     }
 }
 
-/// Goes on to the next period.
-fn next_looks<S: Periods>(periods: &S, looks: &Looks, last: RataDie) -> Looks
+/// Goes on to the next period, at the cost of at most one tick.
+fn next_looks<S: Periods, L: Ledger>(
+    periods: &S,
+    looks: &Looks,
+    last: RataDie,
+    steps: &mut Steps<L>,
+) -> Looks
     requires valid { IsValidDay last }
     requires looks { AreLooks (S.has periods.now) last looks.now }
     requires some { IsSome looks.now.current }
     ensures looks { AreLooks (S.has periods.now) last result }
     ensures period { result.period ≡ looks.now.period + 1 }
+    ensures ticks { steps.new ≤ steps.old + 1 }
 {
     let period = looks.period + 1;
-    let following = days_behind(periods, period, &looks.following, last);
+    let following = days_behind(periods, period, &looks.following, last, steps);
     Looks {
         period,
         current: looks.following,
@@ -96,12 +128,14 @@ pub(crate) fn earlier(day: RataDie, other: Option<RataDie>) -> RataDie
     }
 }
 
-/// Returns the first day of any period from one day to another, and the looks that found it.
-pub(crate) fn next_day<S: Periods>(
+/// Returns the first day of any period from one day to another, and the looks that found it, at the cost of at most as
+/// many ticks as periods are passed.
+pub(crate) fn next_day<S: Periods, L: Ledger>(
     periods: &S,
     looks: &Looks,
     first: RataDie,
     last: RataDie,
+    steps: &mut Steps<L>,
 ) -> (Looks, Option<RataDie>)
     requires days { IsWindow first last }
     requires looks { AreLooks (S.has periods.now) last looks.now }
@@ -109,6 +143,7 @@ pub(crate) fn next_day<S: Periods>(
     ensures looks { AreLooks (S.has periods.now) last result.0 }
     ensures passed { ArePassed (S.has periods.now) result.0.period first last }
     ensures day { IsFirstBetween (IsOfSome (S.has periods.now)) first last result.1 }
+    ensures ticks { steps.new + looks.now.period ≤ steps.old + result.0.period }
 {
     let mut seen = *looks;
     'periods: loop {
@@ -121,7 +156,7 @@ pub(crate) fn next_day<S: Periods>(
                 if seen.current.is_none() {
                     return (seen, None);
                 }
-                seen = next_looks(periods, &seen, last);
+                seen = next_looks(periods, &seen, last, steps);
             }
         }
     }

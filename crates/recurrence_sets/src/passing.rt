@@ -1,6 +1,6 @@
 //! Days before a window, passed and counted.
 
-ghost use Rattle.std.specs.Prelude.{◌≡◌, MatchOption, Some, ◌≤ℤ◌, ◌<ℤ◌};
+ghost use Rattle.std.specs.Prelude.{◌≡◌, ◌+◌, ◌≤◌, MatchOption, Some, ◌≤ℤ◌, ◌<ℤ◌};
 ghost use Rattle.std.specs.Option.{ForSome};
 ghost use Rattle.cal_types.specs.Windows.{IsWindow};
 ghost use Rattle.recurrence_sets.specs.Passing.{IsFullBefore, IsPassing};
@@ -9,7 +9,9 @@ ghost use Rattle.recurrence_sets.specs.Occurrences.{IsOfSome};
 use crate::bounds::Bounds;
 use crate::looks::{Looks, first_looks, next_day};
 use crate::periods::Periods;
+use cal_arith::Steps;
 use cal_days::RataDie;
+use std::sync::ledger::Ledger;
 
 /// Days that were passed: those from a first one to the one before the next.
 #[derive(Clone, Copy)]
@@ -24,21 +26,25 @@ pub(crate) struct Passed {
     pub(crate) looks: Looks,
 }
 
-/// Passes the days from a first one to the one before `day`, and counts those of all periods. Returns `None` if they are
-/// as many as there may be.
-pub(crate) fn pass_before<S: Periods>(
+/// Passes the days from a first one to the one before `day`, and counts those of all periods, at the cost of at most two
+/// ticks, and one for each period that is passed. Returns the number of these periods, and `None` if the days are as many
+/// as there may be.
+pub(crate) fn pass_before<S: Periods, L: Ledger>(
     periods: &S,
     bounds: &Bounds,
     first: RataDie,
     day: RataDie,
     last: RataDie,
-) -> Option<Passed>
+    steps: &mut Steps<L>,
+) -> (u32, Option<Passed>)
     requires before { IsWindow first day }
     requires days { IsWindow day last }
-    ensures { MatchOption result (IsFullBefore (IsOfSome (S.has periods.now)) bounds.now.count first day)
+    ensures passed { MatchOption result.1 (IsFullBefore (IsOfSome (S.has periods.now)) bounds.now.count first day)
         (λ p. IsPassing (S.has periods.now) last p × (p.first ≡ first) × (p.next ≡ day)) }
+    ensures period { ForSome result.1 (λ p. p.looks.period ≡ result.0) }
+    ensures ticks { steps.new ≤ steps.old + 2 + result.0 }
 {
-    let looks = first_looks(periods, last);
+    let looks = first_looks(periods, last, steps);
     let mut passed = Passed {
         first,
         next: first,
@@ -47,15 +53,22 @@ pub(crate) fn pass_before<S: Periods>(
     };
     'days: while passed.next < day {
         if bounds.has_all(passed.index) {
-            return None;
+            return (passed.looks.period, None);
         }
-        passed = pass_day(periods, &passed, day, last);
+        passed = pass_day(periods, &passed, day, last, steps);
     }
-    Some(passed)
+    (passed.looks.period, Some(passed))
 }
 
-/// Passes the days up to the first one that any period gives, or to the one before `day`.
-fn pass_day<S: Periods>(periods: &S, passed: &Passed, day: RataDie, last: RataDie) -> Passed
+/// Passes the days up to the first one that any period gives, or to the one before `day`, at the cost of at most as many
+/// ticks as periods are passed.
+fn pass_day<S: Periods, L: Ledger>(
+    periods: &S,
+    passed: &Passed,
+    day: RataDie,
+    last: RataDie,
+    steps: &mut Steps<L>,
+) -> Passed
     requires passed { IsPassing (S.has periods.now) last passed.now }
     requires first { IsWindow passed.now.first day }
     requires days { IsWindow day last }
@@ -64,8 +77,9 @@ fn pass_day<S: Periods>(periods: &S, passed: &Passed, day: RataDie, last: RataDi
     ensures first { result.first ≡ passed.now.first }
     ensures more { passed.now.next <ℤ result.next }
     ensures most { result.next ≤ℤ day }
+    ensures ticks { steps.new + passed.now.looks.period ≤ steps.old + result.looks.period }
 {
-    let (looks, found) = next_day(periods, &passed.looks, passed.next, last);
+    let (looks, found) = next_day(periods, &passed.looks, passed.next, last, steps);
     match before(found, day) {
         Some(found) => Passed {
             first: passed.first,

@@ -3,10 +3,10 @@ use Rattle.recurrence_sets.proofs.looks.first_looks.Goals as goal
 
 pub days_behind-following-requires-clause-seen : goal.days_behind-following-requires-clause-seen
 days_behind-following-requires-clause-seen g c =
-    look-of (g.S.Periods.has c.args.periods.now) 0 c.args.last c.days-current.result c.days-current.ensures.days c.days-current.ensures.few
+    look-of (g.S.Periods.has c.args.periods.now) 0 c.args.last c.days_counted-current.result c.days_counted-current.ensures.days c.days_counted-current.ensures.few
 
 pub returns-clause-looks : goal.returns-clause-looks
 returns-clause-looks g c = record {
-  current = look-of (g.S.Periods.has c.args.periods.now) 0 c.args.last c.days-current.result c.days-current.ensures.days c.days-current.ensures.few;
-  following = c.days_behind-following.ensures;
+  current = look-of (g.S.Periods.has c.args.periods.now) 0 c.args.last c.days_counted-current.result c.days_counted-current.ensures.days c.days_counted-current.ensures.few;
+  following = c.days_behind-following.ensures.look;
 }

@@ -1,4 +1,4 @@
-use Rattle.std.proofs.Common.{ℕ, subst, sym}
+use Rattle.std.proofs.Common.{ℕ, subst, sym, arith}
 use Rattle.recurrence_sets.specs.Listing.{ArePassed}
 use Rattle.recurrence_sets.proofs.LookLemmas.{looks-ended, looks-first, looks-passed}
 use Rattle.recurrence_sets.proofs.looks.next_day.Goals as goal
@@ -27,4 +27,5 @@ periods-preserved g c =
       passed = subst (λ (k : ℕ). ArePassed Has k c.args.first c.args.last) (sym c.next_looks-seen.ensures.period)
           (looks-passed Has c.args.first c.args.last c.requires.days seen.period c.periods.invariant.passed
           seen.current c.periods.invariant.looks.current c.in-None.ensures c.if-is_none.ensures);
+      ticks = omega (arith, c.periods.invariant.ticks, c.next_looks-seen.ensures.ticks, c.next_looks-seen.ensures.period);
     }

@@ -1,4 +1,4 @@
-use Rattle.std.proofs.Common.{refl, sym, subst, ℤ}
+use Rattle.std.proofs.Common.{refl, sym, subst, arith, ℤ}
 use Rattle.recurrence_sets.specs.Bounds.{has_all}
 use Rattle.recurrence_sets.specs.Occurrences.{IsOfSome}
 use Rattle.recurrence_sets.specs.Passing.{HasPassed}
@@ -10,10 +10,11 @@ days-init g c = record {
   passed = pass-first (g.S.Periods.has c.args.periods.now) c.args.first c.args.last c.first_looks-looks.result c.first_looks-looks.ensures.looks c.first_looks-looks.ensures.period;
   first = refl;
   most = c.requires.before.order;
+  ticks = omega (arith, c.first_looks-looks.ensures.ticks, c.first_looks-looks.ensures.period);
 }
 
-pub returns-then-has_all : goal.returns-then-has_all
-returns-then-has_all g c =
+pub returns-then-has_all-clause-passed : goal.returns-then-has_all-clause-passed
+returns-then-has_all-clause-passed g c =
     let Is = IsOfSome (g.S.Periods.has c.args.periods.now) in
     let p = c.days.passed in
     record {
