@@ -1,4 +1,4 @@
-use Rattle.std.proofs.Common.{arith, ◌+◌}
+use Rattle.std.proofs.Common.{arith}
 use Rattle.line_faults.proofs.WalkLemmas.{few_words}
 use Rattle.line_faults.proofs.faults.line_fault.Goals as goal
 
