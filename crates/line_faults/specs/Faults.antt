@@ -20,3 +20,8 @@ fault_in (Some (at, bag)) last n (word ∷ words) = fault_in (step at bag word) 
 -- the first fault of the words of a line
 abbrev pub first_fault : List (List ℕ) → Option LineFault
 first_fault words = fault_in (Some (First, no_fields)) First 0 words
+
+-- the first of some words, if there is one
+abbrev pub first_of : List (List ℕ) → Option (List ℕ)
+first_of [] = None
+first_of (word ∷ words) = Some word

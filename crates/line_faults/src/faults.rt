@@ -1,7 +1,8 @@
 //! The first fault of a line.
-ghost use Rattle.std.specs.Prelude.{◌≡◌};
+ghost use Rattle.std.specs.Prelude.{◌≡◌, drop};
+ghost use Rattle.std.specs.Option.{option_map};
 ghost use Rattle.request_lines.specs.Words.{words_of};
-ghost use Rattle.line_faults.specs.Faults.{first_fault};
+ghost use Rattle.line_faults.specs.Faults.{first_fault, first_of};
 
 use crate::expected::Expected;
 use crate::steps::{may_end, step};
@@ -59,5 +60,22 @@ pub fn line_fault(text: &[u8]) -> Option<LineFault>
             word: count + 1,
             expected,
         })
+    }
+}
+
+/// Returns the word of a line after so many others, or `None` if there are no more.
+pub fn word_after(text: &[u8], others: usize) -> Option<&[u8]>
+    ensures { option_map (λ word. word.now) result ≡ first_of (drop others (words_of text.now)) }
+{
+    let mut words = Words::new(text);
+    let mut left = others;
+    'words: loop {
+        let Some(word) = words.next() else {
+            return None;
+        };
+        if left == 0 {
+            return Some(word);
+        }
+        left -= 1;
     }
 }

@@ -12,4 +12,4 @@ pub mod laws;
 mod steps;
 
 pub use expected::Expected;
-pub use faults::{LineFault, line_fault};
+pub use faults::{LineFault, line_fault, word_after};
