@@ -76,14 +76,11 @@ pub fn why(code: u8) -> Option<&'static str> {
     }
 }
 
-/// Returns what is written of a run that ended before its input did, by the command.
-pub fn written(first: &[u8]) -> &'static str {
-    if first == b"span".as_slice()
-        || first == b"explain".as_slice()
-        || first == b"convert".as_slice()
-    {
-        "the answers to the lines before are written"
+/// Returns what a run writes lines of, by its command.
+pub fn answers(first: &[u8]) -> &'static str {
+    if first == b"span".as_slice() || first == b"convert".as_slice() {
+        "answers are written"
     } else {
-        "nothing is written"
+        "lines are written"
     }
 }

@@ -17,12 +17,12 @@ abbrev pub ending_of : Expected → List ℕ
 ending_of First = codes ": span or row" ++ 10 ∷ []
 ending_of Calendar =
     codes ": a calendar: iso, gregorian, julian, buddhist, roc, japanese, chinese, dangi, hebrew, "
-    ++ codes "islamic-umalqura, islamic-civil, islamic-tbla, islamic-type1-friday, islamic-type1-thursday, islamic-simulated, "
-    ++ codes "persian, indian, coptic, ethiopic or ethioaa" ++ 10 ∷ []
+    ++ codes "islamic-umalqura, islamic-civil, islamic-tbla, islamic-type1-friday, islamic-type1-thursday, "
+    ++ codes "islamic-simulated, persian, indian, coptic, ethiopic or ethioaa" ++ 10 ∷ []
 ending_of Shown =
     codes ": a calendar: iso, gregorian, julian, buddhist, roc, japanese, chinese, dangi, hebrew, "
-    ++ codes "islamic-umalqura, islamic-civil, islamic-tbla, islamic-type1-friday, islamic-type1-thursday, islamic-simulated, "
-    ++ codes "persian, indian, coptic, ethiopic or ethioaa" ++ 10 ∷ []
+    ++ codes "islamic-umalqura, islamic-civil, islamic-tbla, islamic-type1-friday, islamic-type1-thursday, "
+    ++ codes "islamic-simulated, persian, indian, coptic, ethiopic or ethioaa" ++ 10 ∷ []
 ending_of Unit = codes ": years, months, weeks, days or none" ++ 10 ∷ []
 ending_of Overflow = codes ": constrain, reject or none" ++ 10 ∷ []
 ending_of MissingFields = codes ": reject, ecma or none" ++ 10 ∷ []

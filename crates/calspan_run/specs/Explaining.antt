@@ -10,7 +10,8 @@ use Rattle.calspan_run.specs.Run.{Outside}
 use Rattle.calspan_run.specs.TextSoFar.{TextSoFar}
 
 -- these bytes were taken, these lines are explained, and this rest of a line is held
-pub record IsExplaining (old new : Outside) (r : Reader) (line : LineBuffer) (pending : List ℕ) (malformed : Bool) : Type 0 where
+pub record IsExplaining (old new : Outside) (r : Reader) (line : LineBuffer) (pending : List ℕ)
+    (malformed : Bool) : Type 0 where
   pub bytes : List ℕ
   pub lines : List (List ℕ)
   pub rest : List ℕ

@@ -11,7 +11,7 @@ use Rattle.line_faults.specs.declared.faults.LineFault.{LineFault}
 abbrev pub fault_at : ℕ → Expected → LineFault
 fault_at n at = record { word = n; expected = at }
 
--- the first fault from a place on, behind so many words; or that of the last of them, which couldn't stand where it does
+-- the first fault from a place on, behind so many words; or that of the last of them, which can't stand where it does
 abbrev pub fault_in : Option (Expected × Bag) → Expected → ℕ → List (List ℕ) → Option LineFault
 fault_in None last n words = Some (fault_at n last)
 fault_in (Some (at, bag)) last n [] = if may_end at then None else Some (fault_at (n + 1) at)
