@@ -14,6 +14,8 @@ import sys
 from pathlib import Path
 
 from convert import compare_conversions
+from convert_like_span import compare_with_span
+from explain import compare_explanations
 from grammar import FIELDS, REQUEST, WORDS, has_each_key_once
 import lists
 from lists import cases_of, compare_lists, compare_words
@@ -195,6 +197,7 @@ def compare_all() -> None:
     inputs = [(TABLES / f"{name}.in").read_bytes() for name in STATUSES]
     for _ in range(BROKEN_ROWS):
         check_broken_rows(chance, inputs)
+    compared += f", {compare_with_span()}, {compare_explanations()}"
     compare_words(chance, [case for path in LISTS for case in cases_of(path)], BROKEN_WORDS)
     print(f"cases: {compared}; {BROKEN_INPUTS + BROKEN_ROWS} broken inputs and {BROKEN_WORDS} broken command lines are answered")
 

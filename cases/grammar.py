@@ -34,6 +34,7 @@ REQUEST = re.compile(rb"span " + CALENDAR + rb" " + CALENDAR + rb" " + OPTIONS +
 # The words behind the name of a command. Those of `recur` are followed by fields, and those of `rrule` by a start and a rule.
 FORMS = {
     b"span": [],
+    b"explain": [],
     b"gen": [rb"0?[0-9]{1,5}|100000"],
     b"anniversary": [CALENDAR, CALENDAR, one_of(LEAPINGS), CODE, BYTE, INT, INT],
     b"recur": [CALENDAR, CALENDAR, one_of(UNITS[:4]), rb"[0-9]{1,9}", one_of(MISSINGS), INT, INT],
@@ -79,7 +80,7 @@ NEAR = {
     b"convert": [SHOWN, SHOWN, [*OVERFLOWS, b"skip", b""]],
 }
 ANYWHERE = [
-    *[b"span", b"gen", b"anniversary", b"recur", b"rrule", b"holidays", b"convert", b"iso", b"exact", b"constrain", b"M02", b"1", b"-1", b"", b" "],
+    *[b"span", b"explain", b"gen", b"anniversary", b"recur", b"rrule", b"holidays", b"convert", b"iso", b"exact", b"constrain", b"M02", b"1", b"-1", b"", b" "],
     *[b"day=1 month=M02", b"era=\n", b"era=\t", b"era=\xff", b"\xff", *FIELDS, *RULES],
 ]
 

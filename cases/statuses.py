@@ -39,11 +39,14 @@ RUNS = [
     Run(0, ["gen", "1"], None, b"gen 1 ok 1 err 0 "),
     Run(0, ["span"], REQUEST % 1, b"ok 2024/"),
     Run(1, ["span"], REQUEST % 30, b"err to InvalidDay 29\n"),
+    Run(0, ["explain"], REQUEST % 30 + b"row persian 1\n", b""),
+    Run(1, ["explain"], b"row\n", b"line 1 word 2: china, "),
     Run(2, [], None, b""),
     Run(2, ["spam"], None, b""),
     Run(2, ["span", "span"], None, b""),
     Run(6, ["span"], ROW, b"table line 1 syntax\n"),
     Run(7, ["span"], b"#" * LIMIT + b"#\n", b""),
+    Run(7, ["explain"], b"row\n" + b"#" * LIMIT, b"line 1 word 2: china, "),
 ]
 TOLD = {"--help": b"usage: calspan ", "-h": b"usage: calspan ", "--version": b"calspan, of icu_calendar proved in Rattle"}
 

@@ -5,6 +5,7 @@ pub const USAGE: &str = "\
 usage: calspan convert CALENDAR SHOWN constrain|reject < FILE
                                       writes the date of each line in a second calendar
        calspan span < FILE            answers the request lines of a file
+       calspan explain < FILE         names the first bad word of each malformed line of a file
        calspan gen N                  counts and sums over the answers to N requests, 0 to 100000
        calspan anniversary CALENDAR SHOWN exact|constrain CODE DAY FIRST LAST < ROWS
                                       lists the days from FIRST to LAST that a month and a day name
@@ -22,9 +23,10 @@ pub const VERSION: &str =
     "calspan, of icu_calendar proved in Rattle (a port of icu_calendar 2.4.0)\n";
 
 /// The names of the commands.
-const COMMANDS: [&[u8]; 7] = [
+const COMMANDS: [&[u8]; 8] = [
     b"convert",
     b"span",
+    b"explain",
     b"gen",
     b"anniversary",
     b"recur",
@@ -74,11 +76,11 @@ pub fn why(code: u8) -> Option<&'static str> {
     }
 }
 
-/// Returns what is written of a run that ended before its input did, by the command.
-pub fn written(first: &[u8]) -> &'static str {
+/// Returns what a run writes lines of, by its command.
+pub fn answers(first: &[u8]) -> &'static str {
     if first == b"span".as_slice() || first == b"convert".as_slice() {
-        "the answers to the lines before are written"
+        "answers are written"
     } else {
-        "nothing is written"
+        "lines are written"
     }
 }

@@ -1,10 +1,10 @@
 -- A run of any command: what it says lasts, so that all of its text is written.
 use Rattle.std.proofs.Common.{◌≡◌, ℕ, List, Option, Some, None, ◌↔◌, refl, subst, ◌∙◌}
-use Rattle.calspan_run.specs.Command.{Asked, Span, Generate, Anniversary, Recur, Rrule, Holidays, Convert}
+use Rattle.calspan_run.specs.Command.{Asked, Span, Generate, Anniversary, Recur, Rrule, Holidays, Convert, Explain}
 use Rattle.calspan_run.specs.CommandRuns.{Ends, Runs, RunsAs, ServesAs}
 use Rattle.calspan_run.specs.Laws.{AreLasting}
 use Rattle.calspan_run.specs.ListTexts.{ListsAnniversaries, ListsOccurrences}
-use Rattle.calspan_run.specs.Rules.{end_rules, generator_rules, holiday_rules, list_rules, span_rules}
+use Rattle.calspan_run.specs.Rules.{end_rules, explain_rules, generator_rules, holiday_rules, list_rules, span_rules}
 use Rattle.calspan_run.specs.RuleLists.{EndsRule}
 use Rattle.calspan_run.specs.Run.{Outside, outside}
 use Rattle.calspan_run.specs.Streaming.{Streams, convert_rules}
@@ -13,6 +13,7 @@ use Rattle.calspan_run.specs.declared.status.Status.{Status}
 use Rattle.calspan_run.specs.declared.status.Status.TheVariants.{Words}
 use Rattle.calspan_run.proofs.AnswerLemmas.{span_lasts}
 use Rattle.calspan_run.proofs.ConvertCommandLemmas.{stream_headline}
+use Rattle.calspan_run.proofs.ExplainLemmas.{explain_lasts}
 use Rattle.calspan_run.proofs.GeneratorLemmas.{generator_lasts}
 use Rattle.calspan_run.proofs.HolidayLemmas.{holidays_last}
 use Rattle.calspan_run.proofs.ListLemmas.{end_lasts, list_lasts}
@@ -30,6 +31,7 @@ runs_as (Recur asked) status l l2 t t2 r r2 w w2 h = runs_by (list_rules (ListsO
 runs_as (Rrule asked) status l l2 t t2 r r2 w w2 h = runs_by (end_rules (EndsRule asked)) (end_lasts (EndsRule asked)) status l l2 t t2 r r2 w w2 h
 runs_as (Holidays asked) status l l2 t t2 r r2 w w2 h = runs_by (holiday_rules asked) (holidays_last asked) status l l2 t t2 r r2 w w2 h
 runs_as (Convert asked) status l l2 t t2 r r2 w w2 h = record { streams = h; writes = stream_headline asked status l l2 t t2 r r2 w w2 h }
+runs_as Explain status l l2 t t2 r r2 w w2 h = runs_by explain_rules explain_lasts status l l2 t t2 r r2 w w2 h
 
 pub command_ends : (asked : Asked) (o : Option Asked) → Some asked ≡ o → (status : Status) (l l2 t t2 : Option (List ℕ)) (r r2 w w2 : ℕ) → ServesAs asked status (outside l t r w) (outside l2 t2 r2 w2) → Ends o status (outside l t r w) (outside l2 t2 r2 w2)
 command_ends asked o said status l l2 t t2 r r2 w w2 h =
@@ -47,6 +49,7 @@ not_words (Recur asked) status old new h e = no_words (list_rules (ListsOccurren
 not_words (Rrule asked) status old new h e = no_words (end_rules (EndsRule asked)) status old new h.serves e
 not_words (Holidays asked) status old new h e = no_words (holiday_rules asked) status old new h.serves e
 not_words (Convert asked) status old new h e = subst (λ (s : Status). Streams (convert_rules asked) s old new) e h.streams
+not_words Explain status old new h e = no_words explain_rules status old new h.serves e
 
 -- a run ends as one of other words exactly where there is no command
 pub words_told : (o : Option Asked) (status : Status) (old new : Outside) → Ends o status old new → (status ≡ Words) ↔ (o ≡ None)

@@ -10,6 +10,8 @@ mod ConvertLawLemmas
 mod ConvertRunLemmas
 mod DayLineLemmas
 mod EndLemmas
+mod ExplainAnswerLemmas
+mod ExplainLemmas
 mod GeneratorLemmas
 mod HolidayLemmas
 mod HolidayLineLemmas

@@ -8,8 +8,8 @@ use Rattle.calspan_run.specs.ConvertAsked.{ConvertAsked, convert_read}
 use Rattle.calspan_run.specs.RruleAsked.{RruleAsked, rrule_of}
 use Rattle.calspan_run.specs.Asked.{AnniversaryAsked, HolidaysAsked, RecurAsked, anniversary_read, holidays_read, recur_of}
 
--- answers to the lines of an input, counts and sums over the answers to so many requests, a list, or dates in a second
--- calendar
+-- answers to the lines of an input, counts and sums over the answers to so many requests, a list, dates in a second
+-- calendar, or the first bad word of each line
 pub data Asked : Type 0 where
   Span : Asked
   Generate : ℕ → Asked
@@ -18,6 +18,7 @@ pub data Asked : Type 0 where
   Rrule : RruleAsked → Asked
   Holidays : HolidaysAsked → Asked
   Convert : ConvertAsked → Asked
+  Explain : Asked
 
 -- a number of requests
 abbrev pub few_requests : ℕ → Option ℕ
@@ -53,9 +54,10 @@ named_of name words =
     else (if is_text name (codes "recur") then option_map Recur (recur_of words)
     else (if is_text name (codes "rrule") then option_map Rrule (rrule_of words)
     else (if is_text name (codes "holidays") then holidays_of words
-    else (if is_text name (codes "convert") then convert_of words else None))))))
+    else (if is_text name (codes "convert") then convert_of words
+    else (if is_text name (codes "explain") then at_end Explain words else None)))))))
 
--- the word `span` alone; the word `gen` and a number of requests; or the name of a list and its words
+-- the word `span` or `explain` alone; the word `gen` and a number of requests; or the name of a list and its words
 abbrev pub command_of : List (List ℕ) → Option Asked
 command_of [] = None
 command_of (name ∷ words) = named_of name words
@@ -69,3 +71,4 @@ is_command (Recur asked) = ⊤
 is_command (Rrule asked) = ⊤
 is_command (Holidays asked) = ⊤
 is_command (Convert asked) = ⊤
+is_command Explain = ⊤

@@ -10,7 +10,7 @@ use Rattle.calspan_run.specs.declared.holidays.words.HolidayWords.{HolidayWords}
 use Rattle.calspan_run.specs.declared.recur.words.RecurHeader.{RecurHeader}
 use Rattle.calspan_run.specs.declared.recur.words.RecurWords.{RecurWords}
 use Rattle.calspan_run.specs.declared.command.Command.{Command}
-use Rattle.calspan_run.specs.declared.command.Command.TheVariants.{Span, Generate, Anniversary, Recur, Rrule, Holidays, Convert}
+use Rattle.calspan_run.specs.declared.command.Command.TheVariants.{Span, Generate, Anniversary, Recur, Rrule, Holidays, Convert, Explain}
 
 abbrev pub anniversary_said : AnniversaryWords → asked.AnniversaryAsked
 anniversary_said w =
@@ -51,3 +51,4 @@ command_said (Recur w) = command.Recur (recur_said w)
 command_said (Rrule w) = command.Rrule (rrule_said w)
 command_said (Holidays w) = command.Holidays (holidays_said w)
 command_said (Convert w) = command.Convert (convert_said w)
+command_said Explain = command.Explain

@@ -16,6 +16,8 @@ pub mod Converted
 pub mod Converting
 pub mod DayLines
 pub mod Endings
+pub mod Explained
+pub mod Explaining
 pub mod Generator
 pub mod Heading
 pub mod HolidayEndings

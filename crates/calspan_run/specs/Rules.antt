@@ -6,6 +6,7 @@ use Rattle.calspan_run.specs.Asked.{HolidaysAsked}
 use Rattle.calspan_run.specs.BehindRows.{Behind, OverTables, SaysBehindRows}
 use Rattle.calspan_run.specs.BookRows.{behind_lines}
 use Rattle.calspan_run.specs.DayLines.{is_refused, list_text}
+use Rattle.calspan_run.specs.Explained.{any_malformed, explained}
 use Rattle.calspan_run.specs.Generator.{IsGenerated}
 use Rattle.calspan_run.specs.HolidayLines.{holidays_answer}
 use Rattle.calspan_run.specs.ListAnswers.{end_behind, list_end}
@@ -22,6 +23,16 @@ span_rules = record {
   Says = IsAnswers;
   EndsAtLine = λ status. status ≡ TableRefused;
   MayLack = λ bytes whole. RowTakesMemory (lines_in bytes whole);
+  KeepsInput = ⊥;
+}
+
+-- `explain`: the lines about the lines of the input; the status says whether there is one
+abbrev pub explain_rules : Rules
+explain_rules = record {
+  Says = λ bytes whole text status.
+      (text ≡ explained 1 (lines_in bytes whole)) × (status ≡ status_of (any_malformed false 1 (lines_in bytes whole)));
+  EndsAtLine = λ status. ⊥;
+  MayLack = λ bytes whole. ⊥;
   KeepsInput = ⊥;
 }
 

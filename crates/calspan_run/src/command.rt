@@ -34,6 +34,8 @@ pub enum Command<'a> {
     Holidays(HolidayWords),
     /// `convert CAL SHOWN constrain|reject`: write the date of each line in a second calendar.
     Convert(ConvertWords),
+    /// `explain`: write a line about the first bad word of each malformed line.
+    Explain,
 }
 
 ghost use Rattle.calspan_run.specs.CommandSaid.{command_said};
@@ -121,7 +123,10 @@ fn read_words(mut words: CommandWords<'_>) -> Option<Command<'_>>
         return read_window(words);
     }
     if name == b"convert".as_slice() {
-        read_conversion(words)
+        return read_conversion(words);
+    }
+    if name == b"explain".as_slice() {
+        at_end(Command::Explain, &words)
     } else {
         None
     }

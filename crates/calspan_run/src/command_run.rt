@@ -9,6 +9,7 @@ ghost use Rattle.calspan_run.specs.SpacedWords.{words_in};
 
 use crate::command::{Command, read_command, read_command_text};
 use crate::convert::serving::serve_convert;
+use crate::explain::serving::serve_explain;
 use crate::generated::generating::serve_totals;
 use crate::holidays::listing::serve_holidays;
 use crate::lists::serve_list;
@@ -38,6 +39,7 @@ fn run_command<S: Source, K: Sink>(
         Command::Rrule(asked) => serve_list(alloc, &asked, source, sink),
         Command::Holidays(asked) => serve_holidays(alloc, asked, source, sink),
         Command::Convert(asked) => serve_convert(alloc, asked, source, sink),
+        Command::Explain => serve_explain(source, sink),
     }
 }
 
@@ -76,6 +78,7 @@ fn run_read<S: Source, K: Sink>(
 /// | `rrule ..` | row lines | a line for each occurrence | `Done`, `Refused`, `TableRefused` |
 /// | `holidays FIRST LAST` | row lines, then a book | a line for each holiday | `Done`, `Refused`, `TableRefused` |
 /// | `convert ..` | row lines, then dates | a line for each date | `Done`, `Refused`, `TableRefused` |
+/// | `explain` | lines | a line about each malformed one | `Done`, `Refused` |
 ///
 /// - `span` answers the request lines. Its tables are the row lines before the first request line.
 /// - `gen` counts and sums up the answers to `COUNT` generated requests. `COUNT` is one to six digits, up to 100000.
@@ -95,6 +98,10 @@ fn run_read<S: Source, K: Sink>(
 ///   is bad, and after it the bytes from the line's first tab on. It reads any number of bytes. A bad line doesn't end the
 ///   run: the status is `Refused`. There is one answer for each line after the rows and comments at the start.
 ///
+/// - `explain` writes `line N word K WORD: WHAT` about each malformed request line and row line: the number of the line,
+///   the number of its first bad word, the word if the line has so many, and what may stand there. A line of more than 512
+///   bytes has the line `line N: at most 512 bytes`.
+///
 /// A list covers the day numbers from `FIRST` to `LAST` (rata die). If its arguments or its book are invalid, one
 /// `err` line replaces the list. It names the first of these:
 ///
@@ -111,16 +118,17 @@ fn run_read<S: Source, K: Sink>(
 ///
 /// The status says how the run ended.
 ///
-/// - `Done` and `Refused`: the whole text is written. The status is `Refused` if one of its lines is `err`.
+/// - `Done` and `Refused`: the whole text is written. The status is `Refused` if one of its lines is `err`, and
+///   with `explain` if there is a line.
 /// - `Words`: the words name no command. Nothing was read or written.
 /// - `TableRefused`: a row line is invalid (`table line N syntax`, `range` or `late`), or a table
 ///   (`table NAME ROW PART`). The answers before it and the line about it are written.
-/// - `ReadFault`: the source counted a fault. With `span` and `convert`, the answers to all lines whose LF was read are
-///   written; otherwise nothing.
+/// - `ReadFault`: the source counted a fault. With `span`, `explain` and `convert`, the answers to all lines whose LF was
+///   read are written; otherwise nothing.
 /// - `WriteFault`: the sink counted a fault. A prefix of the text is written; its length isn't specified. With `rrule` it
 ///   is a prefix of the lines of the occurrences up to a day of the window.
-/// - `TooLong`: the source has more than 16777216 bytes. With `span`, the answers to all lines whose LF is among the
-///   first 16777216 bytes are written; otherwise nothing. With `convert`, 18446744073709551615 reads were made.
+/// - `TooLong`: the source has more than 16777216 bytes. With `span` and `explain`, the answers to all lines whose LF
+///   is among the first 16777216 bytes are written; otherwise nothing. With `convert`, 18446744073709551615 reads were made.
 /// - `NoMemory`: there was no memory for a row of a year, with `holidays` for the input, or with `convert` for a line.
 ///   Nothing is written. A row line that is invalid or names an era needs no memory. Rows and a book of more than
 ///   16777216 bytes are `TooLong`.

@@ -16,6 +16,7 @@ mod command_words;
 mod convert;
 mod day_lines;
 mod endings;
+mod explain;
 mod generated;
 mod holidays;
 mod kinds;

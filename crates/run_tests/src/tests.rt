@@ -1,6 +1,8 @@
 //! Lines of all kinds, requests and rows of tables, and what is written for them; what words spell; and sources and sinks.
 
+mod conversions;
 mod equalities;
+mod explanations;
 mod faults;
 mod holidays;
 mod lines;

@@ -41,7 +41,7 @@ fn status_of(is_bad: bool) -> Status
 }
 
 /// Returns whether a line is bad, or one was before it.
-fn either(was_bad: bool, is_bad: bool) -> bool
+pub(crate) fn either(was_bad: bool, is_bad: bool) -> bool
     ensures { result ≡ (was_bad || is_bad) }
 {
     was_bad || is_bad
@@ -49,7 +49,7 @@ fn either(was_bad: bool, is_bad: bool) -> bool
 
 /// Writes the pending text after the last line. Returns the status of the run, or `WriteFault` if the sink counted a
 /// fault.
-fn conclude<K: Sink>(is_bad: bool, pending: &mut Pending, sink: &mut K) -> Status
+pub(crate) fn conclude<K: Sink>(is_bad: bool, pending: &mut Pending, sink: &mut K) -> Status
     ensures { (before : Option (List ℕ)) (text : List ℕ) → TextSoFar before (K.taken sink.old) pending.old.items text
         → EndsWith result (status_where is_bad) before (K.taken sink.new) (K.faults sink.old) (K.faults sink.new) text }
 {

@@ -46,3 +46,9 @@ returns-in-Convert-clause-ends g c =
     let old = outside (g.S.Source.left c.args.source.now) (g.K.Sink.taken c.args.sink.now) (g.S.Source.faults c.args.source.now) (g.K.Sink.faults c.args.sink.now) in
     let new = outside (g.S.Source.left c.serve_convert.new.source) (g.K.Sink.taken c.serve_convert.new.sink) (g.S.Source.faults c.serve_convert.new.source) (g.K.Sink.faults c.serve_convert.new.sink) in
     subst (λ (x : Command). ServesAs (command_said x) c.serve_convert.result old new) (sym c.in-Convert.is) c.serve_convert.ensures
+
+pub returns-in-Explain-clause-ends : goal.returns-in-Explain-clause-ends
+returns-in-Explain-clause-ends g c =
+    let old = outside (g.S.Source.left c.args.source.now) (g.K.Sink.taken c.args.sink.now) (g.S.Source.faults c.args.source.now) (g.K.Sink.faults c.args.sink.now) in
+    let new = outside (g.S.Source.left c.serve_explain.new.source) (g.K.Sink.taken c.serve_explain.new.sink) (g.S.Source.faults c.serve_explain.new.source) (g.K.Sink.faults c.serve_explain.new.sink) in
+    subst (λ (x : Command). ServesAs (command_said x) c.serve_explain.result old new) (sym c.in-Explain.is) c.serve_explain.ensures

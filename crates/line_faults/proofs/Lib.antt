@@ -1,0 +1,5 @@
+pub mod WalkLemmas
+pub mod PassLemmas
+pub mod RequestLemmas
+pub mod RowLemmas
+pub mod FirstFaultLemmas
