@@ -20,11 +20,15 @@ mod durations;
 mod eras;
 mod fields;
 mod in_calendar;
+mod lengths;
+mod lists;
 mod outcomes;
 mod places;
 mod questions;
+mod recurrences;
 mod rooms;
 mod weeks;
+mod yearly;
 mod years;
 
 pub use calls::{add, date_of_day, date_of_fields, era_of_day, until};
@@ -33,7 +37,10 @@ pub use column_calls::{add_each, add_to_each, dates_of_days, dates_of_fields, un
 pub use dates::CalendarDate;
 pub use durations::CalendarDuration;
 pub use fields::CalendarFields;
+pub use lengths::{CalendarLengths, lengths_of_day};
 pub use outcomes::{CalendarOutcome, NO_ROOM, UNKNOWN_YEARS};
+pub use recurrences::{CalendarOccurrence, recurrences};
 pub use rooms::put;
 pub use weeks::{CalendarWeek, weeks_of_days};
+pub use yearly::anniversaries;
 pub use years::{easter, week_of_year};
