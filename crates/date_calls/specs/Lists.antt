@@ -23,7 +23,7 @@ pub record Steps {O : Type 0} (between next_between : ℤ → ℤ → List O) (l
 
 -- the first items of a list stand in the column, as many as go into it, and the others are left; what stood behind
 -- them is there still
-pub record Fills {O : Type 0} (between next_between : ℤ → ℤ → List O) (left next_left : Option Window)
+pub record FillsFirst {O : Type 0} (between next_between : ℤ → ℤ → List O) (left next_left : Option Window)
     (before now : List O) (written : ℕ) : Type 0 where
   pub parts : items_in between left ≡ take written now ++ items_in next_between next_left
   pub same : next_between ≡ between

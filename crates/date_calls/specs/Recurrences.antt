@@ -13,7 +13,7 @@ use Rattle.cal_types.specs.declared.options.Overflow.{Overflow}
 use Rattle.cal_types.specs.declared.options.Overflow.TheVariants as overflow
 use Rattle.date_calls.specs.Lists.{IsListed, IsUnlisted, TellsList, is_window}
 use Rattle.date_calls.specs.declared.lists.Listed.{Listed}
-use Rattle.date_calls.specs.declared.recurrences.CalendarOccurrence.{CalendarOccurrence}
+use Rattle.date_calls.specs.declared.repeated.CalendarOccurrence.{CalendarOccurrence}
 
 -- an occurrence that leads to no date is skipped, unless it is asked for the nearest date
 abbrev pub missing_for : Option Overflow → Missing

@@ -3,7 +3,7 @@
 ghost use Rattle.std.specs.Prelude.{◌≡◌, ℤ, List, Option, IfSome, is_some};
 ghost use Rattle.cal_days.specs.Day.{IsValidDay};
 ghost use Rattle.cal_types.specs.declared.window.Window.{Window};
-ghost use Rattle.date_calls.specs.Lists.{Fills, IsListTold, IsListed, Steps, is_window, next_day};
+ghost use Rattle.date_calls.specs.Lists.{FillsFirst, IsListTold, IsListed, Steps, is_window, next_day};
 
 use crate::days::ValidDay;
 use crate::outcomes::DONE;
@@ -36,7 +36,7 @@ pub(crate) struct Listed {
 
 /// Writes the first items of a list to a column, and returns how many.
 fn fill_list<O: Copy, L: WindowList<O>>(list: &mut L, items: &mut [O]) -> usize
-    ensures { Fills (L.between list.old) (L.between list.new) (L.left list.old) (L.left list.new) items.old items.new
+    ensures { FillsFirst (L.between list.old) (L.between list.new) (L.left list.old) (L.left list.new) items.old items.new
         result }
 {
     let mut written = 0;
