@@ -1,5 +1,5 @@
 -- What is left of a window is what is listed from its first day on.
-use Rattle.std.proofs.Common.{◌≡◌, ◌∙◌, ◌<◌, ◌≤◌, ◌++◌, ℕ, ℤ, pos, ◌+ℤ◌, ◌≤ℤ◌, int_le, cond, true, false, List, [], length, take, drop, Option, Some, None, refl, sym, ap, subst, arith}
+use Rattle.std.proofs.Common.{◌≡◌, ◌∙◌, ◌++◌, ℕ, ℤ, pos, ◌+ℤ◌, ◌≤ℤ◌, int_le, cond, true, false, List, [], take, Option, Some, None, refl, sym, ap, subst, arith}
 use Rattle.std.proofs.lemmas.Int.{ints}
 use Rattle.cal_types.specs.declared.window.Window.{Window}
 use Rattle.date_calls.specs.Lists.{EndsOn, FillsFirst, IsListed, items_from, items_in, next_day}

@@ -5,7 +5,7 @@ ghost use Rattle.std.specs.Option.{option_map};
 ghost use Rattle.date_calls.specs.Calendars.{calendar_of, choice_system};
 ghost use Rattle.date_calls.specs.Codes.{overflow_of_code, unit_of_code};
 ghost use Rattle.date_calls.specs.Lists.{IsUnlisted};
-ghost use Rattle.date_calls.specs.Recurrences.{AreListed, ListsOccurrences, RecursIn, missing_for, occurrence_told, occurrences_told, parts_if, rule_given, rule_parts};
+ghost use Rattle.date_calls.specs.Recurrences.{AreListed, ListsOccurrences, RecursIn, TellsOccurrences, missing_for, occurrence_told, occurrences_told, parts_if, rule_given, rule_parts};
 
 use crate::calendars::{Chosen, choose};
 use crate::codes::{overflow_of, unit_of};
@@ -137,7 +137,23 @@ fn list_chosen(asked: &Repeats, chosen: &Chosen, items: &mut [CalendarOccurrence
     run_in_kind(asked, &mut column, chosen.kind, &chosen.tables)
 }
 
-/// Lists the occurrences of a rule, and stores how many were written and where the list goes on.
+/// Lists occurrences, and stores how many were written and where the list goes on.
+fn list_told(
+    chosen: &Chosen,
+    asked: &Repeats,
+    items: &mut [CalendarOccurrence],
+    written: &mut usize,
+    next: &mut i64,
+) -> u8
+    requires { written.old ≡ 0 }
+    ensures { TellsOccurrences (choice_system chosen.now) asked.now.start.day (rule_parts asked.now.rule)
+        asked.now.window.first asked.now.window.last result items.old items.new written.new next.new }
+{
+    let listed = list_chosen(asked, chosen, items);
+    tell_list(Ok(listed), written, next)
+}
+
+/// Does the same as `list_told`, from the numbers of the days.
 fn list_from(
     chosen: &Chosen,
     start: i64,
@@ -163,8 +179,7 @@ fn list_from(
         rule,
         window,
     };
-    let listed = list_chosen(&asked, chosen, items);
-    tell_list(Ok(listed), written, next)
+    list_told(chosen, &asked, items, written, next)
 }
 
 /// Does the same as `list_from`, from the codes of the rule.

@@ -12,6 +12,6 @@ returns g c =
     let fits : FitsSigned w64 c.next_day.result = search rules in
     let same : to_z w64 (of_z w64 c.next_day.result) ≡ c.next_day.result = omega (arith, signed) in
     let next : next_day w.last left ≡ to_z w64 (of_z w64 c.next_day.result) =
-        sym (same ∙ c.next_day.ensures ∙ ap (λ n. next_day n c.rest.result) c.last.ensures ∙ ap (next_day w.last) c.rest.ensures) in
+    sym (same ∙ c.next_day.ensures ∙ ap (λ n. next_day n c.rest.result) c.last.ensures ∙ ap (next_day w.last) c.rest.ensures) in
     subst (λ n. IsListed between w.first w.last c.args.items.now c.fill_list-written.new.items c.fill_list-written.result n) next
     (listed-first between _ w (g.L.WindowList.left c.args.list.now) left _ _ _ c.requires c.fill_list-written.ensures)
