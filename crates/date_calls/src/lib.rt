@@ -1,5 +1,5 @@
-//! Calls on dates by plain values, for callers in other languages: conversion, fields, sums, differences, eras, weeks
-//! and Easter.
+//! Calls on dates by plain values, for callers in other languages: conversion, fields, sums, differences, lists, lengths
+//! of years and months, eras, weeks and Easter.
 //!
 //! A calendar is a code, a date is a day number (rata die), and the parts of a date come in a plain struct. The calls
 //! keep nothing between them and take no memory. They check every argument and return a code; 0 means success. The
@@ -7,6 +7,8 @@
 //!
 //! Calls on columns, such as [`dates_of_days`], choose the calendar once and do a call on one date at every place. Every
 //! place has a code of its own, so an invalid date changes no other.
+//!
+//! Calls that list days, such as [`anniversaries`], fill a caller's column and say from which day the list goes on.
 #![tactic(auto)]
 
 mod calendars;

@@ -36,8 +36,8 @@ pub(crate) struct Listed {
 
 /// Writes the first items of a list to a column, and returns how many.
 fn fill_list<O: Copy, L: WindowList<O>>(list: &mut L, items: &mut [O]) -> usize
-    ensures { FillsFirst (L.between list.old) (L.between list.new) (L.left list.old) (L.left list.new) items.old items.new
-        result }
+    ensures { FillsFirst (L.between list.old) (L.between list.new) (L.left list.old) (L.left list.new) items.old
+        items.new result }
 {
     let mut written = 0;
     'given: while written < items.len() {
