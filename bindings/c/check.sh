@@ -14,11 +14,11 @@ archive=$top/crates/icu_calendar_c/out/libicu_calendar_c.a
 heap=$(dirname "$(dirname "$(readlink -f "$(command -v rt)")")")/c/liblibc_c.a
 room=$(mktemp -d)
 trap 'rm -rf "$room"' EXIT
-for name in calspan dates columns; do
+for name in calspan dates columns lists; do
   "$cc" -std=c11 -Wall -Wextra -Werror -g -fsanitize=address,undefined -fno-sanitize-recover=all -I "$top/bindings/c/include" \
     "$top/bindings/c/examples/$name.c" "$archive" "$heap" -o "$room/$name"
 done
-for name in dates columns; do
+for name in dates columns lists; do
   "$room/$name" | diff - "$top/bindings/c/examples/$name.out"
 done
 if command -v "${CXX:-c++}" >/dev/null; then

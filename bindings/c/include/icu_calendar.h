@@ -24,8 +24,8 @@
 
 /* The version of these calls. A minor version adds calls and codes, and changes none. */
 #define ICU_CALENDAR_VERSION_MAJOR 1
-#define ICU_CALENDAR_VERSION_MINOR 1
-#define ICU_CALENDAR_VERSION "1.1"
+#define ICU_CALENDAR_VERSION_MINOR 2
+#define ICU_CALENDAR_VERSION "1.2"
 
 #ifdef __cplusplus
 extern "C" {
@@ -99,6 +99,7 @@ enum {
     ICU_CALENDAR_UNKNOWN_YEARS = 2,
     ICU_CALENDAR_UNKNOWN_OPTION = 3,
     ICU_CALENDAR_INVALID_DAY_NUMBER = 4, /* not from -365242499 to 365242134 */
+    ICU_CALENDAR_INVALID_WINDOW = 5,     /* such a day, or a last one before the first */
     ICU_CALENDAR_NO_ROOM = 8,
     ICU_CALENDAR_LENGTHS_DIFFER = 9, /* of columns */
     ICU_CALENDAR_NOT_ENOUGH_FIELDS = 10,
@@ -175,6 +176,19 @@ typedef struct {
     uint8_t weekday; /* from 1 for Monday to 7 for Sunday */
 } icu_calendar_week;
 
+/* The lengths of a date's year and month. */
+typedef struct {
+    uint16_t days_in_year;
+    uint8_t months_in_year;
+    uint8_t days_in_month;
+} icu_calendar_lengths;
+
+/* An occurrence of a recurrence. */
+typedef struct {
+    int64_t day;    /* number */
+    uint32_t index; /* how many times the step was added to the start; 0 is the start itself */
+} icu_calendar_occurrence;
+
 /* The layout of the structs, as the library reads them. */
 #if defined(__cplusplus) && __cplusplus >= 201103L
 #define ICU_CALENDAR_ASSERT(condition) static_assert(condition, #condition)
@@ -218,6 +232,13 @@ ICU_CALENDAR_AT(icu_calendar_week, year, 0);
 ICU_CALENDAR_AT(icu_calendar_week, week, 4);
 ICU_CALENDAR_AT(icu_calendar_week, weekday, 5);
 ICU_CALENDAR_ASSERT(sizeof(icu_calendar_week) == 8);
+ICU_CALENDAR_AT(icu_calendar_lengths, days_in_year, 0);
+ICU_CALENDAR_AT(icu_calendar_lengths, months_in_year, 2);
+ICU_CALENDAR_AT(icu_calendar_lengths, days_in_month, 3);
+ICU_CALENDAR_ASSERT(sizeof(icu_calendar_lengths) == 4);
+ICU_CALENDAR_AT(icu_calendar_occurrence, day, 0);
+ICU_CALENDAR_AT(icu_calendar_occurrence, index, 8);
+ICU_CALENDAR_ASSERT(sizeof(icu_calendar_occurrence) == 16);
 
 /* Converts a day number to a date of a calendar. Fails with 1, 2 or 4, in this order. */
 uint8_t icu_calendar_date_of_day(uint8_t calendar, uint8_t years, int64_t day, icu_calendar_date *date);
@@ -244,11 +265,38 @@ uint8_t icu_calendar_until(uint8_t calendar, uint8_t years, int64_t first, int64
 uint8_t icu_calendar_era_of_day(uint8_t calendar, uint8_t years, int64_t day, uint8_t *room, size_t room_len,
                                 size_t *written);
 
+/* Finds how many days and months the year of a day number has, and how many days its month has. Fails with 1, 2 or 4. */
+uint8_t icu_calendar_lengths_of_day(uint8_t calendar, uint8_t years, int64_t day, icu_calendar_lengths *lengths);
+
 /* Computes the week of a day number, from 1 to 53, and the year that it belongs to (ISO 8601). Fails with 4. */
 uint8_t icu_calendar_week_of_year(int64_t day, int32_t *year, uint8_t *week);
 
 /* Computes the day number of Easter in a year of the Gregorian or of the Julian calendar. Fails with 3. */
 uint8_t icu_calendar_easter(uint8_t rule, int32_t year, int64_t *day);
+
+/* Lists of days from `first` to `last`. Each call writes as many items as there is room for, in order, and their number
+ * to `*written`. The list goes on from the day `*next`, which is behind `last` if nothing is left:
+ *
+ *     for (int64_t day = first; day <= last;) {
+ *         if (icu_calendar_anniversaries(.., day, last, days, COUNT, &written, &day)) {
+ *             break;
+ *         }
+ *     }
+ *
+ * If the call fails, `*written` is 0, and `*next` and the items are unchanged. With 5 the window isn't one. */
+
+/* The days on which a month and a day of a calendar fall. Years that lack them are skipped or, with
+ * ICU_CALENDAR_CONSTRAIN, have the nearest date. Fails with 1, 2, 3, 5, 16 or 20. */
+uint8_t icu_calendar_anniversaries(uint8_t calendar, uint8_t years, uint8_t month_number, uint8_t month_is_leap,
+                                   uint8_t day, uint8_t overflow, int64_t first, int64_t last, int64_t *days,
+                                   size_t days_len, size_t *written, int64_t *next);
+
+/* The date of a start with 0, 1, 2, .. times `every` years, months, weeks or days (`unit`) added in a calendar. A step
+ * that leads to no date is skipped or, with ICU_CALENDAR_CONSTRAIN, leads to the nearest one. Fails with 1 to 5; with 3
+ * also if there is no unit or `every` is 0. */
+uint8_t icu_calendar_recurrences(uint8_t calendar, uint8_t years, int64_t start, uint8_t unit, uint32_t every,
+                                 uint8_t overflow, int64_t first, int64_t last, icu_calendar_occurrence *items,
+                                 size_t items_len, size_t *written, int64_t *next);
 
 /* Calls on columns. Each chooses the calendar once and does a call on one date at every place: `codes` or `outcomes`
  * has there what that call returns, and an output whose code isn't 0 is unchanged. So an invalid date changes no other
@@ -337,6 +385,8 @@ static inline const char *icu_calendar_code_text(uint8_t code) {
         return "No option has the code.";
     case ICU_CALENDAR_INVALID_DAY_NUMBER:
         return "The day number isn't from -365242499 to 365242134.";
+    case ICU_CALENDAR_INVALID_WINDOW:
+        return "A day of the window isn't valid, or the last one comes before the first.";
     case ICU_CALENDAR_NO_ROOM:
         return "The room is too short.";
     case ICU_CALENDAR_LENGTHS_DIFFER:

@@ -11,7 +11,7 @@ from typing import Any, Union, overload
 from .codes import Calendar, CalendarLike, Missing, MissingLike, Overflow, OverflowLike, Unit, UnitLike, Years, YearsLike
 from .durations import Duration
 from .errors import InvalidDayNumber, OutOfRange, UnknownOption, settle
-from .library import DateParts, DurationParts, Fields, library
+from .library import DateParts, DurationParts, Fields, LengthParts, library
 from .texts import annotation, iso_text, read
 
 # The longest code of an era.
@@ -178,29 +178,29 @@ class Date:
     @property
     def days_in_month(self) -> int:
         """The number of days of the month."""
-        return self._nearest(ordinal_month=self.ordinal_month, day=MOST_PART).day
+        return int(self._lengths().days_in_month)
 
     @property
     def months_in_year(self) -> int:
         """The number of months of the year."""
-        return self._nearest(ordinal_month=MOST_PART, day=1).ordinal_month
+        return int(self._lengths().months_in_year)
 
     @property
     def days_in_year(self) -> int:
         """The number of days of the year."""
-        last = self._nearest(ordinal_month=MOST_PART, day=MOST_PART)
-        return last.day_number - self._nearest(ordinal_month=1, day=1).day_number + 1
+        return int(self._lengths().days_in_year)
 
     @property
     def day_of_year(self) -> int:
         """The number of the day in the year, from 1."""
-        return self.day_number - self._nearest(ordinal_month=1, day=1).day_number + 1
+        first = Date.of_fields(self.calendar, self.years, year=self.extended_year, ordinal_month=1, day=1)
+        return self.day_number - first.day_number + 1
 
-    def _nearest(self, *, ordinal_month: int, day: int) -> Date:
-        """Returns the date of this year that is nearest to an ordinal month and a day."""
-        return Date.of_fields(
-            self.calendar, self.years, year=self.extended_year, ordinal_month=ordinal_month, day=day, overflow=Overflow.CONSTRAIN
-        )
+    def _lengths(self) -> LengthParts:
+        """Returns the lengths of the date's year and month."""
+        lengths = LengthParts()
+        settle(library.icu_calendar_lengths_of_day(self.calendar, self.years, self.day_number, byref(lengths)))
+        return lengths
 
     def week_of_year(self) -> tuple[int, int]:
         """Returns the ISO 8601 week as a pair of its year and its number, from 1 to 53."""

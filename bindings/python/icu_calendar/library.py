@@ -2,7 +2,7 @@
 
 import ctypes
 import os
-from ctypes import POINTER, c_char_p, c_int32, c_int64, c_size_t, c_uint8, c_uint32, c_void_p
+from ctypes import POINTER, c_char_p, c_int32, c_int64, c_size_t, c_uint8, c_uint16, c_uint32, c_void_p
 from pathlib import Path
 from typing import Any
 
@@ -48,6 +48,18 @@ class DurationParts(ctypes.Structure):
     _fields_ = [("years", c_uint32), ("months", c_uint32), ("weeks", c_uint32), ("days", c_uint32), ("is_negative", c_uint8)]
 
 
+class LengthParts(ctypes.Structure):
+    """`icu_calendar_lengths` of the header."""
+
+    _fields_ = [("days_in_year", c_uint16), ("months_in_year", c_uint8), ("days_in_month", c_uint8)]
+
+
+class OccurrenceParts(ctypes.Structure):
+    """`icu_calendar_occurrence` of the header."""
+
+    _fields_ = [("day", c_int64), ("index", c_uint32)]
+
+
 TEXT = [c_char_p, c_size_t]
 COLUMN = [c_void_p, c_size_t]
 TYPES: dict[str, list[Any]] = {
@@ -61,6 +73,12 @@ TYPES: dict[str, list[Any]] = {
     "icu_calendar_add": [c_uint8, c_uint8, c_int64, POINTER(DurationParts), c_uint8, POINTER(DateParts), POINTER(c_uint8)],
     "icu_calendar_until": [c_uint8, c_uint8, c_int64, c_int64, c_uint8, POINTER(DurationParts)],
     "icu_calendar_era_of_day": [c_uint8, c_uint8, c_int64, *TEXT, POINTER(c_size_t)],
+    "icu_calendar_lengths_of_day": [c_uint8, c_uint8, c_int64, POINTER(LengthParts)],
+    "icu_calendar_anniversaries": [*[c_uint8] * 6, c_int64, c_int64, *COLUMN, POINTER(c_size_t), POINTER(c_int64)],
+    "icu_calendar_recurrences": [
+        *[c_uint8, c_uint8, c_int64, c_uint8, c_uint32, c_uint8, c_int64, c_int64],
+        *[*COLUMN, POINTER(c_size_t), POINTER(c_int64)],
+    ],
     "icu_calendar_week_of_year": [c_int64, POINTER(c_int32), POINTER(c_uint8)],
     "icu_calendar_easter": [c_uint8, c_int32, POINTER(c_int64)],
     "icu_calendar_dates_of_days": [c_uint8, c_uint8, *COLUMN, *COLUMN, *COLUMN],

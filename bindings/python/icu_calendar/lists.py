@@ -3,17 +3,20 @@
 from __future__ import annotations
 
 from collections.abc import Iterator
+from ctypes import byref, c_int64, c_size_t
 from dataclasses import dataclass
-from itertools import count
 from typing import NamedTuple
 
 from .codes import Calendar, CalendarLike, Overflow, Unit, UnitLike, Years, YearsLike
 from .dates import FIRST_DAY, LAST_DAY, Date, DayLike, day_number_of
-from .durations import MOST, Duration
-from .errors import InvalidDay, InvalidDayNumber, MonthNotInYear, OutOfRange, UnknownOption
+from .durations import MOST
+from .errors import InvalidDay, InvalidDayNumber, OutOfRange, UnknownOption, settle
+from .library import OccurrenceParts, library
 
 # The days that a month may have.
 MOST_DAYS = 31
+# How many items a call is asked for.
+ROOM = 32
 
 
 @dataclass(frozen=True)
@@ -70,14 +73,13 @@ def anniversaries(
 
 
 def _anniversaries(calendar: Calendar, years: Years, month_code: str, day: int, window: Window, overflow: Overflow) -> Iterator[Date]:
-    first, last = (Date.of_day(it, calendar, years).extended_year for it in window)
-    for year in range(first, last + 1):
-        try:
-            date = Date.of_fields(calendar, years, year=year, month_code=month_code, day=day, overflow=overflow)
-        except (MonthNotInYear, InvalidDay, OutOfRange):
-            continue
-        if window.first <= date.day_number <= window.last:
-            yield date
+    month, is_leap = int(month_code[1:3]), month_code.endswith("L")
+    days, written, following = (c_int64 * ROOM)(), c_size_t(), c_int64(window.first)
+    while following.value <= window.last:
+        asked = (calendar, years, month, is_leap, day, overflow, following.value, window.last)
+        settle(library.icu_calendar_anniversaries(*asked, days, ROOM, byref(written), byref(following)))
+        for it in days[: written.value]:
+            yield Date.of_day(it, calendar, years)
 
 
 def recurrences(
@@ -120,37 +122,11 @@ def start_of(start: DayLike, calendar: CalendarLike | None, years: YearsLike | N
     return Date.of_day(day_number_of(start), Calendar.ISO if calendar is None else calendar, Years.PUBLISHED if years is None else years)
 
 
-def _duration(unit: Unit, amount: int) -> Duration:
-    parts = [amount if unit is it else 0 for it in (Unit.YEARS, Unit.MONTHS, Unit.WEEKS, Unit.DAYS)]
-    return Duration(parts[0], parts[1], parts[2], parts[3])
-
-
-def _units_before(start: Date, unit: Unit, first: int) -> int:
-    """Returns how many units can be added to the start so that the sum doesn't lie behind `first`, but for the last one."""
-    if first <= start.day_number:
-        return 0
-    if unit is Unit.YEARS:
-        return max(0, Date.of_day(first, start.calendar, start.years).extended_year - start.extended_year)
-    apart = start.until(first, unit)
-    return {Unit.MONTHS: apart.months, Unit.WEEKS: apart.weeks, Unit.DAYS: apart.days}[unit]
-
-
 def _recurrences(start: Date, unit: Unit, every: int, window: Window, skip: bool) -> Iterator[Occurrence]:
-    for at in count(_units_before(start, unit, window.first) // every):
-        try:
-            date = start.add(_duration(unit, at * every), Overflow.CONSTRAIN)
-        except OutOfRange:
-            return
-        if date.day_number > window.last:
-            return
-        if date.day_number >= window.first and not (skip and _moved(start, unit, at * every)):
-            yield Occurrence(at, date)
-
-
-def _moved(start: Date, unit: Unit, amount: int) -> bool:
-    """Returns whether a sum has to use another month or day than the start's."""
-    try:
-        start.add(_duration(unit, amount), Overflow.REJECT)
-    except (MonthNotInYear, InvalidDay):
-        return True
-    return False
+    overflow = Overflow.REJECT if skip else Overflow.CONSTRAIN
+    items, written, following = (OccurrenceParts * ROOM)(), c_size_t(), c_int64(window.first)
+    while following.value <= window.last:
+        asked = (start.calendar, start.years, start.day_number, unit, every, overflow, following.value, window.last)
+        settle(library.icu_calendar_recurrences(*asked, items, ROOM, byref(written), byref(following)))
+        for it in items[: written.value]:
+            yield Occurrence(it.index, Date.of_day(it.day, start.calendar, start.years))

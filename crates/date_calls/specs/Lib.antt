@@ -10,3 +10,7 @@ pub mod Calls
 pub mod Columns
 pub mod ColumnCalls
 pub mod Weeks
+pub mod Lengths
+pub mod Lists
+pub mod Yearly
+pub mod Recurrences

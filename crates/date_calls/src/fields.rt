@@ -42,7 +42,7 @@ fn given_if<T: Copy>(has: u8, value: T) -> Option<T>
 }
 
 /// Returns the month with a number: a leap month if `leap` isn't 0.
-fn month_of(number: u8, leap: u8) -> Month
+pub(crate) fn month_of(number: u8, leap: u8) -> Month
     ensures { month_parts result ≡ month_of number leap }
 {
     if leap == 0 {

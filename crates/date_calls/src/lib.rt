@@ -1,5 +1,5 @@
-//! Calls on dates by plain values, for callers in other languages: conversion, fields, sums, differences, eras, weeks
-//! and Easter.
+//! Calls on dates by plain values, for callers in other languages: conversion, fields, sums, differences, lists, lengths
+//! of years and months, eras, weeks and Easter.
 //!
 //! A calendar is a code, a date is a day number (rata die), and the parts of a date come in a plain struct. The calls
 //! keep nothing between them and take no memory. They check every argument and return a code; 0 means success. The
@@ -7,6 +7,8 @@
 //!
 //! Calls on columns, such as [`dates_of_days`], choose the calendar once and do a call on one date at every place. Every
 //! place has a code of its own, so an invalid date changes no other.
+//!
+//! Calls that list days, such as [`anniversaries`], fill a caller's column and say from which day the list goes on.
 #![tactic(auto)]
 
 mod calendars;
@@ -20,11 +22,15 @@ mod durations;
 mod eras;
 mod fields;
 mod in_calendar;
+mod lengths;
+mod lists;
 mod outcomes;
 mod places;
 mod questions;
+mod repeated;
 mod rooms;
 mod weeks;
+mod yearly;
 mod years;
 
 pub use calls::{add, date_of_day, date_of_fields, era_of_day, until};
@@ -33,7 +39,10 @@ pub use column_calls::{add_each, add_to_each, dates_of_days, dates_of_fields, un
 pub use dates::CalendarDate;
 pub use durations::CalendarDuration;
 pub use fields::CalendarFields;
+pub use lengths::{CalendarLengths, lengths_of_day};
 pub use outcomes::{CalendarOutcome, NO_ROOM, UNKNOWN_YEARS};
+pub use repeated::{CalendarOccurrence, recurrences};
 pub use rooms::put;
 pub use weeks::{CalendarWeek, weeks_of_days};
+pub use yearly::anniversaries;
 pub use years::{easter, week_of_year};

@@ -20,6 +20,9 @@ pub(crate) const UNKNOWN_OPTION: u8 = 3;
 /// The day number isn't from -365242499 to 365242134.
 pub(crate) const INVALID_DAY_NUMBER: u8 = 4;
 
+/// The days of the window aren't valid, or the last one comes before the first.
+pub(crate) const INVALID_WINDOW: u8 = 5;
+
 /// The room is too short for the text.
 pub const NO_ROOM: u8 = 8;
 

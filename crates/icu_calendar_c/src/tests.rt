@@ -1,12 +1,15 @@
 //! Values that come from outside, and codes of refusals.
 
 use crate::exports::{
-    icu_calendar_add, icu_calendar_date_of_day, icu_calendar_date_of_fields,
-    icu_calendar_dates_of_days, icu_calendar_easter, icu_calendar_era_of_day, icu_calendar_until,
-    icu_calendar_week_of_year,
+    icu_calendar_add, icu_calendar_anniversaries, icu_calendar_date_of_day,
+    icu_calendar_date_of_fields, icu_calendar_dates_of_days, icu_calendar_easter,
+    icu_calendar_era_of_day, icu_calendar_lengths_of_day, icu_calendar_recurrences,
+    icu_calendar_until, icu_calendar_week_of_year,
 };
 use crate::program::calspan;
-use date_calls::{CalendarDate, CalendarDuration, CalendarFields};
+use date_calls::{
+    CalendarDate, CalendarDuration, CalendarFields, CalendarLengths, CalendarOccurrence,
+};
 
 const HEBREW: u8 = 7;
 
@@ -182,4 +185,179 @@ fn the_program_answers_where_there_is_room(rt: HostRuntime) {
         2
     );
     assert_eq!(rt; written, 0);
+}
+
+#[test]
+fn years_and_months_have_lengths(rt: HostRuntime) {
+    let mut lengths = CalendarLengths {
+        days_in_year: 7,
+        months_in_year: 7,
+        days_in_month: 7,
+    };
+    assert_eq!(rt;
+        icu_calendar_lengths_of_day(HEBREW, 0, 365242135, &mut lengths),
+        4
+    );
+    assert_eq!(rt; lengths.days_in_year, 7);
+    // Adar I of 5784, and February 29, 2024.
+    assert_eq!(rt;
+        icu_calendar_lengths_of_day(HEBREW, 0, 738939, &mut lengths),
+        0
+    );
+    assert!(rt; lengths.days_in_year == 383 && lengths.months_in_year == 13);
+    assert_eq!(rt; lengths.days_in_month, 30);
+    assert_eq!(rt;
+        icu_calendar_lengths_of_day(ISO, 0, 738945, &mut lengths),
+        0
+    );
+    assert!(rt; lengths.days_in_year == 366 && lengths.months_in_year == 12);
+    assert_eq!(rt; lengths.days_in_month, 29);
+}
+
+#[test]
+fn anniversaries_go_on(rt: HostRuntime) {
+    let mut days = [7; 2];
+    let mut written = 7;
+    let mut next = 7;
+    // Day 10 of Adar I from 2023 to 2025, or of Adar in common years.
+    let code = icu_calendar_anniversaries(
+        HEBREW,
+        0,
+        5,
+        1,
+        10,
+        1,
+        738521,
+        739616,
+        &mut days,
+        &mut written,
+        &mut next,
+    );
+    assert!(rt; code == 0 && written == 2 && next == 738936);
+    assert!(rt; days[0] == 738582 && days[1] == 738935);
+    let code = icu_calendar_anniversaries(
+        HEBREW,
+        0,
+        5,
+        1,
+        10,
+        1,
+        next,
+        739616,
+        &mut days,
+        &mut written,
+        &mut next,
+    );
+    assert!(rt; code == 0 && written == 1 && next == 739617);
+    assert!(rt; days[0] == 739320 && days[1] == 738935);
+    let code = icu_calendar_anniversaries(
+        HEBREW,
+        0,
+        5,
+        1,
+        10,
+        1,
+        739617,
+        739616,
+        &mut days,
+        &mut written,
+        &mut next,
+    );
+    assert!(rt; code == 5 && written == 0 && next == 739617);
+    let code = icu_calendar_anniversaries(
+        ISO,
+        0,
+        13,
+        0,
+        10,
+        0,
+        738521,
+        739616,
+        &mut days,
+        &mut written,
+        &mut next,
+    );
+    assert!(rt; code == 16 && written == 0);
+    let code = icu_calendar_anniversaries(
+        ISO,
+        0,
+        12,
+        0,
+        32,
+        2,
+        738521,
+        739616,
+        &mut days,
+        &mut written,
+        &mut next,
+    );
+    assert!(rt; code == 20 && days[0] == 739320);
+}
+
+#[test]
+fn recurrences_go_on(rt: HostRuntime) {
+    let none = CalendarOccurrence { day: 7, index: 7 };
+    let mut items = [none; 2];
+    let mut written = 7;
+    let mut next = 7;
+    // Monthly from 2021-01-31 to 2021-04-30.
+    let code = icu_calendar_recurrences(
+        ISO,
+        0,
+        737821,
+        2,
+        1,
+        1,
+        737821,
+        737910,
+        &mut items,
+        &mut written,
+        &mut next,
+    );
+    assert!(rt; code == 0 && written == 2 && next == 737850);
+    assert!(rt; items[0].day == 737821 && items[0].index == 0);
+    assert!(rt; items[1].day == 737849 && items[1].index == 1);
+    let code = icu_calendar_recurrences(
+        ISO,
+        0,
+        737821,
+        2,
+        1,
+        2,
+        next,
+        737910,
+        &mut items,
+        &mut written,
+        &mut next,
+    );
+    assert!(rt; code == 0 && written == 1 && next == 737911);
+    assert!(rt; items[0].day == 737880 && items[0].index == 2 && items[1].index == 1);
+    let code = icu_calendar_recurrences(
+        ISO,
+        0,
+        737821,
+        2,
+        0,
+        2,
+        next,
+        737910,
+        &mut items,
+        &mut written,
+        &mut next,
+    );
+    assert!(rt; code == 3 && written == 0);
+    let code = icu_calendar_recurrences(
+        ISO,
+        0,
+        365242135,
+        2,
+        1,
+        0,
+        next,
+        737910,
+        &mut items,
+        &mut written,
+        &mut next,
+    );
+    assert!(rt; code == 4 && written == 0);
 }

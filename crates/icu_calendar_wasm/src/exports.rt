@@ -7,12 +7,19 @@ ghost use Rattle.date_calls.specs.Codes.{overflow_of_code, strategy_of_code, uni
 ghost use Rattle.date_calls.specs.ColumnCalls.{AddEach, AddToEach, DifferEach, NameEach, ShowsDayAt};
 ghost use Rattle.date_calls.specs.Columns.{AreLeft, Fills};
 ghost use Rattle.date_calls.specs.Durations.{duration_given};
-ghost use Rattle.date_calls.specs.Fields.{bag_given};
+ghost use Rattle.date_calls.specs.Fields.{bag_given, month_of};
+ghost use Rattle.date_calls.specs.Lengths.{ShowsLengths};
+ghost use Rattle.date_calls.specs.Lists.{IsUnlisted};
+ghost use Rattle.date_calls.specs.Recurrences.{ListsOccurrences, rule_given};
+ghost use Rattle.date_calls.specs.Yearly.{ListsYearly};
 ghost use Rattle.cal_days.specs.Day.{is_valid_day};
 ghost use Rattle.cal_days.specs.Easter.{IsGregorianEaster, IsJulianEaster};
 ghost use Rattle.date_calls.specs.Weeks.{IsWeekLeft, IsWeekTold, ShowsWeekAt};
 
-use date_calls::{CalendarDate, CalendarDuration, CalendarFields, CalendarOutcome, CalendarWeek};
+use date_calls::{
+    CalendarDate, CalendarDuration, CalendarFields, CalendarLengths, CalendarOccurrence,
+    CalendarOutcome, CalendarWeek,
+};
 
 /// Converts a day number to a date of a calendar, in `date`.
 ///
@@ -348,4 +355,119 @@ pub extern "C" fn icu_calendar_weeks_of_days(
     ensures { Fills (ShowsWeekAt days.now) (length days.now) result weeks.old weeks.new codes.old codes.new }
 {
     date_calls::weeks_of_days(days, weeks, codes)
+}
+
+/// Finds how many days and months the year of a day number has, and how many days its month has, in `lengths`.
+///
+/// # Errors
+///
+/// The code is 0 if `lengths` is filled in. Otherwise `lengths` is unchanged, and the code is the first of:
+///
+/// - 1 or 2 for an unknown calendar or an unknown source of years.
+/// - 4 if `day` isn't from -365242499 to 365242134.
+#[unsafe(no_mangle)]
+pub extern "C" fn icu_calendar_lengths_of_day(
+    calendar: u8,
+    years: u8,
+    day: i64,
+    lengths: &mut CalendarLengths,
+) -> u8
+    ensures { MatchResult (calendar_of calendar years) (λ s. ShowsLengths s day result lengths.old lengths.new)
+        (λ why. IsLeft why result lengths.old lengths.new) }
+{
+    date_calls::lengths_of_day(calendar, years, day, lengths)
+}
+
+/// Lists the days from `first` to `last` on which a month and a day of a calendar fall: birthdays, memorial days, yearly
+/// feasts. As many of them as `days` has places are written to its start, in order, and their number to `written`.
+///
+/// The list goes on from the day `next`: the same call with `next` in place of `first` writes the days that follow. If
+/// `next` comes after `last`, none do.
+///
+/// `month_number` and `month_is_leap` are as in the fields of `icu_calendar_date_of_fields`. `overflow` says what happens
+/// in a year that lacks the month or the day: 0 or 2 skips the year, 1 takes the nearest date.
+///
+/// # Errors
+///
+/// The code is 0 if days are listed. Otherwise `days` and `next` are unchanged, `written` is 0, and the code is the
+/// first of:
+///
+/// - 1, 2 or 3 for an unknown calendar, an unknown source of years or an unknown option.
+/// - 5 if a day of the window isn't from -365242499 to 365242134, or if `last` comes before `first`.
+/// - 16 if the month isn't one of the calendar's months.
+/// - 20 if the day isn't from 1 to 31.
+#[unsafe(no_mangle)]
+pub extern "C" fn icu_calendar_anniversaries(
+    calendar: u8,
+    years: u8,
+    month_number: u8,
+    month_is_leap: u8,
+    day: u8,
+    overflow: u8,
+    first: i64,
+    last: i64,
+    days: &mut [i64],
+    written: &mut usize,
+    next: &mut i64,
+) -> u8
+    ensures { MatchResult (calendar_of calendar years)
+        (λ s. ListsYearly s (overflow_of_code overflow) (month_of month_number month_is_leap) day first last result
+        days.old days.new written.new next.old next.new)
+        (λ why. IsUnlisted why result days.old days.new written.new next.old next.new) }
+{
+    date_calls::anniversaries(
+        calendar,
+        years,
+        month_number,
+        month_is_leap,
+        day,
+        overflow,
+        first,
+        last,
+        days,
+        written,
+        next,
+    )
+}
+
+/// Lists the occurrences from `first` to `last`: the date of a start with 0, 1, 2, .. times `every` years (`unit` 1),
+/// months (2), weeks (3) or days (4) added in a calendar. As many of them as `items` has places are written to its
+/// start, in order, and their number to `written`. Each counts from the start itself, and none is before it.
+///
+/// The list goes on from the day `next`: the same call with `next` in place of `first` writes the items that follow,
+/// with their indices. If `next` comes after `last`, none do.
+///
+/// `overflow` says what happens to a step that leads to a month or day that doesn't exist: 0 or 2 skips it, 1 takes the
+/// nearest date.
+///
+/// # Errors
+///
+/// The code is 0 if occurrences are listed. Otherwise `items` and `next` are unchanged, `written` is 0, and the code is
+/// the first of:
+///
+/// - 1, 2 or 3 for an unknown calendar, an unknown source of years, or an unknown option or unit, also if `every` is 0.
+/// - 4 if `start` isn't from -365242499 to 365242134.
+/// - 5 if a day of the window isn't from -365242499 to 365242134, or if `last` comes before `first`.
+#[unsafe(no_mangle)]
+pub extern "C" fn icu_calendar_recurrences(
+    calendar: u8,
+    years: u8,
+    start: i64,
+    unit: u8,
+    every: u32,
+    overflow: u8,
+    first: i64,
+    last: i64,
+    items: &mut [CalendarOccurrence],
+    written: &mut usize,
+    next: &mut i64,
+) -> u8
+    ensures { MatchResult (calendar_of calendar years)
+        (λ s. ListsOccurrences s start (rule_given (unit_of_code unit) every (overflow_of_code overflow)) first last
+        result items.old items.new written.new next.old next.new)
+        (λ why. IsUnlisted why result items.old items.new written.new next.old next.new) }
+{
+    date_calls::recurrences(
+        calendar, years, start, unit, every, overflow, first, last, items, written, next,
+    )
 }

@@ -1,0 +1,89 @@
+/* Lists from C, a few items at a time: birthdays, paydays, and the lengths of months and years. */
+#include <inttypes.h>
+#include <stdio.h>
+
+#include "icu_calendar.h"
+
+#define COUNT 2
+
+/* The first and the last day of the years 2023 to 2025. */
+static const int64_t FIRST = 738521, LAST = 739616;
+
+static void print(int64_t day) {
+    icu_calendar_date date;
+    if (!icu_calendar_date_of_day(ICU_CALENDAR_ISO, ICU_CALENDAR_COMPUTED, day, &date)) {
+        printf(" %04" PRId32 "-%02u-%02u", date.extended_year, date.month_number, date.day);
+    }
+}
+
+/* Prints the days of a month and a day, as many at a time as there is room for; `;` shows where the next call begins. */
+static int show_anniversaries(const char *title, uint8_t calendar, uint8_t month, uint8_t is_leap, uint8_t day, uint8_t overflow) {
+    int64_t days[COUNT + 1] = {0};
+    printf("%s:", title);
+    for (int64_t next = FIRST; next <= LAST; printf("%s", next <= LAST ? ";" : "\n")) {
+        size_t written;
+        uint8_t code = icu_calendar_anniversaries(calendar, ICU_CALENDAR_PUBLISHED, month, is_leap, day, overflow, next, LAST, days, COUNT, &written, &next);
+        if (code || written > COUNT || days[COUNT]) {
+            return 1;
+        }
+        for (size_t place = 0; place < written; place++) {
+            print(days[place]);
+        }
+    }
+    return 0;
+}
+
+static int show_recurrences(const char *title, uint8_t unit, uint32_t every, uint8_t overflow, int64_t last) {
+    icu_calendar_occurrence items[COUNT + 1] = {0};
+    printf("%s:", title);
+    for (int64_t next = 738886; next <= last; printf("%s", next <= last ? ";" : "\n")) {
+        size_t written;
+        uint8_t code =
+            icu_calendar_recurrences(ICU_CALENDAR_ISO, ICU_CALENDAR_COMPUTED, 738916, unit, every, overflow, next, last, items, COUNT, &written, &next);
+        if (code || written > COUNT || items[COUNT].day) {
+            return 2;
+        }
+        for (size_t place = 0; place < written; place++) {
+            printf(" %" PRIu32, items[place].index);
+            print(items[place].day);
+        }
+    }
+    return 0;
+}
+
+static int show_lengths(uint8_t calendar, int64_t day) {
+    icu_calendar_lengths lengths = {0};
+    if (icu_calendar_lengths_of_day(calendar, ICU_CALENDAR_PUBLISHED, day, &lengths)) {
+        return 3;
+    }
+    printf("%s: %u days in %u months, %u in this one\n", icu_calendar_name(calendar), lengths.days_in_year, lengths.months_in_year, lengths.days_in_month);
+    return 0;
+}
+
+/* Codes of calls that list nothing, and change nothing but the count. */
+static int show_refusals(void) {
+    int64_t days[COUNT] = {7, 7}, next = 7;
+    icu_calendar_occurrence items[COUNT] = {{.day = 7}, {.day = 7}};
+    size_t written = 7;
+    printf("refused: %u %u %u %u", icu_calendar_anniversaries(20, 0, 1, 0, 1, 0, FIRST, LAST, days, COUNT, &written, &next),
+           icu_calendar_anniversaries(ICU_CALENDAR_ISO, 0, 1, 0, 1, 0, LAST, FIRST, days, COUNT, &written, &next),
+           icu_calendar_anniversaries(ICU_CALENDAR_ISO, 0, 1, 1, 1, 0, FIRST, LAST, days, COUNT, &written, &next),
+           icu_calendar_anniversaries(ICU_CALENDAR_ISO, 0, 1, 0, 32, 0, FIRST, LAST, days, COUNT, &written, &next));
+    printf(" %u %u %u\n", icu_calendar_recurrences(ICU_CALENDAR_ISO, 0, FIRST, ICU_CALENDAR_UNIT_DEFAULT, 1, 0, FIRST, LAST, items, COUNT, &written, &next),
+           icu_calendar_recurrences(ICU_CALENDAR_ISO, 0, FIRST, ICU_CALENDAR_DAYS, 0, 0, FIRST, LAST, items, COUNT, &written, &next),
+           icu_calendar_recurrences(ICU_CALENDAR_ISO, 0, 365242135, ICU_CALENDAR_DAYS, 1, 0, FIRST, LAST, items, COUNT, &written, &next));
+    return written || next != 7 || days[0] != 7 || items[0].day != 7 ? 4 : 0;
+}
+
+int main(void) {
+    int fault = show_anniversaries("10 Adar I", ICU_CALENDAR_HEBREW, 5, 1, 10, ICU_CALENDAR_CONSTRAIN);
+    fault = fault ? fault : show_anniversaries("10 Adar I, leap years", ICU_CALENDAR_HEBREW, 5, 1, 10, ICU_CALENDAR_REJECT);
+    fault = fault ? fault : show_anniversaries("Chinese New Year", ICU_CALENDAR_CHINESE, 1, 0, 1, ICU_CALENDAR_OVERFLOW_DEFAULT);
+    fault = fault ? fault : show_recurrences("month by month", ICU_CALENDAR_MONTHS, 1, ICU_CALENDAR_CONSTRAIN, 739037);
+    fault = fault ? fault : show_recurrences("months with day 31", ICU_CALENDAR_MONTHS, 1, ICU_CALENDAR_OVERFLOW_DEFAULT, 739037);
+    fault = fault ? fault : show_recurrences("every other week", ICU_CALENDAR_WEEKS, 2, ICU_CALENDAR_OVERFLOW_DEFAULT, 738960);
+    fault = fault ? fault : show_lengths(ICU_CALENDAR_ISO, 738945);
+    fault = fault ? fault : show_lengths(ICU_CALENDAR_HEBREW, 738939);
+    fault = fault ? fault : show_lengths(ICU_CALENDAR_CHINESE, 738926);
+    return fault ? fault : show_refusals();
+}
