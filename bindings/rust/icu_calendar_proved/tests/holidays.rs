@@ -6,6 +6,7 @@ mod common;
 use icu_calendar::holidays::{holidays, Book, BookError, Years};
 use icu_calendar::lists::Window;
 use icu_calendar::program::{calspan, Status};
+use icu_calendar::rows::Rows;
 use icu_calendar::types::RataDie;
 use icu_calendar::{Date, Iso};
 use std::fs;
@@ -207,6 +208,39 @@ fn books_are_listed_as_by_the_program() {
         }
     }
     assert!(lines > 1000, "{lines}");
+}
+
+#[test]
+fn books_over_published_rows_have_published_years() {
+    let rows = ["china", "hijri", "korea", "persian"].map(|name| {
+        let path = common::top().join(format!("rows/{name}.rows"));
+        fs::read(path).unwrap()
+    });
+    let rows = Rows::try_read(&rows.concat()).unwrap();
+    let window = Window::try_new(RataDie::new(700_000), RataDie::new(760_000)).unwrap();
+    for name in ["chinese", "korean", "umm-al-qura", "countries/china"] {
+        let text = fs::read(common::top().join(format!("books/{name}.csv"))).unwrap();
+        let text = [b"\xef\xbb\xbf", text.as_slice()].concat();
+        let book = Book::try_read(&text).unwrap();
+        let over = |years| {
+            let days = holidays(&book, years, window, 0);
+            days.map(|it| (it.day, book.name(it.rule).to_owned()))
+                .collect::<Vec<_>>()
+        };
+        let listed = rows.holidays(&text, window).unwrap();
+        let listed: Vec<_> = listed
+            .into_iter()
+            .map(|it| (it.date.day_number, it.name))
+            .collect();
+        assert_eq!(listed, over(Years::Published), "{name}");
+        assert_ne!(listed, over(Years::Computed), "{name}");
+    }
+    let none = Rows::default().holidays(b"row\n", window);
+    let error = BookError {
+        number: 1,
+        field: 0,
+    };
+    assert_eq!(none, Err(error));
 }
 
 #[test]
