@@ -21,7 +21,7 @@ SELECT count(*) FROM calendar_holidays('', '2023-01-01', '2023-12-31');
 SELECT * FROM calendar_holidays('fixed,Inauguration,iso,M01,20,exact,1957,2017,4,sunday+1', '2009-01-01', '2024-12-31');
 SELECT * FROM calendar_holidays(E'# Sweden\n\nspan,Midsummer Eve,iso,M06,19,friday\r\nspan,Advent,iso,M11,27,sunday,2023\nspan,Buss,iso,M11,22,-wednesday\n',
                                 '2022-06-01', '2023-12-31');
--- A move leads out of the window and into it, to one day from two years, and over the year's end.
+-- A move leads over a year's end, into the window or out of it.
 SELECT * FROM calendar_holidays('fixed,New Year,iso,M01,1,exact,,,,saturday-1 sunday+1', '2021-12-31', '2023-01-02');
 SELECT * FROM calendar_holidays('fixed,New Year,iso,M01,1,exact,,,,saturday-1 sunday+1', '2022-01-01', '2023-01-01');
 

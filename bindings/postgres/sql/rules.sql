@@ -22,7 +22,7 @@ CREATE TABLE rules AS
       FROM rule_lines, LATERAL (SELECT words::json AS it) AS json, LATERAL (SELECT ARRAY(SELECT json_array_elements_text(it->'words'))) AS words(word)
      WHERE position('\u0000' IN words) = 0;
 DELETE FROM rules WHERE status NOT IN (0, 1) OR source ~ '(^|\n)row' OR out LIKE 'err line%';
-DELETE FROM rules WHERE is_far(word[4]) OR is_far(word[5]) OR len = 7 AND is_far(word[6]);
+DELETE FROM rules WHERE is_far(word[4]) OR is_far(word[5]) OR CASE WHEN word[6] ~ '^-?\d+$' THEN is_far(word[6]) END;
 
 -- The program looks at the window, then at the rule, and then at the fields of the start.
 CREATE FUNCTION list_of_rule(word text[], len integer) RETURNS text LANGUAGE plpgsql AS $$
@@ -34,10 +34,10 @@ DECLARE
     first date := date_of(word[4]::bigint);
     last date := date_of(word[5]::bigint);
 BEGIN
-    IF len = 7 AND word[6] ~ '^-?\d+$' THEN
+    IF word[6] ~ '^-?\d+$' THEN
         SELECT date_of(word[6]::bigint) AS d, NULL AS cause INTO start;
     ELSE
-        PERFORM calendar_rrule('2024-01-01', calendar, word[len], first, last, published => false) LIMIT 1;
+        PERFORM calendar_rrule('2024-01-01', calendar, word[len], '2024-01-01', date '2024-01-01' + sign(last - first)::integer);
         start := named(word[2], array_to_string(word[6:len - 1], ' '), NULL, NULL);
     END IF;
     IF start.cause IS NOT NULL THEN
@@ -57,7 +57,7 @@ CREATE TABLE rule_answers AS
       FROM rules;
 -- A start before 4713 BC.
 DELETE FROM rule_answers WHERE got = 'err Overflow' AND status = 0;
-SELECT status, count(*) > 200 AS compared, count(*) FILTER (WHERE got IS DISTINCT FROM wanted) AS differing FROM rule_answers GROUP BY 1 ORDER BY 1;
+SELECT status, count(*) > 150 AS compared, count(*) FILTER (WHERE got IS DISTINCT FROM wanted) AS differing FROM rule_answers GROUP BY 1 ORDER BY 1;
 SELECT * FROM rule_answers WHERE got IS DISTINCT FROM wanted ORDER BY line LIMIT 5;
 
 -- Published years are those of the other functions.

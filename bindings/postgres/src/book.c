@@ -57,8 +57,7 @@ static void check_book(pgcal_bytes text) {
     pgcal_refuse_argument(psprintf("InvalidRecord %llu field %u", record, field),
                           field ? psprintf("record %llu of the book is invalid in field %u", record, field)
                                 : psprintf("record %llu of the book does not have six to ten fields", record),
-                          "A record is kind, name, calendar, month, value and last, then since, until, every and moved if they are needed, with commas "
-                          "between them; the kind is fixed, easter, weekday or span.");
+                          "A record is kind, name, calendar, month, value and last, and perhaps since, until, every and moved.");
 }
 
 /* Reads what stands between double quotes, where two of them stand for one. */

@@ -5,8 +5,8 @@
 
 PG_FUNCTION_INFO_V1(pgcal_rrule);
 
-/* The days of the first window that the program is asked for, and of the longest: a run can't be cancelled. Windows double as long as they have
- * fewer bytes of lines than `MANY`. */
+/* The days of the first window that the program is asked for. Windows double as long as they have fewer bytes of lines than `MANY`. A run can't be
+ * cancelled, so a window has at most so many days, or as many as lie between the start and it, since each run counts from the start on. */
 #define FIRST_DAYS 1024
 #define MOST_DAYS 4194304
 #define MANY 1048576
@@ -107,7 +107,7 @@ static bool has_lines(list *it) {
         list_window(it, next);
         it->window.first = next.last + 1;
         if (it->end < MANY) {
-            it->days = Min(2 * it->days, MOST_DAYS);
+            it->days = Min(2 * it->days, Max(MOST_DAYS, it->window.first - it->start));
         }
     }
     return true;
