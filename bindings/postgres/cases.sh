@@ -1,5 +1,6 @@
 #!/usr/bin/env bash
-# Writes files of cases/, books/ and rows/ in the form that COPY reads, for the regression tests: `requests`, `lists`, `books`, `holidays` or `rows`;
+# Writes files of cases/, books/ and rows/ in the form that COPY reads, for the regression tests: `requests`, `lists`, `rules`, `books`, `holidays` or
+# `rows`;
 # or the `examples` of the table of functions in README.md, with their results.
 set -eu
 top=$(cd "$(dirname "${BASH_SOURCE[0]}")/../.." && pwd)
@@ -22,8 +23,9 @@ requests)
   done
   ;;
 lists) numbered lists "$top/cases/lists.jsonl" ;;
-books) for book in "$top"/books/*.csv; do numbered "$(basename "$book" .csv)" "$book"; done ;;
-holidays) for days in "$top"/books/expected/*.txt; do numbered "$(basename "$days" .txt)" "$days"; done ;;
+rules) numbered rules "$top/cases/rrule.jsonl" ;;
+books) for book in "$top"/books/*.csv "$top"/books/countries/*.csv; do numbered "$(basename "$book" .csv)" "$book"; done ;;
+holidays) for days in "$top"/books/expected/*.txt "$top"/books/expected/countries/*.txt; do numbered "$(basename "$days" .txt)" "$days"; done ;;
 examples)
   # The columns: the function, what it returns, an example, and its result, each in backquotes.
   awk -F ' [|] ' 'NF == 4 && /^[|] `/ { sub(/ [|]$/, "", $4); print substr($3, 2, length($3) - 2) "\t" substr($4, 2, length($4) - 2) }' \

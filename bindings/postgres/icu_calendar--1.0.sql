@@ -212,6 +212,11 @@ CREATE FUNCTION calendar_recurrences(d date, calendar calendar_name, unit text, 
     LANGUAGE C IMMUTABLE STRICT PARALLEL SAFE COST 10 ROWS 100 AS 'MODULE_PATHNAME', 'pgcal_recurrences';
 COMMENT ON FUNCTION calendar_recurrences(date, calendar_name, text, integer, date, date, text, boolean) IS 'a date with a step added 0, 1, 2 and more times';
 
+CREATE FUNCTION calendar_rrule(d date, calendar calendar_name, rule text, first date, last date, published boolean DEFAULT true,
+                               OUT index integer, OUT day date) RETURNS SETOF record
+    LANGUAGE C IMMUTABLE STRICT PARALLEL SAFE COST 1000 ROWS 100 AS 'MODULE_PATHNAME', 'pgcal_rrule';
+COMMENT ON FUNCTION calendar_rrule(date, calendar_name, text, date, date, boolean) IS 'the occurrences of a recurrence rule of iCalendar';
+
 CREATE FUNCTION calendar_holidays(book text, first date, last date, published boolean DEFAULT true,
                                   OUT day date, OUT name text) RETURNS SETOF record
     LANGUAGE C IMMUTABLE STRICT PARALLEL SAFE COST 100 ROWS 100 AS 'MODULE_PATHNAME', 'pgcal_holidays';

@@ -17,6 +17,14 @@ SELECT * FROM calendar_holidays(E'fixed,"Spring ""Festival""",chinese,M01,1,exac
 SELECT * FROM calendar_holidays(E'fixed,Spring Festival,chinese,M01,1,exact', '2023-01-01', '2023-12-31', published => false);
 SELECT count(*) FROM calendar_holidays('', '2023-01-01', '2023-12-31');
 
+-- Years, moves, and weeks that begin or end with a day; notes before the first rule.
+SELECT * FROM calendar_holidays('fixed,Inauguration,iso,M01,20,exact,1957,2017,4,sunday+1', '2009-01-01', '2024-12-31');
+SELECT * FROM calendar_holidays(E'# Sweden\n\nspan,Midsummer Eve,iso,M06,19,friday\r\nspan,Advent,iso,M11,27,sunday,2023\nspan,Buss,iso,M11,22,-wednesday\n',
+                                '2022-06-01', '2023-12-31');
+-- A move leads over a year's end, into the window or out of it.
+SELECT * FROM calendar_holidays('fixed,New Year,iso,M01,1,exact,,,,saturday-1 sunday+1', '2021-12-31', '2023-01-02');
+SELECT * FROM calendar_holidays('fixed,New Year,iso,M01,1,exact,,,,saturday-1 sunday+1', '2022-01-01', '2023-01-01');
+
 -- A list goes on only as far as it is read.
 SELECT calendar_recurrences('2024-01-01', 'iso', 'days', 1, '2024-01-01', '999999-12-31') LIMIT 3;
 
@@ -34,7 +42,8 @@ CREATE TABLE listed AS
       FROM books
       JOIN (SELECT name, regexp_match(words, '^# Days of (\d{4}) to (\d{4}), ') AS years FROM holiday_lines WHERE line = 1) AS heads USING (name),
            calendar_holidays(book, (years[1] || '-01-01')::date, (years[2] || '-12-31')::date) WITH ORDINALITY AS it(day, name, n);
-SELECT name, count(*) > 50 AS days FROM listed GROUP BY name ORDER BY name;
+SELECT count(DISTINCT name) > 60 AS books, count(*) > 18000 AS days FROM listed;
+SELECT name FROM books EXCEPT SELECT name FROM listed;
 (TABLE wanted EXCEPT ALL SELECT name, day, holiday FROM listed) UNION ALL (SELECT name, day, holiday FROM listed EXCEPT ALL TABLE wanted);
 SELECT count(*) AS not_rising FROM (SELECT day < lag(day) OVER (PARTITION BY name ORDER BY n) AS falls FROM listed) AS it WHERE falls;
 

@@ -1,20 +1,40 @@
 /* Books of holidays. The program over memory decides whether a text is a book; what it takes is read here. */
 #include "pgcal.h"
 
-/* The fields of a record. */
-#define FIELDS 6
+/* The fewest and the most fields of a record. */
+#define LEAST_FIELDS 6
+#define FIELDS 10
+/* The most bytes that a line of rows has. */
+#define MOST_ROW 512
 
-/* What is left of a text, and the room for the fields of its next record. */
+/* What is left of a text, and the room for the fields of its next record. Those that are left out are empty. */
 typedef struct {
     const uint8_t *at;
     const uint8_t *end;
     StringInfoData fields[FIELDS];
-    int count;
 } reader;
 
-/* Raises the error of a book that the program took, and that isn't read here: one with years, moves or the kind span. */
+/* Raises the error of a book that the program took, and that isn't read here. No book does. */
 static void pg_attribute_noreturn() misread(void) {
-    elog(ERROR, "icu_calendar: the book has records of more than six fields, or of the kind span");
+    elog(ERROR, "icu_calendar: a book was misread");
+}
+
+/* Passes over the empty lines and the notes before the first record. The program takes rows there, too. They are refused, since the calls have the
+ * published years. */
+static void pass_lines_before(reader *it) {
+    while (it->at < it->end) {
+        size_t left = (size_t)(it->end - it->at);
+        const uint8_t *feed = memchr(it->at, '\n', left);
+        size_t line = feed ? (size_t)(feed - it->at) : left;
+        size_t len = line && it->at[line - 1] == '\r' ? line - 1 : line;
+        if (line <= MOST_ROW && (len == 3 || (len > 3 && it->at[3] == ' ')) && memcmp(it->at, "row", 3) == 0) {
+            pgcal_refuse_argument("Rows", "rows of years stand before the book", "With published => true, published years replace computed ones.");
+        }
+        if (line > MOST_ROW || (len && it->at[0] != '#')) {
+            return;
+        }
+        it->at += feed ? line + 1 : line;
+    }
 }
 
 /* Refuses a text that the program doesn't take as a book. */
@@ -36,8 +56,8 @@ static void check_book(pgcal_bytes text) {
     }
     pgcal_refuse_argument(psprintf("InvalidRecord %llu field %u", record, field),
                           field ? psprintf("record %llu of the book is invalid in field %u", record, field)
-                                : psprintf("record %llu of the book does not have six fields", record),
-                          "A record is kind, name, calendar, month, value and last, with commas between them; the kind is fixed, easter or weekday.");
+                                : psprintf("record %llu of the book does not have six to ten fields", record),
+                          "A record is kind, name, calendar, month, value and last, and perhaps since, until, every and moved.");
 }
 
 /* Reads what stands between double quotes, where two of them stand for one. */
@@ -76,13 +96,14 @@ static bool read_record(reader *it) {
     if (it->at == it->end) {
         return false;
     }
-    for (it->count = 0; it->count < FIELDS; it->count++) {
-        resetStringInfo(&it->fields[it->count]);
-        if (!read_field(it, &it->fields[it->count])) {
-            break;
-        }
+    int count = 0;
+    for (int place = 0; place < FIELDS; place++) {
+        resetStringInfo(&it->fields[place]);
     }
-    if (it->count != FIELDS - 1) {
+    while (count < FIELDS && read_field(it, &it->fields[count])) {
+        count++;
+    }
+    if (count < LEAST_FIELDS - 1 || count == FIELDS) {
         misread();
     }
     return true;
@@ -106,50 +127,107 @@ static int32_t number_of(const reader *it, int place, int32_t least, int32_t mos
     return (int32_t)number;
 }
 
-static int32_t weekday_of(const reader *it) {
-    static const char *const WEEKDAYS[] = {"sunday", "monday", "tuesday", "wednesday", "thursday", "friday", "saturday"};
+static const char *const WEEKDAYS[] = {"sunday", "monday", "tuesday", "wednesday", "thursday", "friday", "saturday"};
+
+/* Returns the number of a weekday's name, from 0 for Sunday. */
+static int32_t weekday_of(const char *name, size_t len) {
     for (int32_t weekday = 0; weekday < (int32_t)lengthof(WEEKDAYS); weekday++) {
-        if (is_field(it, 5, WEEKDAYS[weekday])) {
+        if (strlen(WEEKDAYS[weekday]) == len && memcmp(WEEKDAYS[weekday], name, len) == 0) {
             return weekday;
         }
     }
     misread();
 }
 
-/* Reads the rule of a record: kind, name, calendar, month, value, last. */
+/* Returns the weekday of the sixth field, behind a minus if there is one. */
+static int32_t last_weekday_of(const reader *it) {
+    const char *name = it->fields[5].data;
+    name += *name == '-';
+    return weekday_of(name, strlen(name));
+}
+
+/* Returns the years of the seventh to the ninth field. */
+static pgcal_rule_years years_of(const reader *it) {
+    pgcal_rule_years years = {PG_INT32_MIN, PG_INT32_MAX, 1};
+    if (it->fields[6].len) {
+        years.since = number_of(it, 6, -999999, 999999);
+    }
+    if (it->fields[7].len) {
+        years.until = number_of(it, 7, -999999, 999999);
+    }
+    if (it->fields[8].len) {
+        years.every = number_of(it, 8, 1, 400);
+    }
+    return years;
+}
+
+/* Reads the words of the tenth field, such as `saturday-1`: the last two bytes of each are the days. */
+static void read_moves(const reader *it, int8_t moves[7]) {
+    const char *at = it->fields[9].data;
+    while (*at) {
+        size_t len = strcspn(at, " ");
+        if (len < 2) {
+            misread();
+        }
+        int size = at[len - 1] - '0';
+        moves[weekday_of(at, len - 2)] = (int8_t)(at[len - 2] == '-' ? -size : size);
+        at += at[len] ? len + 1 : len;
+    }
+}
+
+/* Reads what a rule of Easter has. */
+static void read_easter(const reader *it, pgcal_rule *rule) {
+    rule->kind = PGCAL_EASTER;
+    rule->easter = rule->chosen.calendar == ICU_CALENDAR_JULIAN ? ICU_CALENDAR_EASTER_JULIAN : ICU_CALENDAR_EASTER_GREGORIAN;
+    rule->offset = number_of(it, 4, -400, 400);
+}
+
+/* Reads what a rule with a month has. */
+static void read_in_month(const reader *it, pgcal_rule *rule) {
+    rule->month = pgcal_month_of(rule->chosen, bytes_of_field(it, 3));
+    if (is_field(it, 0, "weekday")) {
+        rule->kind = PGCAL_WEEKDAY;
+        rule->nth = number_of(it, 4, -1, 5);
+        rule->weekday = last_weekday_of(it);
+        return;
+    }
+    rule->day = (uint8_t)number_of(it, 4, 1, 31);
+    rule->overflow = is_field(it, 5, "constrain") ? ICU_CALENDAR_CONSTRAIN : ICU_CALENDAR_REJECT;
+    if (is_field(it, 0, "fixed")) {
+        rule->kind = PGCAL_FIXED;
+        return;
+    }
+    if (!is_field(it, 0, "span")) {
+        misread();
+    }
+    rule->kind = PGCAL_SPAN;
+    rule->weekday = last_weekday_of(it);
+    rule->is_before = it->fields[5].data[0] == '-';
+}
+
+/* Reads the rule of a record: kind, name, calendar, month, value, last, since, until, every, moved. */
 static pgcal_rule rule_of(const reader *it, uint8_t years) {
     pgcal_rule rule = {.name = cstring_to_text_with_len(it->fields[1].data, it->fields[1].len), .chosen = {.years = years}};
     if (!pgcal_calendar_of(bytes_of_field(it, 2), &rule.chosen.calendar)) {
         misread();
     }
     if (is_field(it, 0, "easter")) {
-        rule.kind = PGCAL_EASTER;
-        rule.easter = rule.chosen.calendar == ICU_CALENDAR_JULIAN ? ICU_CALENDAR_EASTER_JULIAN : ICU_CALENDAR_EASTER_GREGORIAN;
-        rule.offset = number_of(it, 4, -400, 400);
-        return rule;
+        read_easter(it, &rule);
+    } else {
+        read_in_month(it, &rule);
     }
-    rule.month = pgcal_month_of(rule.chosen, bytes_of_field(it, 3));
-    if (is_field(it, 0, "fixed")) {
-        rule.kind = PGCAL_FIXED;
-        rule.day = (uint8_t)number_of(it, 4, 1, 31);
-        rule.overflow = is_field(it, 5, "constrain") ? ICU_CALENDAR_CONSTRAIN : ICU_CALENDAR_REJECT;
-        return rule;
-    }
-    if (!is_field(it, 0, "weekday")) {
-        misread();
-    }
-    rule.kind = PGCAL_WEEKDAY;
-    rule.nth = number_of(it, 4, -1, 5);
-    rule.weekday = weekday_of(it);
+    rule.years = years_of(it);
+    read_moves(it, rule.moves);
     return rule;
 }
 
 /* Reads a book into the memory context of the moment. */
 pgcal_book pgcal_read_book(const text *given, uint8_t years) {
     pgcal_bytes bytes = pgcal_bytes_of(given);
-    check_book(bytes);
     reader it = {.at = bytes.bytes, .end = bytes.bytes + bytes.len};
-    if (bytes.len >= 3 && memcmp(bytes.bytes, "\xef\xbb\xbf", 3) == 0) {
+    pass_lines_before(&it);
+    check_book(bytes);
+    if (it.end - it.at >= 3 && memcmp(it.at, "\xef\xbb\xbf", 3) == 0) {
         it.at += 3;
     }
     for (int place = 0; place < FIELDS; place++) {

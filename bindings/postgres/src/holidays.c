@@ -8,6 +8,8 @@ PG_FUNCTION_INFO_V1(pgcal_holidays);
 
 /* How many years beside that of a day an Easter may lie that leads to the day. */
 #define YEARS_BESIDE 2
+/* How far a day of `span` lies from its date. */
+#define DAYS_BESIDE 6
 
 /* The first day of a rule that isn't listed yet. */
 typedef struct {
@@ -23,58 +25,78 @@ typedef struct {
     binaryheap *heap;
 } holidays;
 
-static bool first_fixed(const pgcal_rule *rule, pgcal_window window, int64_t *day) {
-    pgcal_yearly list = pgcal_yearly_of(rule->chosen, rule->month, rule->day, rule->overflow, window);
-    return pgcal_next_yearly(&list, day);
+/* Returns the year of a day, or of the nearest one that has a year. */
+static int32_t year_of(pgcal_chosen chosen, int64_t day) {
+    icu_calendar_date date;
+    pgcal_show(chosen, Min(Max(day, PGCAL_FIRST_DAY), PGCAL_LAST_DAY), &date);
+    return date.extended_year;
 }
 
-static bool first_easter(const pgcal_rule *rule, pgcal_window window, int64_t *day) {
-    icu_calendar_date first, last;
-    pgcal_show(rule->chosen, window.first, &first);
-    pgcal_show(rule->chosen, window.last, &last);
-    for (int32_t year = first.extended_year - YEARS_BESIDE; year <= last.extended_year + YEARS_BESIDE; year++) {
-        uint8_t code = icu_calendar_easter(rule->easter, year, day);
-        if (code) {
-            elog(ERROR, "icu_calendar: a call returned the code %u", code);
-        }
-        *day += rule->offset;
-        if (*day >= window.first) {
-            return *day <= window.last;
-        }
+/* Returns the weekday of the week that begins with a day, or ends with it. */
+static int64_t day_in_week(int64_t day, int32_t weekday, bool is_before) {
+    int64_t ahead = ((weekday - day) % 7 + 7) % 7;
+    return is_before && ahead ? day + ahead - 7 : day + ahead;
+}
+
+static bool easter_day(const pgcal_rule *rule, int32_t year, int64_t *day) {
+    uint8_t code = icu_calendar_easter(rule->easter, year, day);
+    if (code) {
+        elog(ERROR, "icu_calendar: a call returned the code %u", code);
     }
-    return false;
+    *day += rule->offset;
+    return true;
 }
 
-/* Finds the weekday in the month of a date, and returns whether it is there. */
-static bool weekday_in_month(const pgcal_rule *rule, const icu_calendar_date *date, int64_t *day) {
-    int64_t before = date->day_number - date->day;
-    int64_t last = before + pgcal_days_in_month(rule->chosen, date->extended_year, date->ordinal_month);
+/* Finds the first to the fifth, or the last, of a weekday in the month of a year. */
+static bool weekday_in_month(const pgcal_rule *rule, int32_t year, int64_t *day) {
+    icu_calendar_date first;
+    if (!pgcal_day_in_year(rule->chosen, year, rule->month, 1, ICU_CALENDAR_REJECT, &first)) {
+        return false;
+    }
+    int64_t last = first.day_number + pgcal_days_in_month(rule->chosen, year, first.ordinal_month) - 1;
     if (rule->nth < 0) {
-        *day = last - ((last - rule->weekday) % 7 + 7) % 7;
+        *day = day_in_week(last, rule->weekday, true);
     } else {
-        *day = before + 1 + ((rule->weekday - before - 1) % 7 + 7) % 7 + 7 * (rule->nth - 1);
+        *day = day_in_week(first.day_number, rule->weekday, false) + 7 * (rule->nth - 1);
     }
     return *day <= last;
 }
 
-static bool first_weekday(const pgcal_rule *rule, pgcal_window window, int64_t *day) {
-    icu_calendar_date first, last, month;
-    pgcal_show(rule->chosen, window.first, &first);
-    pgcal_show(rule->chosen, window.last, &last);
-    bool is_begun = first.month_number == rule->month.number && first.month_is_leap == rule->month.is_leap;
-    if (is_begun && weekday_in_month(rule, &first, day) && *day >= window.first) {
-        return *day <= window.last;
+/* Finds the day of a rule in a year, before it moves, and returns whether it is there. */
+static bool own_day(const pgcal_rule *rule, int32_t year, int64_t *day) {
+    icu_calendar_date date;
+    if (rule->kind == PGCAL_EASTER) {
+        return easter_day(rule, year, day);
     }
-    for (int32_t year = first.extended_year; year <= last.extended_year; year++) {
-        CHECK_FOR_INTERRUPTS();
-        if (!pgcal_day_in_year(rule->chosen, year, rule->month, 1, ICU_CALENDAR_REJECT, &month)) {
-            continue;
-        }
-        if (weekday_in_month(rule, &month, day) && *day >= window.first) {
-            return *day <= window.last;
-        }
+    if (rule->kind == PGCAL_WEEKDAY) {
+        return weekday_in_month(rule, year, day);
     }
-    return false;
+    if (!pgcal_day_in_year(rule->chosen, year, rule->month, rule->day, rule->overflow, &date)) {
+        return false;
+    }
+    *day = rule->kind == PGCAL_SPAN ? day_in_week(date.day_number, rule->weekday, rule->is_before) : date.day_number;
+    return true;
+}
+
+/* Returns how far a day of a rule may move. */
+static int64_t reach_of(const pgcal_rule *rule) {
+    int64_t reach = 0;
+    for (size_t weekday = 0; weekday < lengthof(rule->moves); weekday++) {
+        reach = Max(reach, abs(rule->moves[weekday]));
+    }
+    return reach;
+}
+
+/* Returns the first year from `low` on in which a rule is kept. */
+static int32_t first_kept(pgcal_rule_years years, int32_t low) {
+    if (low <= years.since) {
+        return years.since;
+    }
+    if (years.every == 1) {
+        return low;
+    }
+    int32_t past = (low - years.since) % years.every;
+    return past ? low + years.every - past : low;
 }
 
 /* Finds the first day of a rule in a window, and returns whether there is one. */
@@ -82,14 +104,26 @@ static bool first_day(const pgcal_rule *rule, pgcal_window window, int64_t *day)
     if (window.first > window.last) {
         return false;
     }
-    switch (rule->kind) {
-    case PGCAL_FIXED:
-        return first_fixed(rule, window, day);
-    case PGCAL_EASTER:
-        return first_easter(rule, window, day);
-    default:
-        return first_weekday(rule, window, day);
+    int64_t reach = reach_of(rule), beside = reach + (rule->kind == PGCAL_SPAN ? DAYS_BESIDE : 0), own;
+    int32_t more = rule->kind == PGCAL_EASTER ? YEARS_BESIDE : 0;
+    int32_t last_year = Min(year_of(rule->chosen, window.last + beside) + more, rule->years.until);
+    bool is_found = false;
+    for (int32_t year = first_kept(rule->years, year_of(rule->chosen, window.first - beside) - more); year <= last_year; year += rule->years.every) {
+        CHECK_FOR_INTERRUPTS();
+        if (!own_day(rule, year, &own) || own < PGCAL_FIRST_DAY || own > PGCAL_LAST_DAY) {
+            continue;
+        }
+        int64_t moved = own + rule->moves[(own % 7 + 7) % 7];
+        if (moved >= window.first && moved <= window.last && (!is_found || moved < *day)) {
+            is_found = true;
+            *day = moved;
+        }
+        /* The days of later years, moved back as far as can be, are no earlier. */
+        if (is_found && *day + reach <= own) {
+            break;
+        }
     }
+    return is_found;
 }
 
 /* Puts the earlier day on top of the heap, and on one day the rule that stands first in the book. */

@@ -6,15 +6,26 @@
 PG_FUNCTION_INFO_V1(pgcal_anniversaries);
 PG_FUNCTION_INFO_V1(pgcal_recurrences);
 
-pgcal_yearly pgcal_yearly_of(pgcal_chosen chosen, pgcal_month month, uint8_t day, uint8_t overflow, pgcal_window window) {
+/* What is left of a month and a day, year after year. */
+typedef struct {
+    pgcal_chosen chosen;
+    pgcal_month month;
+    uint8_t day;
+    uint8_t overflow;
+    pgcal_window window;
+    int32_t year;
+    int32_t last_year;
+} yearly;
+
+static yearly yearly_of(pgcal_chosen chosen, pgcal_month month, uint8_t day, uint8_t overflow, pgcal_window window) {
     icu_calendar_date first, last;
     pgcal_show(chosen, window.first, &first);
     pgcal_show(chosen, window.last, &last);
-    return (pgcal_yearly){chosen, month, day, overflow, window, first.extended_year, last.extended_year};
+    return (yearly){chosen, month, day, overflow, window, first.extended_year, last.extended_year};
 }
 
 /* Finds the next day of a list, and returns whether there is one. */
-bool pgcal_next_yearly(pgcal_yearly *list, int64_t *day) {
+static bool next_yearly(yearly *list, int64_t *day) {
     while (list->year <= list->last_year) {
         icu_calendar_date date;
         CHECK_FOR_INTERRUPTS();
@@ -39,8 +50,8 @@ static void begin_anniversaries(FunctionCallInfo fcinfo) {
                         errhint("A day is from 1 to 31.")));
     }
     uint8_t overflow = pgcal_code_of(PG_GETARG_TEXT_PP(5), &pgcal_leaping);
-    pgcal_yearly *list = MemoryContextAlloc(call->multi_call_memory_ctx, sizeof *list);
-    *list = pgcal_yearly_of(chosen, month, (uint8_t)day, overflow, window);
+    yearly *list = MemoryContextAlloc(call->multi_call_memory_ctx, sizeof *list);
+    *list = yearly_of(chosen, month, (uint8_t)day, overflow, window);
     call->user_fctx = list;
 }
 
@@ -50,7 +61,7 @@ Datum pgcal_anniversaries(PG_FUNCTION_ARGS) {
     }
     FuncCallContext *call = SRF_PERCALL_SETUP();
     int64_t day;
-    if (pgcal_next_yearly(call->user_fctx, &day)) {
+    if (next_yearly(call->user_fctx, &day)) {
         SRF_RETURN_NEXT(call, DateADTGetDatum(pgcal_date_of(day)));
     }
     SRF_RETURN_DONE(call);

@@ -61,37 +61,40 @@ typedef struct {
     uint8_t is_leap;
 } pgcal_month;
 
+/* The first and the last day that calls take. */
+#define PGCAL_FIRST_DAY INT64CONST(-365242499)
+#define PGCAL_LAST_DAY INT64CONST(365242134)
+
 /* Days in a row, both included. */
 typedef struct {
     int64_t first;
     int64_t last;
 } pgcal_window;
 
-/* What is left of a month and a day, year after year. */
-typedef struct {
-    pgcal_chosen chosen;
-    pgcal_month month;
-    uint8_t day;
-    uint8_t overflow;
-    pgcal_window window;
-    int32_t year;
-    int32_t last_year;
-} pgcal_yearly;
+typedef enum { PGCAL_FIXED, PGCAL_EASTER, PGCAL_WEEKDAY, PGCAL_SPAN } pgcal_rule_kind;
 
-typedef enum { PGCAL_FIXED, PGCAL_EASTER, PGCAL_WEEKDAY } pgcal_rule_kind;
+/* The years in which a rule is kept. The steps are counted from `since`. */
+typedef struct {
+    int32_t since; /* PG_INT32_MIN if no year is the first */
+    int32_t until; /* PG_INT32_MAX if no year is the last */
+    int32_t every;
+} pgcal_rule_years;
 
 /* A rule of a book of holidays. */
 typedef struct {
     pgcal_rule_kind kind;
     text *name;
-    pgcal_chosen chosen;
+    pgcal_chosen chosen; /* the calendar whose years are counted */
     pgcal_month month;
-    uint8_t day;      /* fixed */
+    uint8_t day;      /* fixed, span */
     uint8_t overflow; /* fixed */
     uint8_t easter;   /* easter: one of ICU_CALENDAR_EASTER_ */
     int32_t offset;   /* easter: the days after it */
     int32_t nth;      /* weekday: 1 to 5, or -1 for the last */
-    int32_t weekday;  /* weekday: 1 for Monday to 6, and 0 for Sunday */
+    int32_t weekday;  /* weekday, span: 1 for Monday to 6, and 0 for Sunday */
+    bool is_before;   /* span: whether the week ends with the day, and doesn't begin with it */
+    pgcal_rule_years years;
+    int8_t moves[7]; /* by how many days it moves off each weekday from Sunday on */
 } pgcal_rule;
 
 typedef struct {
@@ -129,14 +132,14 @@ extern pgcal_month pgcal_month_of(pgcal_chosen chosen, pgcal_bytes code);
 extern uint8_t pgcal_days_in_month(pgcal_chosen chosen, int32_t year, uint8_t ordinal_month);
 extern uint8_t pgcal_months_in_year(pgcal_chosen chosen, int32_t year);
 
-/* lists.c */
-extern pgcal_yearly pgcal_yearly_of(pgcal_chosen chosen, pgcal_month month, uint8_t day, uint8_t overflow, pgcal_window window);
-extern bool pgcal_next_yearly(pgcal_yearly *list, int64_t *day);
-
 /* book.c */
 extern pgcal_book pgcal_read_book(const text *given, uint8_t years);
 
+/* rows.c */
+extern void pgcal_append_rows(StringInfo rows, pgcal_chosen chosen);
+
 /* program.c */
+extern void pgcal_refuse_lack_of_memory(void) pg_attribute_noreturn();
 extern uint8_t pgcal_run(pgcal_bytes words, pgcal_bytes input, uint8_t *output, size_t room, size_t *written);
 
 #endif

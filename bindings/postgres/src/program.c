@@ -20,6 +20,10 @@ uint8_t pgcal_run(pgcal_bytes words, pgcal_bytes input, uint8_t *output, size_t 
     return calspan(words.bytes, words.len, input.bytes, input.len, output, room, written);
 }
 
+void pgcal_refuse_lack_of_memory(void) {
+    ereport(ERROR, (errcode(ERRCODE_OUT_OF_MEMORY), errmsg("out of memory"), errdetail("Cause: NoMemory.")));
+}
+
 static bool begins_with(pgcal_bytes words, const char *word) {
     size_t len = strlen(word);
     return words.len >= len && memcmp(words.bytes, word, len) == 0 && (words.len == len || words.bytes[len] == ' ');
@@ -29,7 +33,7 @@ static bool begins_with(pgcal_bytes words, const char *word) {
 static void check_input(pgcal_bytes words, pgcal_bytes input) {
     if (!begins_with(words, "span") && !begins_with(words, "convert")) {
         pgcal_refuse_argument("Words", "the command is not span or convert",
-                              "For lists use calendar_anniversaries, calendar_recurrences or calendar_holidays.");
+                              "For lists use calendar_anniversaries, calendar_recurrences, calendar_rrule or calendar_holidays.");
     }
     if (input.len > MOST_INPUT) {
         pgcal_refuse_argument("TooLong", "the input has more than 1048576 bytes",
@@ -56,7 +60,7 @@ static void check_status(uint8_t status, const uint8_t *output, size_t written) 
     }
     case CALSPAN_NO_MEMORY:
     case CALSPAN_NO_MEMORY_FOR_OUTPUT:
-        ereport(ERROR, (errcode(ERRCODE_OUT_OF_MEMORY), errmsg("out of memory"), errdetail("Cause: NoMemory.")));
+        pgcal_refuse_lack_of_memory();
     default:
         elog(ERROR, "icu_calendar: calspan returned %u", status);
     }

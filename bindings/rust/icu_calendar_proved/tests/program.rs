@@ -16,29 +16,6 @@ fn published_rows() -> Vec<u8> {
     ["china", "hijri", "korea", "persian"].map(read).concat()
 }
 
-/// Numbers that look random, from a fixed start.
-struct Numbers(u64);
-
-impl Numbers {
-    /// Returns the next number below a bound.
-    fn below(&mut self, bound: u64) -> u64 {
-        self.0 = self
-            .0
-            .wrapping_mul(6_364_136_223_846_793_005)
-            .wrapping_add(1_442_695_040_888_963_407);
-        (self.0 >> 33) % bound
-    }
-
-    /// Returns a day: nearly always in recent centuries, and now and then anywhere.
-    fn day(&mut self) -> RataDie {
-        if self.below(8) == 0 {
-            RataDie::new(self.below(730_484_634) as i64 - 365_242_499)
-        } else {
-            RataDie::new(self.below(300_000) as i64 + 600_000)
-        }
-    }
-}
-
 /// The fields of a date: its extended year, its month and its day.
 fn fields<A: AsCalendar>(date: &Date<A>) -> String {
     let code = date.month().standard_code;
@@ -51,7 +28,7 @@ fn fields<A: AsCalendar>(date: &Date<A>) -> String {
 
 /// Makes requests between days of each calendar and its neighbour in the list.
 fn requests<A: AsCalendar + Copy>(count: usize, calendar_of: impl Fn(&str) -> A) -> Vec<String> {
-    let mut numbers = Numbers(74);
+    let mut numbers = common::Numbers(74);
     let mut lines = Vec::new();
     for turn in 0..count {
         let (name, shown) = (

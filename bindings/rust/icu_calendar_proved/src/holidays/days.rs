@@ -1,17 +1,56 @@
 //! The first day of a rule from a day on.
 
-use super::book::HolidayRule;
+use super::entry::Entry;
 use super::list::Years;
+use super::rule::{HolidayRule, SpanWeek};
 use crate::any_calendar::{AnyCalendar, AnyCalendarKind};
-use crate::cal::{Gregorian, Julian};
 use crate::calendar::Sealed;
-use crate::engine::{easter, Chosen, Parts};
-use crate::lists::{Anniversaries, Window};
-use crate::options::DateFromFieldsOptions;
+use crate::engine::{easter, Chosen, Parts, FIRST_DAY, LAST_DAY};
+use crate::error::DateFromFieldsError;
+use crate::lists::{Leaping, Window};
+use crate::options::{DateFromFieldsOptions, Overflow};
 use crate::types::{DateFields, Month, RataDie, Weekday};
 
 /// How many years beside that of a day an Easter may lie that leads to the day.
 const YEARS_BESIDE: i32 = 2;
+
+/// How far a day of `span` lies from its date.
+const DAYS_BESIDE: i64 = 6;
+
+/// Returns the first day of a record in a window.
+pub(super) fn first_day(entry: &Entry, years: Years, window: Window) -> Option<RataDie> {
+    let chosen = chosen(calendar_of(entry.rule), years);
+    let reach = entry.moves.reach();
+    let (low, high) = years_of(chosen, entry.rule, window, reach);
+    let last_year = entry.years.last_to(high);
+    let mut year = entry.years.first_from(low);
+    let mut best = None;
+    while year <= last_year {
+        if let Some(own) = own_day(chosen, entry.rule, year) {
+            let moved = entry.moves.moved(own);
+            if window.contains(moved) && best.map_or(true, |day| moved < day) {
+                best = Some(moved);
+            }
+            // The days of later years, moved back as far as can be, are no earlier.
+            if best.is_some_and(|day| day + reach <= own) {
+                break;
+            }
+        }
+        year += i32::from(entry.years.every);
+    }
+    best
+}
+
+/// Returns the calendar whose years a rule counts.
+fn calendar_of(rule: HolidayRule) -> AnyCalendarKind {
+    match rule {
+        HolidayRule::Fixed { calendar, .. }
+        | HolidayRule::Nth { calendar, .. }
+        | HolidayRule::Span { calendar, .. } => calendar,
+        HolidayRule::Easter { julian: true, .. } => AnyCalendarKind::Julian,
+        HolidayRule::Easter { julian: false, .. } => AnyCalendarKind::Gregorian,
+    }
+}
 
 fn chosen(calendar: AnyCalendarKind, years: Years) -> Chosen {
     let published = AnyCalendar::new(calendar).chosen();
@@ -21,90 +60,102 @@ fn chosen(calendar: AnyCalendarKind, years: Years) -> Chosen {
     }
 }
 
-/// Returns the first day of a rule in a window.
-pub(super) fn first_day(rule: HolidayRule, years: Years, window: Window) -> Option<RataDie> {
-    match rule {
+/// Returns the first and the last year whose day may lie in a window, or as many days beside it as `reach` says.
+fn years_of(chosen: Chosen, rule: HolidayRule, window: Window, reach: i64) -> (i32, i32) {
+    let (days, years) = match rule {
+        HolidayRule::Fixed { .. } | HolidayRule::Nth { .. } => (reach, 0),
+        HolidayRule::Easter { .. } => (reach, YEARS_BESIDE),
+        HolidayRule::Span { .. } => (reach + DAYS_BESIDE, 0),
+    };
+    let year_of = |day| chosen.date_of_day(day).extended_year;
+    (
+        year_of(window.first() - days) - years,
+        year_of(window.last() + days) + years,
+    )
+}
+
+/// Returns the day of a rule in a year, before it moves, if there is one in the valid range.
+fn own_day(chosen: Chosen, rule: HolidayRule, year: i32) -> Option<RataDie> {
+    let day = match rule {
         HolidayRule::Fixed {
-            calendar,
             month,
             day,
             leaping,
-        } => Anniversaries::new(chosen(calendar, years), month, day, leaping, window).next(),
-        HolidayRule::Easter { julian, offset } => first_easter(julian, offset, window),
+            ..
+        } => date_in(chosen, year, month, day, leaping)
+            .ok()?
+            .day_number(),
+        HolidayRule::Easter { julian, offset } => {
+            (easter(julian, year) + i64::from(offset)).to_i64_date()
+        }
         HolidayRule::Nth {
-            calendar,
             month,
             nth,
             weekday,
+            ..
+        } => nth_day(chosen, &month_in(chosen, year, month)?, nth, weekday)?,
+        HolidayRule::Span {
+            month,
+            day,
+            week,
+            weekday,
+            ..
         } => {
-            let asked = NthWeekday {
-                month,
-                nth,
-                weekday,
-            };
-            asked.first_in(chosen(calendar, years), window)
+            let date = date_in(chosen, year, month, day, Leaping::Exact).ok()?;
+            day_in_week(date.day_number(), week, weekday)
         }
-    }
-}
-
-fn first_easter(julian: bool, offset: i32, window: Window) -> Option<RataDie> {
-    let calendar = if julian {
-        Julian.chosen()
-    } else {
-        Gregorian.chosen()
     };
-    let year_of = |day| calendar.date_of_day(day).extended_year;
-    let years = year_of(window.first()) - YEARS_BESIDE..=year_of(window.last()) + YEARS_BESIDE;
-    let mut days = years.map(|year| easter(julian, year) + i64::from(offset));
-    days.find(|day| *day >= window.first())
-        .filter(|day| window.contains(*day))
+    Some(RataDie::new(day)).filter(|_| (FIRST_DAY..=LAST_DAY).contains(&day))
 }
 
-/// A weekday of a month: the first to the fifth, or the last for -1.
-#[derive(Clone, Copy)]
-struct NthWeekday {
+/// Returns the date of a month and a day in a year.
+fn date_in(
+    chosen: Chosen,
+    year: i32,
     month: Month,
-    nth: i8,
-    weekday: Weekday,
+    day: u8,
+    leaping: Leaping,
+) -> Result<Parts, DateFromFieldsError> {
+    let fields = DateFields::from_year_month_day(year, month, day);
+    let options = DateFromFieldsOptions {
+        overflow: Some(match leaping {
+            Leaping::Exact => Overflow::Reject,
+            Leaping::Constrain => Overflow::Constrain,
+        }),
+        missing_fields_strategy: None,
+    };
+    chosen.date_of_fields(&fields, options)
 }
 
-impl NthWeekday {
-    fn first_in(self, chosen: Chosen, window: Window) -> Option<RataDie> {
-        let first = chosen.date_of_day(window.first());
-        let last_year = chosen.date_of_day(window.last()).extended_year;
-        // The month of the first day may begin before the valid range; the others are found by their first days.
-        let begun = if first.month() == self.month {
-            self.day_in(chosen, &first)
-        } else {
-            None
-        };
-        let years = first.extended_year..=last_year;
-        let later = years.filter_map(|year| self.day_in(chosen, &self.month_in(chosen, year)?));
-        let mut days = begun.into_iter().chain(later);
-        days.find(|day| *day >= window.first())
-            .filter(|day| window.contains(*day))
+/// Returns a date in a month of a year. It is the first day, unless that comes before the first valid day.
+fn month_in(chosen: Chosen, year: i32, month: Month) -> Option<Parts> {
+    match date_in(chosen, year, month, 1, Leaping::Exact) {
+        Ok(first) => Some(first),
+        Err(DateFromFieldsError::Overflow) => {
+            let first = chosen.date_of_day(RataDie::new(FIRST_DAY));
+            Some(first).filter(|it| it.extended_year == year && it.month() == month)
+        }
+        Err(_) => None,
     }
+}
 
-    /// Returns the first day of the month in a year.
-    fn month_in(self, chosen: Chosen, year: i32) -> Option<Parts> {
-        let fields = DateFields::from_year_month_day(year, self.month, 1);
-        chosen
-            .date_of_fields(&fields, DateFromFieldsOptions::default())
-            .ok()
+/// Returns the first to the fifth, or for -1 the last, of a weekday in the month of a date.
+fn nth_day(chosen: Chosen, date: &Parts, nth: i8, weekday: Weekday) -> Option<i64> {
+    let length = i64::from(chosen.days_in_month(date.extended_year, date.ordinal_month));
+    let before = date.day_number() - i64::from(date.day);
+    let last = before + length;
+    if nth < 0 {
+        return Some(day_in_week(last, SpanWeek::UpTo, weekday));
     }
+    let day = day_in_week(before + 1, SpanWeek::From, weekday) + 7 * (i64::from(nth) - 1);
+    Some(day).filter(|day| *day <= last)
+}
 
-    /// Returns the day in the month of a date.
-    fn day_in(self, chosen: Chosen, date: &Parts) -> Option<RataDie> {
-        let length = i64::from(chosen.days_in_month(date.extended_year, date.ordinal_month));
-        let before = date.day_number() - i64::from(date.day);
-        let weekday = i64::from(self.weekday.number() % 7);
-        let day = if self.nth < 0 {
-            let last = before + length;
-            last - (last - weekday).rem_euclid(7)
-        } else {
-            let first = before + 1;
-            first + (weekday - first).rem_euclid(7) + 7 * (i64::from(self.nth) - 1)
-        };
-        (day <= before + length).then_some(RataDie::new(day))
+/// Returns the weekday of a week beside a day.
+fn day_in_week(day: i64, week: SpanWeek, weekday: Weekday) -> i64 {
+    let weekday = weekday.days_since_sunday() as i64;
+    match week {
+        SpanWeek::From => day + (weekday - day).rem_euclid(7),
+        SpanWeek::UpTo => day - (day - weekday).rem_euclid(7),
     }
 }

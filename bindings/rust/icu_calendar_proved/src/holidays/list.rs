@@ -165,7 +165,7 @@ impl Holidays<'_> {
     }
 
     fn first_day(&self, rule: usize, window: Option<Window>) -> Option<RataDie> {
-        first_day(self.book.rule(rule), self.years, window?)
+        first_day(self.book.entry(rule), self.years, window?)
     }
 
     /// Returns what is left of a window behind a holiday.

@@ -20,8 +20,11 @@
 
 mod book;
 mod days;
+mod entry;
 mod list;
 mod records;
+mod rule;
 
-pub use book::{Book, BookError, HolidayRule};
+pub use book::{Book, BookError};
 pub use list::{holidays, Holiday, Holidays, Rest, Years};
+pub use rule::{HolidayRule, Moves, RuleYears, SpanWeek};

@@ -1,6 +1,7 @@
 //! Dates and durations as the program writes them.
 
 use crate::types::{DateDuration, Month, RataDie, TinyAsciiStr};
+use alloc::string::String;
 
 /// A date over rows.
 ///
@@ -62,6 +63,30 @@ pub struct Span {
     pub duration: DateDuration,
 }
 
+/// A holiday over rows.
+///
+/// # Examples
+///
+/// ```
+/// use icu_calendar::lists::Window;
+/// use icu_calendar::rows::Rows;
+/// use icu_calendar::types::RataDie;
+///
+/// # fn main() -> Result<(), Box<dyn std::error::Error>> {
+/// let year = Window::try_new(RataDie::new(738886), RataDie::new(739251)).unwrap();
+/// let listed = Rows::default().holidays(b"easter,Easter,gregorian,,0,", year)?;
+/// assert_eq!((listed[0].name.as_str(), listed[0].date.day), ("Easter", 31));
+/// # Ok(())
+/// # }
+/// ```
+#[derive(Clone, Debug, PartialEq, Eq, Hash)]
+pub struct RowHoliday {
+    /// The date in the ISO calendar.
+    pub date: RowDate,
+    /// The name of the rule.
+    pub name: String,
+}
+
 /// Reads a date: `EXTENDED/ERA.YEAR/CODE/DD@DAYNUMBER`.
 fn date(text: &str) -> Option<RowDate> {
     let (date, number) = text.split_once('@')?;
@@ -87,6 +112,15 @@ fn date(text: &str) -> Option<RowDate> {
 /// Reads the first date of a line.
 pub(super) fn first_date(line: &str) -> Option<RowDate> {
     date(line.split(' ').next()?)
+}
+
+/// Reads a line of holidays: a date and a name, which may have spaces.
+pub(super) fn holiday(line: &str) -> Option<RowHoliday> {
+    let (words, name) = line.split_once(' ')?;
+    Some(RowHoliday {
+        date: date(words)?,
+        name: name.into(),
+    })
 }
 
 /// Reads an answer: `ok`, four dates and a duration.

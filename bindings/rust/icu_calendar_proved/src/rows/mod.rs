@@ -25,7 +25,7 @@ mod errors;
 mod requests;
 mod rules;
 
-pub use answers::{RowDate, Span};
+pub use answers::{RowDate, RowHoliday, Span};
 pub use errors::{LineFault, RowsError, Side, SpanError, TableName, TablePart};
 pub use requests::Request;
 pub use rules::{RowOccurrence, RuleError, RuleFault};
@@ -33,6 +33,7 @@ pub use rules::{RowOccurrence, RuleError, RuleFault};
 use crate::any_calendar::AnyCalendarKind;
 use crate::cal::Iso;
 use crate::date::Date;
+use crate::holidays::{Book, BookError};
 use crate::lists::{AnniversaryError, Leaping, Window};
 use crate::options::{DateDifferenceOptions, DateFromFieldsOptions};
 use crate::program::{calspan, Status};
@@ -107,7 +108,11 @@ impl Rows {
 
     /// Runs a command over the rows and what stands behind them.
     fn run(&self, words: &str, behind: &str) -> (Status, String) {
-        let input = [self.lines.as_slice(), behind.as_bytes()].concat();
+        self.run_over(words, behind.as_bytes())
+    }
+
+    fn run_over(&self, words: &str, behind: &[u8]) -> (Status, String) {
+        let input = [self.lines.as_slice(), behind].concat();
         let run = calspan(words, &input);
         assert!(run.status != Status::NoMemory, "no memory for rows");
         (
@@ -241,6 +246,42 @@ impl Rows {
             (_, "err InvalidDay\n") => Err(AnniversaryError::InvalidDay),
             _ => Err(AnniversaryError::MonthNotInCalendar),
         }
+    }
+
+    /// Lists the holidays of a book in a window, counted in calendars over the rows, by day, and on one day in the order of
+    /// the book. Only these rows replace computed years.
+    ///
+    /// # Errors
+    ///
+    /// - [`BookError`] for the first invalid record.
+    ///
+    /// # Panics
+    ///
+    /// Panics if there is no memory, or if the rows and the book have more than 16777216 bytes.
+    ///
+    /// # Examples
+    ///
+    /// ```
+    /// use icu_calendar::lists::Window;
+    /// use icu_calendar::rows::Rows;
+    /// use icu_calendar::types::RataDie;
+    ///
+    /// # fn main() -> Result<(), Box<dyn std::error::Error>> {
+    /// let rows = Rows::try_read(b"row china 1912 698026 lslslslslsls 0\n")?;
+    /// let window = Window::try_new(RataDie::new(698000), RataDie::new(698300)).unwrap();
+    /// let listed = rows.holidays(b"fixed,Spring Festival,chinese,M01,1,exact", window)?;
+    /// assert_eq!(listed[0].date.day_number, RataDie::new(698026));
+    /// # Ok(())
+    /// # }
+    /// ```
+    pub fn holidays(&self, book: &[u8], window: Window) -> Result<Vec<RowHoliday>, BookError> {
+        Book::try_read(book)?;
+        let (first, last) = (window.first().to_i64_date(), window.last().to_i64_date());
+        // Behind rows a byte order mark would be a part of the first record.
+        let records = book.strip_prefix(b"\xef\xbb\xbf").unwrap_or(book);
+        let (status, output) = self.run_over(&format!("holidays {first} {last}"), records);
+        assert!(status == Status::Done, "the rows and the book are too long");
+        Ok(output.lines().filter_map(answers::holiday).collect())
     }
 
     /// Lists the occurrences of a recurrence rule of iCalendar (RFC 5545, with RSCALE and SKIP of RFC 7529) in a window,

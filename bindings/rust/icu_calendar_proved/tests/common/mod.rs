@@ -6,13 +6,36 @@ use icu_calendar::error::DateFromFieldsError;
 use icu_calendar::options::{
     DateDifferenceOptions, DateFromFieldsOptions, MissingFieldsStrategy, Overflow,
 };
-use icu_calendar::types::{DateDurationUnit, DateFields, Month, YearInfo};
+use icu_calendar::types::{DateDurationUnit, DateFields, Month, RataDie, YearInfo};
 use icu_calendar::{AnyCalendar, AnyCalendarKind, AsCalendar, Date};
 use std::path::{Path, PathBuf};
 
 /// The folder of a checkout that this crate stands in.
 pub fn top() -> PathBuf {
     Path::new(env!("CARGO_MANIFEST_DIR")).join("../../..")
+}
+
+/// Numbers that look random, from a fixed start.
+pub struct Numbers(pub u64);
+
+impl Numbers {
+    /// Returns the next number below a bound.
+    pub fn below(&mut self, bound: u64) -> u64 {
+        self.0 = self
+            .0
+            .wrapping_mul(6_364_136_223_846_793_005)
+            .wrapping_add(1_442_695_040_888_963_407);
+        (self.0 >> 33) % bound
+    }
+
+    /// Returns a day: nearly always in recent centuries, and now and then anywhere.
+    pub fn day(&mut self) -> RataDie {
+        if self.below(8) == 0 {
+            RataDie::new(self.below(730_484_634) as i64 - 365_242_499)
+        } else {
+            RataDie::new(self.below(300_000) as i64 + 600_000)
+        }
+    }
 }
 
 /// The twenty calendars of the program.

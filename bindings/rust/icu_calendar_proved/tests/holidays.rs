@@ -1,0 +1,297 @@
+//! Books of holidays: those of `books/` beside the days that other programs have, records with all fields beside the program `calspan`, and records
+//! that are refused.
+
+mod common;
+
+use icu_calendar::holidays::{holidays, Book, BookError, Years};
+use icu_calendar::lists::Window;
+use icu_calendar::program::{calspan, Status};
+use icu_calendar::rows::Rows;
+use icu_calendar::types::RataDie;
+use icu_calendar::{Date, Iso};
+use std::fs;
+use std::path::PathBuf;
+
+/// The first and the last valid day.
+const ENDS: (i64, i64) = (-365_242_499, 365_242_134);
+
+/// The books of `books/`, without the ending of their names.
+fn books() -> Vec<PathBuf> {
+    let mut books = Vec::new();
+    for folder in ["books", "books/countries"] {
+        let files = fs::read_dir(common::top().join(folder)).unwrap();
+        let files = files.map(|file| file.unwrap().path());
+        let names = files.filter(|it| it.extension().is_some_and(|it| it == "csv"));
+        books.extend(names.map(|it| it.with_extension("")));
+    }
+    books.sort();
+    books
+}
+
+/// Returns the window of the years in a head such as `# Days of 1992 to 2029, made by`.
+fn years_of(head: &str) -> Window {
+    let words: Vec<&str> = head.split([' ', ',']).collect();
+    let ["#", "Days", "of", first, "to", last, ..] = words[..] else {
+        panic!("{head}")
+    };
+    let first = Date::try_new_iso(first.parse().unwrap(), 1, 1).unwrap();
+    let last = Date::try_new_iso(last.parse().unwrap(), 12, 31).unwrap();
+    Window::try_new(first.to_rata_die(), last.to_rata_die()).unwrap()
+}
+
+#[test]
+fn books_have_the_days_of_other_programs() {
+    let mut compared = 0;
+    let books = books();
+    assert!(books.len() > 60, "{}", books.len());
+    for path in books {
+        let read = fs::read(path.with_extension("csv")).unwrap();
+        let book = Book::try_read(&read).unwrap();
+        let top = common::top().join("books");
+        let name = path.strip_prefix(&top).unwrap();
+        let wanted = top.join("expected").join(name).with_extension("txt");
+        let wanted = fs::read_to_string(wanted).unwrap();
+        let window = years_of(wanted.lines().next().unwrap());
+        let listed = holidays(&book, Years::Published, window, 0);
+        let mut got: Vec<String> = listed
+            .map(|it| {
+                let date = Date::from_rata_die(it.day, Iso);
+                let (year, month) = (date.extended_year(), date.month().ordinal);
+                let day = date.day_of_month().0;
+                format!("{year:04}-{month:02}-{day:02} {}", book.name(it.rule))
+            })
+            .collect();
+        let mut wanted: Vec<&str> = wanted.lines().filter(|it| !it.starts_with('#')).collect();
+        got.sort();
+        wanted.sort();
+        assert_eq!(got, wanted, "{}", name.display());
+        compared += got.len();
+    }
+    assert!(compared > 18_000, "{compared}");
+}
+
+/// Lists a book as the program does, or says which record it refuses.
+fn listed(book: &[u8], (first, last): (i64, i64)) -> String {
+    let window = Window::try_new(RataDie::new(first), RataDie::new(last)).unwrap();
+    match Book::try_read(book) {
+        Ok(book) => holidays(&book, Years::Computed, window, 0)
+            .map(|it| {
+                let date = common::shown(&Date::from_rata_die(it.day, Iso));
+                format!("{date} {}\n", book.name(it.rule))
+            })
+            .collect(),
+        Err(BookError { number, field }) => format!("err record {number} field {field}\n"),
+    }
+}
+
+/// Lists a book by the program.
+fn listed_by_program(book: &[u8], (first, last): (i64, i64)) -> String {
+    let run = calspan(&format!("holidays {first} {last}"), book);
+    assert!(
+        matches!(run.status, Status::Done | Status::Refused),
+        "{:?}",
+        run.status
+    );
+    String::from_utf8(run.output).unwrap()
+}
+
+const WEEKDAYS: [&str; 7] = [
+    "sunday",
+    "monday",
+    "tuesday",
+    "wednesday",
+    "thursday",
+    "friday",
+    "saturday",
+];
+
+/// Makes the words of a field of moves.
+fn moved(numbers: &mut common::Numbers) -> String {
+    let start = numbers.below(7) as usize;
+    let count = [0, 0, 1, 2, 3, 7][numbers.below(6) as usize];
+    let words: Vec<String> = (0..count)
+        .map(|turn| {
+            let day = WEEKDAYS[(start + turn) % 7];
+            format!("{day}{:+}", numbers.below(13) as i64 - 6)
+        })
+        .collect();
+    words.join(" ")
+}
+
+/// Makes a year near that of a day, or nothing.
+fn year_near(numbers: &mut common::Numbers, year: i32, spread: u64) -> String {
+    if numbers.below(2) == 0 {
+        return String::new();
+    }
+    let year = year + numbers.below(2 * spread) as i32 - spread as i32;
+    year.clamp(-999_999, 999_999).to_string()
+}
+
+/// Makes a record whose days may be near a day.
+fn record(numbers: &mut common::Numbers, number: usize, near: i64) -> String {
+    let kind = ["fixed", "easter", "weekday", "span", "span"][numbers.below(5) as usize];
+    let calendar = match kind {
+        "easter" => ["gregorian", "julian"][numbers.below(2) as usize],
+        _ => common::NAMES[numbers.below(20) as usize],
+    };
+    let date = Date::from_rata_die(RataDie::new(near), common::computed(calendar).unwrap());
+    let weekday = WEEKDAYS[numbers.below(7) as usize];
+    let days = [date.day_of_month().0, 1, 29, 30, 31];
+    let day = days[numbers.below(5) as usize];
+    let month = date.month().standard_code;
+    let rest = match kind {
+        "fixed" => format!(
+            "{month},{day},{}",
+            ["exact", "constrain"][numbers.below(2) as usize]
+        ),
+        "easter" => format!(",{},", numbers.below(801) as i64 - 400),
+        "weekday" => {
+            let nth = ["1", "2", "3", "4", "5", "-1"][numbers.below(6) as usize];
+            format!("{month},{nth},{weekday}")
+        }
+        _ => format!(
+            "{month},{day},{}{weekday}",
+            ["", "-"][numbers.below(2) as usize]
+        ),
+    };
+    let since = year_near(numbers, date.extended_year(), 20);
+    let until = year_near(numbers, date.extended_year(), 20);
+    let every = match (since.as_str(), numbers.below(2)) {
+        ("", _) | (_, 0) => String::new(),
+        _ => [1, 2, 3, 4, 7, 19, 400][numbers.below(7) as usize].to_string(),
+    };
+    let moved = moved(numbers);
+    format!("{kind},rule {number},{calendar},{rest},{since},{until},{every},{moved}\n")
+}
+
+/// Changes a byte of a text into one of those that records have, or takes it away.
+fn changed(numbers: &mut common::Numbers, text: &str) -> Vec<u8> {
+    let mut bytes = text.as_bytes().to_vec();
+    let at = numbers.below(bytes.len() as u64) as usize;
+    let by = b" ,+-0123456789LMaadnsuy\"\n"[numbers.below(25) as usize];
+    match numbers.below(3) {
+        0 => bytes[at] = by,
+        1 => bytes.insert(at, by),
+        _ => drop(bytes.remove(at)),
+    }
+    bytes
+}
+
+#[test]
+fn books_are_listed_as_by_the_program() {
+    let mut numbers = common::Numbers(66);
+    let mut lines = 0;
+    for turn in 0..300 {
+        let length = [0, 30, 400, 1500, 4000][numbers.below(5) as usize];
+        let first = match turn % 10 {
+            0 => ENDS.0 + numbers.below(400) as i64,
+            1 => ENDS.1 - length,
+            _ => numbers.below(300_000) as i64 + 600_000,
+        };
+        let near = (first + numbers.below(length as u64 + 1) as i64).min(ENDS.1);
+        let records: Vec<String> = (0..8)
+            .map(|number| record(&mut numbers, number, near))
+            .collect();
+        let (book, window) = (records.concat(), (first, (first + length).min(ENDS.1)));
+        let wanted = listed_by_program(book.as_bytes(), window);
+        assert_eq!(
+            listed(book.as_bytes(), window),
+            wanted,
+            "{window:?}\n{book}"
+        );
+        lines += wanted.lines().count();
+        for _ in 0..5 {
+            let book = changed(&mut numbers, &book);
+            let text = String::from_utf8_lossy(&book);
+            let wanted = listed_by_program(&book, (first, first));
+            assert_eq!(listed(&book, (first, first)), wanted, "{first}\n{text}");
+        }
+    }
+    assert!(lines > 1000, "{lines}");
+}
+
+#[test]
+fn books_over_published_rows_have_published_years() {
+    let rows = ["china", "hijri", "korea", "persian"].map(|name| {
+        let path = common::top().join(format!("rows/{name}.rows"));
+        fs::read(path).unwrap()
+    });
+    let rows = Rows::try_read(&rows.concat()).unwrap();
+    let window = Window::try_new(RataDie::new(700_000), RataDie::new(760_000)).unwrap();
+    for name in ["chinese", "korean", "umm-al-qura", "countries/china"] {
+        let text = fs::read(common::top().join(format!("books/{name}.csv"))).unwrap();
+        let text = [b"\xef\xbb\xbf", text.as_slice()].concat();
+        let book = Book::try_read(&text).unwrap();
+        let over = |years| {
+            let days = holidays(&book, years, window, 0);
+            days.map(|it| (it.day, book.name(it.rule).to_owned()))
+                .collect::<Vec<_>>()
+        };
+        let listed = rows.holidays(&text, window).unwrap();
+        let listed: Vec<_> = listed
+            .into_iter()
+            .map(|it| (it.date.day_number, it.name))
+            .collect();
+        assert_eq!(listed, over(Years::Published), "{name}");
+        assert_ne!(listed, over(Years::Computed), "{name}");
+    }
+    let none = Rows::default().holidays(b"row\n", window);
+    let error = BookError {
+        number: 1,
+        field: 0,
+    };
+    assert_eq!(none, Err(error));
+}
+
+#[test]
+fn the_first_invalid_field_is_named() {
+    let easter = "easter,Easter,gregorian,,0";
+    for (fields, field) in [
+        (",,,,,,", 0),
+        (",exact,x", 6),
+        (",,1000000", 7),
+        (",,+1", 7),
+        (",,-,x", 7),
+        (",,1,-0000001", 8),
+        (",,,,2,x", 9),
+        (",,1,,401", 9),
+        (",,1,,0", 9),
+        (",,1,,0001", 9),
+        (",,,,,saturday", 10),
+        (",,,,,saturday-7", 10),
+        (",,,,,saturday1", 10),
+        (",,,,,saturday-1  sunday+1", 10),
+        (",,,,,sunday+1 sunday+1", 10),
+        (",,,,,sunday+1 ", 10),
+    ] {
+        let book = format!("{easter},\n\n{easter}{fields}");
+        let error = Book::try_read(book.as_bytes()).unwrap_err();
+        assert_eq!(error, BookError { number: 2, field }, "{fields}");
+    }
+    for (record, field) in [
+        ("spans,X,iso,M11,27,sunday", 1),
+        ("span,,klingon,M11,27,sunday", 2),
+        ("span,X,klingon,M11,27,sunday", 3),
+        ("span,X,iso,M13,27,sunday", 4),
+        ("span,X,iso,M11,0,sunday", 5),
+        ("span,X,iso,M11,27,--sunday", 6),
+        ("span,X,iso,M11,27,+sunday", 6),
+    ] {
+        let error = Book::try_read(record.as_bytes()).unwrap_err();
+        assert_eq!(error, BookError { number: 1, field }, "{record}");
+    }
+}
+
+#[test]
+fn the_ends_of_each_range_are_read() {
+    for record in [
+        "easter,X,gregorian,,0,,",
+        "easter,X,gregorian,,0,,,,,",
+        "easter,X,gregorian,,0,,-999999,999999,400,",
+        "easter,X,gregorian,,0,,000001,-0,001,sunday+0",
+        "span,X,iso,M02,31,-saturday,,,,monday-6 tuesday+6",
+        "span,X,hebrew,M05L,01,monday,5000",
+    ] {
+        assert_eq!(Book::try_read(record.as_bytes()).unwrap().len(), 1);
+    }
+}
