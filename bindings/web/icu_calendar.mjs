@@ -284,12 +284,13 @@ const SLOTS = 128;
 const MOST_CHARACTERS = SLOT / 3;
 // The words of a list, and the lines that come back.
 const LONGEST_WORDS = AT.list - AT.words;
-const LIST_ROOM = 1 << 16;
+// The module writes no longer list.
+const LIST_ROOM = 8192;
 const EXTENT = AT.list + LIST_ROOM;
 const NO_ROOM = 8;
 // The first window that a list is asked for, in days. Windows double as long as they have fewer lines than these.
-const FIRST_DAYS = 512;
-const MANY_LINES = 256;
+const FIRST_DAYS = 64;
+const MANY_LINES = 32;
 const DECODER = new TextDecoder();
 const ENCODER = new TextEncoder();
 // Why a year may lack a day that other years have.

@@ -17,6 +17,7 @@ mod KindLimits
 mod KindNear
 mod KnownLemmas
 mod ListLemmas
+pub mod ListOverLemmas
 mod ListRunLemmas
 mod ListTextLemmas
 mod ListYieldLemmas
