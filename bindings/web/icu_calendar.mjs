@@ -76,6 +76,7 @@ const CAUSES = new Map([
   [101, ["InvalidWindow", "The window's days aren't valid days in order."]],
   [102, ["Every", "The number of units isn't from 1 to 4294967295."]],
   [103, ["InvalidRule", "The text is no recurrence rule of the calendar."]],
+  [104, ["InvalidRecord", "A record of the book is invalid."]],
 ]);
 
 /** What is wrong with a recurrence rule, by the program's names. @type {Readonly<Record<string, string>>} */

@@ -4,7 +4,7 @@ use Rattle.calspan_run.specs.CommandSaid.{command_said}
 use Rattle.calspan_run.specs.ListOver.{ListsOver}
 use Rattle.calspan_run.specs.declared.command.Command.{Command}
 use Rattle.calspan_run.specs.declared.status.Status.TheVariants.{Words}
-use Rattle.calspan_run.proofs.list_text.write_list.Goals as goal
+use Rattle.calspan_run.proofs.listed.write_list.Goals as goal
 
 pub returns-in-Anniversary : goal.returns-in-Anniversary
 returns-in-Anniversary g c =

@@ -4,7 +4,7 @@ use Rattle.cal_tables.specs.Kinds.{table_contents}
 use Rattle.calspan_run.specs.Command.{Asked}
 use Rattle.calspan_run.specs.CommandSaid.{command_said}
 use Rattle.calspan_run.specs.ListOver.{ListsOver}
-use Rattle.calspan_run.proofs.list_text.list_text.Goals as goal
+use Rattle.calspan_run.proofs.listed.list_text.Goals as goal
 
 pub returns-in-Some : goal.returns-in-Some
 returns-in-Some g c =
