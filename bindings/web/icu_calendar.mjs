@@ -611,12 +611,12 @@ export class Calendars {
 }
 
 /**
- * The calls of a module, from its bytes or from what is fetched of it. A browser without 64-bit memories refuses it.
- * @param {BufferSource | Response | Promise<Response>} source
+ * The calls of a module, from its bytes, from what is fetched of it, or compiled. A browser without 64-bit memories refuses it.
+ * @param {BufferSource | Response | WebAssembly.Module | Promise<Response | WebAssembly.Module>} source
  */
 export async function load(source) {
   const given = await source;
-  const bytes = given instanceof Response ? await given.arrayBuffer() : given;
-  const { instance } = await WebAssembly.instantiate(bytes, {});
-  return new Calendars(instance);
+  const module = given instanceof Response ? await given.arrayBuffer() : given;
+  const made = await WebAssembly.instantiate(module, {});
+  return new Calendars(made instanceof WebAssembly.Instance ? made : made.instance);
 }
