@@ -125,13 +125,12 @@ const NOTHING_LATER = "globalThis.setTimeout = globalThis.requestIdleCallback = 
 const FIRST_DATE = `performance.getEntriesByName("first date")[0]?.startTime ?? 0`;
 const LOADS = 7;
 
-// In milliseconds: of the processor at the median, and by the clock at least.
+// In milliseconds of the processor, at the median. An empty page takes 14 of them.
 const MOST_USED = 100;
-const MOST_WAITED = 150;
 
 /**
  * How long the page takes from its address to its first date, in several loads. The processor's time is that of the page's thread, with the first
- * picture. What else runs on the machine makes the clock's time longer.
+ * picture. What else runs on the machine makes the clock's time many times as long, so that is only told.
  */
 async function testFirstDate(url) {
   const session = await browser.open("about:blank");
@@ -156,7 +155,6 @@ async function testFirstDate(url) {
   await browser.call("Target.closeTarget", { targetId: (await browser.call("Target.getTargetInfo", {}, session)).targetInfo.targetId });
   const [half, least] = [used.sort((a, b) => a - b)[LOADS >> 1], Math.min(...clock)];
   assert.ok(half <= MOST_USED, `the first date takes ${used.map(Math.round)} ms of the processor`);
-  assert.ok(least <= MOST_WAITED, `the first date takes ${clock.map(Math.round)} ms`);
   return `${half.toFixed(0)} ms of the processor at the median, and ${least.toFixed(0)} ms by the clock at least`;
 }
 

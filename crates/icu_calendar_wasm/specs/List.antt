@@ -1,5 +1,5 @@
 -- What the call on a list answers.
-use Rattle.std.specs.Prelude.{◌≡◌, ℕ, ◌≤◌, Bool, List, ◌⊎◌, Option, length}
+use Rattle.std.specs.Prelude.{◌≡◌, ℕ, ◌≤◌, Bool, true, false, List, ◌⊎◌, Option, length}
 use Rattle.cal_tables.specs.Kinds.{TableContents}
 use Rattle.calspan_run.specs.Command.{Asked}
 use Rattle.calspan_run.specs.Endings.{IsEnd}
@@ -10,18 +10,23 @@ use Rattle.date_calls.specs.Rooms.{IsPut}
 
 -- the code is that of the status where the text is in the room, and otherwise 8
 abbrev pub placed_code : Bool → Status → ℕ
-placed_code fits status = if fits then code_of status else 8
+placed_code true status = code_of status
+placed_code false status = 8
 
--- the whole list, or the line that refuses it, stands first in the room where it fits, and its length is written
+-- a text stands first in the room with the code of a status where it fits, and its length is written
+pub record IsHanded (status : Status) (text : List ℕ) (code : ℕ) (before now : List ℕ) (written : ℕ) : Type 0 where
+  pub fits : Bool
+  pub put : IsPut fits text before now
+  pub has_code : code ≡ placed_code fits status
+  pub count : written ≡ length text
+
+-- the whole list, or the line that refuses it, is handed over
 pub record IsListPut (Ends : List ℕ → Status → Type 0) (code : ℕ) (before now : List ℕ) (written : ℕ) : Type 0 where
   pub text : List ℕ
   pub status : Status
   pub ends : Ends text status
   pub is_end : IsEnd status
-  pub fits : Bool
-  pub put : IsPut fits text before now
-  pub has_code : code ≡ placed_code fits status
-  pub count : written ≡ length text
+  pub handed : IsHanded status text code before now written
 
 -- the list, or what begins it, has 8192 bytes or more, and nothing is written
 pub record IsTooLong (Ends : List ℕ → Status → Type 0) (code : ℕ) (before now : List ℕ) (written : ℕ) : Type 0 where

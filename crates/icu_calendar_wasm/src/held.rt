@@ -1,6 +1,6 @@
 //! A sink that holds a text of limited length.
 
-ghost use Rattle.std.specs.Prelude.{◌≡◌, ◌<◌, ◌→◌, Some, [], length};
+ghost use Rattle.std.specs.Prelude.{◌≡◌, ◌<◌, Some, [], length};
 
 use byte_io::{Failed, Sink};
 use reply_texts::{Pending, push_all};
