@@ -34,6 +34,12 @@ function shown(calendars, words, date) {
   return local === null ? made("bdi", { lang: "en" }, inEnglish(calendars, date)) : made("bdi", { lang: words.language }, local);
 }
 
+/** Marks a field as invalid, or as valid. */
+function mark(id, isValid) {
+  if (isValid) element(id).removeAttribute("aria-invalid");
+  else element(id).setAttribute("aria-invalid", "true");
+}
+
 /** Says something to people who don't see the page change. */
 function say(text) {
   element("said").textContent = text;
@@ -216,7 +222,7 @@ class Shown {
     const year = /^\d{1,4}$/.test(text) ? Number(text) : Number.NaN;
     const isValid = year >= 1;
     element("holiday-error").textContent = isValid ? "" : "Year: This isn't a year from 1 to 9999.";
-    element("holiday-year").toggleAttribute("aria-invalid", !isValid);
+    mark("holiday-year", isValid);
     if (!isValid || !place) {
       element("holidays").replaceChildren();
       element("holidays-save").disabled = true;
@@ -253,9 +259,12 @@ class Shown {
   recurrences(date) {
     const [every, count] = ["recurrence-every", "recurrence-count"].map((id) => Number(element(id).value));
     const isCount = Number.isInteger(count) && count >= 1 && count <= MOST_RECURRENCES;
-    const isValid = isCount && Number.isInteger(every) && every >= 1 && every <= 9999;
+    const isEvery = Number.isInteger(every) && every >= 1 && every <= 9999;
+    const isValid = isCount && isEvery;
+    mark("recurrence-count", isCount);
+    mark("recurrence-every", isEvery);
     element("recurrence-error").textContent = isValid ? "" : `Numbers are whole: from 1 to 9999 units, and from 1 to ${MOST_RECURRENCES} times.`;
-    element("rule-text").removeAttribute("aria-invalid");
+    mark("rule-text", true);
     const rule = element("rule-text").value.trim().replace(/^RRULE:/i, "");
     if (rule) this.#byRule(date, rule, isCount ? count : 0);
     else this.#byForm(date, every, isValid ? count : 0);
@@ -276,7 +285,7 @@ class Shown {
       found = taken(this.calendars.rrule(date, { rule, last: Math.min(LAST_DAY, date.dayNumber + RULE_DAYS) }), count);
     } catch (error) {
       if (!(error instanceof RuleError)) throw error;
-      element("rule-text").setAttribute("aria-invalid", "true");
+      mark("rule-text", false);
       element("recurrence-error").textContent = error.message;
     }
     const name = `rule/${date.calendar}/${plainDate(date)}/${rule.toUpperCase().replace(/[^A-Z0-9]+/g, "-")}`;
