@@ -58,8 +58,8 @@ module _ (status : Status) (empty kept text before now : List ℕ) (old new code
         ends = ends;
         long = prefix_long prefix rest all begins long;
         has_code = nothing.0;
-        same = nothing.1.0;
-        none = nothing.1.1;
+        same = nothing.1;
+        none = nothing.2;
       })
 
   -- what is answered where a list is asked for, and where none is
