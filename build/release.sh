@@ -128,7 +128,8 @@ put_web() {
     return
   fi
   python3 "$top/bindings/web/one_file.py" "$module" >"$room/calendars.html"
-  for it in "$module" "$top"/bindings/web/*.mjs "$room/calendars.html"; do
+  python3 "$top/bindings/web/books.py" >"$room/books.json"
+  for it in "$module" "$top"/bindings/web/*.mjs "$room/calendars.html" "$room/books.json"; do
     put 644 "$it" "share/calspan/web/$(basename "$it")"
   done
 }

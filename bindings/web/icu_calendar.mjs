@@ -76,6 +76,7 @@ const CAUSES = new Map([
   [101, ["InvalidWindow", "The window's days aren't valid days in order."]],
   [102, ["Every", "The number of units isn't from 1 to 4294967295."]],
   [103, ["InvalidRule", "The text is no recurrence rule of the calendar."]],
+  [104, ["InvalidRecord", "A record of the book is invalid."]],
 ]);
 
 /** What is wrong with a recurrence rule, by the program's names. @type {Readonly<Record<string, string>>} */
@@ -284,12 +285,13 @@ const SLOTS = 128;
 const MOST_CHARACTERS = SLOT / 3;
 // The words of a list, and the lines that come back.
 const LONGEST_WORDS = AT.list - AT.words;
-const LIST_ROOM = 1 << 16;
+// The module writes no longer list.
+const LIST_ROOM = 8192;
 const EXTENT = AT.list + LIST_ROOM;
 const NO_ROOM = 8;
 // The first window that a list is asked for, in days. Windows double as long as they have fewer lines than these.
-const FIRST_DAYS = 512;
-const MANY_LINES = 256;
+const FIRST_DAYS = 64;
+const MANY_LINES = 32;
 const DECODER = new TextDecoder();
 const ENCODER = new TextEncoder();
 // Why a year may lack a day that other years have.
@@ -609,12 +611,12 @@ export class Calendars {
 }
 
 /**
- * The calls of a module, from its bytes or from what is fetched of it. A browser without 64-bit memories refuses it.
- * @param {BufferSource | Response | Promise<Response>} source
+ * The calls of a module, from its bytes, from what is fetched of it, or compiled. A browser without 64-bit memories refuses it.
+ * @param {BufferSource | Response | WebAssembly.Module | Promise<Response | WebAssembly.Module>} source
  */
 export async function load(source) {
   const given = await source;
-  const bytes = given instanceof Response ? await given.arrayBuffer() : given;
-  const { instance } = await WebAssembly.instantiate(bytes, {});
-  return new Calendars(instance);
+  const module = given instanceof Response ? await given.arrayBuffer() : given;
+  const made = await WebAssembly.instantiate(module, {});
+  return new Calendars(made instanceof WebAssembly.Instance ? made : made.instance);
 }

@@ -37,17 +37,21 @@ function stamp(moment) {
 
 /**
  * Returns an iCalendar file with an event for each date that lies in the years 1 to 9999. An event lasts its day and takes up no time. Its UID is
- * made from the list's name and the day, so that a file saved again changes events and doesn't double them.
+ * made from the list's name and the day, and counts the events of a day, so that a file saved again changes events and doesn't double them.
  * @param {string} name of the list: letters, digits, `-` and `/` @param {readonly { date: CalendarDate, summary: string }[]} events @param {Date} moment
  */
 export function iCalendar(name, events, moment = new Date()) {
+  /** How many events a day has so far. @type {Map<string, number>} */
+  const counts = new Map();
   const lines = ["BEGIN:VCALENDAR", "VERSION:2.0", "PRODID:-//calspan//A date in twenty calendars//EN", "CALSCALE:GREGORIAN"];
   for (const { date, summary } of events) {
     const iso = date.toCalendar("iso");
     if (iso.extendedYear < 1 || iso.extendedYear > 9999) continue;
     const day = plainDate(iso).replaceAll("-", "");
+    const count = counts.get(day) ?? 0;
+    counts.set(day, count + 1);
     lines.push(
-      "BEGIN:VEVENT", `UID:${name}/${day}@calspan.invalid`, `DTSTAMP:${stamp(moment)}`, `DTSTART;VALUE=DATE:${day}`, "TRANSP:TRANSPARENT",
+      "BEGIN:VEVENT", `UID:${name}/${day}${count ? `-${count + 1}` : ""}@calspan.invalid`, `DTSTAMP:${stamp(moment)}`, `DTSTART;VALUE=DATE:${day}`, "TRANSP:TRANSPARENT",
       `SUMMARY:${escaped(summary)}`, "END:VEVENT",
     );
   }

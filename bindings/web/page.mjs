@@ -1,5 +1,6 @@
-// The page: a date in any calendar, shown in all; differences; anniversaries and recurrences; all of it kept in the address.
+// The page: a date in any calendar, shown in all; differences; anniversaries, recurrences and holidays; all of it kept in the address.
 import { addressOf, fieldsOfAddress, fieldsOfText } from "./address.mjs";
+import { bookOf, holidays, placeName, readBook } from "./holidays.mjs";
 import { CALENDARS, CalendarError, LAST_DAY, RuleError } from "./icu_calendar.mjs";
 import { iCalendar, plainDate } from "./lists.mjs";
 import { CALENDAR_NAMES, isComputed, monthName } from "./names.mjs";
@@ -31,6 +32,12 @@ function made(tag, attributes = {}, ...children) {
 function shown(calendars, words, date) {
   const local = words.date(date);
   return local === null ? made("bdi", { lang: "en" }, inEnglish(calendars, date)) : made("bdi", { lang: words.language }, local);
+}
+
+/** Marks a field as invalid, or as valid. */
+function mark(id, isValid) {
+  if (isValid) element(id).removeAttribute("aria-invalid");
+  else element(id).setAttribute("aria-invalid", "true");
 }
 
 /** Says something to people who don't see the page change. */
@@ -170,7 +177,9 @@ class Shown {
     this.calendars = calendars;
     this.words = words;
     /** The lists, as files are made of them. */
-    this.files = { anniversaries: null, recurrences: null };
+    this.files = { anniversaries: null, recurrences: null, holidays: null };
+    /** The texts of the countries' books, by their names. @type {Record<string, string>} */
+    this.books = {};
   }
 
   everywhere(date) {
@@ -189,15 +198,48 @@ class Shown {
     element("differences").replaceChildren(...rows);
   }
 
-  /** Lists dates, and keeps them for the file. */
-  #list(id, name, about, dates) {
-    const items = dates.map((it) => {
-      const iso = it.toCalendar("iso");
-      return made("li", {}, shown(this.calendars, this.words, it), `: ${this.words.weekday(it)}, `, made("code", {}, plainDate(iso)));
+  /** Lists dates with what they are called, and keeps them for the file. */
+  #listEvents(id, name, events, none) {
+    const items = events.map(({ date, title, summary }) => {
+      return made("li", {}, title ?? made("bdi", { lang: "en" }, summary), `: ${this.words.weekday(date)}, `, made("code", {}, plainDate(date.toCalendar("iso"))));
     });
-    element(id).replaceChildren(...(items.length ? items : [made("li", {}, "None in the years that the calendar has.")]));
+    element(id).replaceChildren(...(items.length ? items : [made("li", {}, none)]));
     element(`${id}-save`).disabled = !items.length;
-    this.files[id] = { name, events: dates.map((date) => ({ date, summary: `${about}: ${inEnglish(this.calendars, date)}` })) };
+    this.files[id] = { name, events };
+  }
+
+  /** Lists dates, each by itself. */
+  #list(id, name, about, dates) {
+    const events = dates.map((date) => ({
+      date, title: shown(this.calendars, this.words, date), summary: `${about}: ${inEnglish(this.calendars, date)}`,
+    }));
+    this.#listEvents(id, name, events, "None in the years that the calendar has.");
+  }
+
+  /** The public holidays of the chosen place in the chosen year. */
+  holidays() {
+    const [place, text] = [element("holiday-place").value, element("holiday-year").value.trim()];
+    const year = /^\d{1,4}$/.test(text) ? Number(text) : Number.NaN;
+    const isValid = year >= 1;
+    element("holiday-error").textContent = isValid ? "" : "Year: This isn't a year from 1 to 9999.";
+    mark("holiday-year", isValid);
+    if (!isValid || !place) {
+      element("holidays").replaceChildren();
+      element("holidays-save").disabled = true;
+      return;
+    }
+    const [first, last] = [[1, 1], [12, 31]].map(([month, day]) => this.calendars.dateOfFields({ calendar: "iso", year, month, day }).dayNumber);
+    const found = holidays(this.calendars, readBook(bookOf(this.books, place)), { first, last });
+    this.#listEvents("holidays", `holidays/${place}`, found.map(({ date, name }) => ({ date, summary: name })), "The book has no holiday of this year.");
+  }
+
+  /** Takes the countries' books, and lists their names. */
+  takeBooks(books) {
+    this.books = books;
+    const keys = Object.keys(books);
+    const named = keys.map((key) => [placeName(key, keys), key]).sort(([a], [b]) => a.localeCompare(b, "en"));
+    element("holiday-place").append(...named.map(([name, key]) => made("option", { value: key }, name)));
+    element("about-holidays").hidden = false;
   }
 
   /** The anniversaries of the date in the calendar that is chosen for them. */
@@ -217,9 +259,12 @@ class Shown {
   recurrences(date) {
     const [every, count] = ["recurrence-every", "recurrence-count"].map((id) => Number(element(id).value));
     const isCount = Number.isInteger(count) && count >= 1 && count <= MOST_RECURRENCES;
-    const isValid = isCount && Number.isInteger(every) && every >= 1 && every <= 9999;
+    const isEvery = Number.isInteger(every) && every >= 1 && every <= 9999;
+    const isValid = isCount && isEvery;
+    mark("recurrence-count", isCount);
+    mark("recurrence-every", isEvery);
     element("recurrence-error").textContent = isValid ? "" : `Numbers are whole: from 1 to 9999 units, and from 1 to ${MOST_RECURRENCES} times.`;
-    element("rule-text").removeAttribute("aria-invalid");
+    mark("rule-text", true);
     const rule = element("rule-text").value.trim().replace(/^RRULE:/i, "");
     if (rule) this.#byRule(date, rule, isCount ? count : 0);
     else this.#byForm(date, every, isValid ? count : 0);
@@ -240,7 +285,7 @@ class Shown {
       found = taken(this.calendars.rrule(date, { rule, last: Math.min(LAST_DAY, date.dayNumber + RULE_DAYS) }), count);
     } catch (error) {
       if (!(error instanceof RuleError)) throw error;
-      element("rule-text").setAttribute("aria-invalid", "true");
+      mark("rule-text", false);
       element("recurrence-error").textContent = error.message;
     }
     const name = `rule/${date.calendar}/${plainDate(date)}/${rule.toUpperCase().replace(/[^A-Z0-9]+/g, "-")}`;
@@ -277,6 +322,8 @@ function todaysNumber() {
 class Page {
   #timer = 0;
   #lists = 0;
+  /** Whether a person chose the year of the holidays. Otherwise it is that of the date. */
+  #isYearChosen = false;
   /** Whether the second date was chosen, so that the address keeps it. */
   #isSecondChosen = false;
 
@@ -288,15 +335,22 @@ class Page {
     element("anniversary-calendar").append(...ORDER.map((it) => made("option", { value: it }, CALENDAR_NAMES[it])));
   }
 
-  /** Shows the dates of the address, or today and a year from today. */
+  /** Shows the dates of the address, or today and a year from today: the first one now, and the second a moment later. */
   readAddress() {
     const [first, second] = this.forms;
     const [given, other] = fieldsOfAddress(location.hash);
     if (!given || !first.setFields(given)) first.set(this.calendars.dateOfDay(todaysNumber(), "gregorian"));
-    this.#isSecondChosen = Boolean(other && second.setFields(other));
     const date = first.read();
-    if (!this.#isSecondChosen && date) second.set(this.calendars.dateOrNull({ ...bag(date), year: date.extendedYear + 1 }, "published", "constrain") ?? date);
-    this.update();
+    if (date) this.shown.everywhere(date);
+    element("about-first").hidden = !date;
+    return new Promise((settle) => {
+      setTimeout(() => {
+        this.#isSecondChosen = Boolean(other && second.setFields(other));
+        if (!this.#isSecondChosen && date) second.set(this.calendars.dateOrNull({ ...bag(date), year: date.extendedYear + 1 }, "published", "constrain") ?? date);
+        this.update();
+        settle();
+      });
+    });
   }
 
   /** Keeps the dates in the address, a moment after the last change. */
@@ -320,6 +374,8 @@ class Page {
       this.#lists = setTimeout(() => {
         this.shown.anniversaries(date);
         this.shown.recurrences(date);
+        if (!this.#isYearChosen) element("holiday-year").value = date.toCalendar("iso").extendedYear;
+        this.shown.holidays();
       }, 20);
     }
     if (date && other) this.shown.differences(date, other);
@@ -373,7 +429,12 @@ class Page {
     for (const id of ["anniversary-calendar", "anniversary-overflow", "recurrence-every", "recurrence-unit", "recurrence-count", "recurrence-overflow", "rule-text"]) {
       element(id).addEventListener("input", () => this.update());
     }
-    for (const id of ["anniversaries", "recurrences"]) element(`${id}-save`).addEventListener("click", () => this.shown.save(id));
+    element("holiday-place").addEventListener("input", () => this.shown.holidays());
+    element("holiday-year").addEventListener("input", () => {
+      this.#isYearChosen = true;
+      this.shown.holidays();
+    });
+    for (const id of ["anniversaries", "recurrences", "holidays"]) element(`${id}-save`).addEventListener("click", () => this.shown.save(id));
     element("shown").addEventListener("click", ({ target }) => target.dataset.copy && copy(target.dataset.copy));
     element("copy-address").addEventListener("click", () => {
       const date = this.forms[0].read();
@@ -388,8 +449,6 @@ class Page {
       await idle();
       this.shown.words.prepare(calendar);
     }
-    this.update();
-    document.documentElement.dataset.words = "ready";
   }
 }
 
@@ -398,13 +457,19 @@ function bag({ calendar, extendedYear: year, monthCode, day }) {
   return { calendar, year, monthCode, day };
 }
 
-/** Shows the page over the module's calls. */
-export function start(calendars) {
+/** Shows the page over the module's calls. The countries' books come when nothing else is to be done. */
+export async function start(calendars, books) {
   const page = new Page(calendars);
+  const isRead = page.readAddress();
+  performance.mark("first date");
+  await isRead;
   addEventListener("popstate", () => page.readAddress());
-  page.readAddress();
   for (const form of page.forms) page.listen(form);
   page.listenElsewhere();
-  performance.mark("first date");
-  page.prepareWords();
+  await page.prepareWords();
+  // A server may not have the books.
+  const texts = await books().catch(() => null);
+  if (texts) page.shown.takeBooks(texts);
+  page.update();
+  document.documentElement.dataset.page = "ready";
 }

@@ -27,7 +27,9 @@ export function cyclicName(calendar, year) {
 /** A date in English, without its weekday. @param {Calendars} calendars @param {CalendarDate} date */
 export function inEnglish(calendars, date) {
   const { calendar, era, cyclicYear } = date;
-  const month = monthName(calendar, date.monthCode, calendars.monthsInYear(calendar, date.extendedYear, date.years));
+  // Only Hebrew months have names that depend on their year.
+  const count = calendar === "hebrew" ? calendars.monthsInYear(calendar, date.extendedYear, date.years) : 0;
+  const month = monthName(calendar, date.monthCode, count);
   if (cyclicYear) return `${date.day} ${month} ${date.extendedYear}, ${cyclicName(calendar, cyclicYear)}`;
   return era === null || era === "default" ? `${date.day} ${month} ${date.extendedYear}` : `${date.day} ${month} ${date.eraYear} ${eraName(calendar, era)}`;
 }

@@ -68,4 +68,6 @@ test("a file of dates has lines of at most 75 bytes, whole days and UIDs that st
   assert.ok(unfolded.includes("\r\nDTSTART;VALUE=DATE:20240219\r\nTRANSP:TRANSPARENT\r\nSUMMARY:Jahrestag\\, "));
   assert.equal(unfolded.match(/BEGIN:VEVENT/g).length, 1);
   assert.equal(plainDate(date), "5784-M05L-10");
+  const twice = iCalendar("holidays", [{ date, summary: "a" }, { date, summary: "b" }]);
+  assert.deepEqual(twice.match(/UID:.*?@/g), ["UID:holidays/20240219@", "UID:holidays/20240219-2@"]);
 });

@@ -18,6 +18,7 @@ mod HolidayLineLemmas
 mod KindLimits
 mod KnownLemmas
 mod ListLemmas
+pub mod ListOverLemmas
 mod ListRunLemmas
 mod ListTextLemmas
 mod ListYieldLemmas

@@ -5,4 +5,6 @@
 #![tactic(auto)]
 
 mod exports;
+mod held;
 mod line;
+mod list;
