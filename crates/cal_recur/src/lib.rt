@@ -29,7 +29,7 @@
 //! SKIP=OMIT, the default of an RRULE without RSCALE, is [`Missing::Skip`]. [`Missing::Constrain`] is SKIP=BACKWARD if
 //! the month lacks the day. If the year lacks a leap month, it takes the calendar's stand-in: the regular month with
 //! the same number, as SKIP=BACKWARD does. In the Hebrew calendar the stand-in of Adar I is Adar, as under
-//! SKIP=FORWARD. SKIP=FORWARD is otherwise not supported, nor are the BY-parts.
+//! SKIP=FORWARD. Other rules, and their texts, are those of the crates `cal_rule` and `cal_rrule`.
 #![tactic(auto)]
 
 mod near;
