@@ -168,7 +168,7 @@ fn record(numbers: &mut common::Numbers, number: usize, near: i64) -> String {
 fn changed(numbers: &mut common::Numbers, text: &str) -> Vec<u8> {
     let mut bytes = text.as_bytes().to_vec();
     let at = numbers.below(bytes.len() as u64) as usize;
-    let by = b" ,+-0123456789LMaadnsuy\"\n"[numbers.below(25) as usize];
+    let by = b" ,+-0123456789LMadnsuy\"\n#\r"[numbers.below(26) as usize];
     match numbers.below(3) {
         0 => bytes[at] = by,
         1 => bytes.insert(at, by),
@@ -192,7 +192,11 @@ fn books_are_listed_as_by_the_program() {
         let records: Vec<String> = (0..8)
             .map(|number| record(&mut numbers, number, near))
             .collect();
-        let (book, window) = (records.concat(), (first, (first + length).min(ENDS.1)));
+        let notes = ["", "# a book\n\n", "\r\n#\r\n", "\n\u{feff}"][numbers.below(4) as usize];
+        let (book, window) = (
+            notes.to_owned() + &records.concat(),
+            (first, (first + length).min(ENDS.1)),
+        );
         let wanted = listed_by_program(book.as_bytes(), window);
         assert_eq!(
             listed(book.as_bytes(), window),
