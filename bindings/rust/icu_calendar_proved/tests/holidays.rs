@@ -225,7 +225,7 @@ fn compare_days(book: &str, days: std::ops::RangeInclusive<i64>) -> usize {
 }
 
 #[test]
-fn weeks_over_the_ends_of_years_are_listed() {
+fn weeks_and_moves_over_the_ends_of_years_are_listed() {
     let mut lines = 0;
     for name in common::NAMES {
         let calendar = common::computed(name).unwrap();
@@ -236,7 +236,9 @@ fn weeks_over_the_ends_of_years_are_listed() {
         let records = WEEKDAYS.map(|weekday| {
             format!(
                 "span,a {weekday},{name},M01,1,-{weekday},,,,{weekday}-1\n\
-                 span,b {weekday},{name},{month},{day},{weekday},,,,{weekday}+6\n"
+                 span,b {weekday},{name},{month},{day},{weekday},,,,{weekday}+6\n\
+                 fixed,c {weekday},{name},M01,1,exact,,,,{weekday}-6\n\
+                 fixed,d {weekday},{name},{month},{day},exact,,,,{weekday}+6\n"
             )
         });
         let first = first.to_i64_date();
