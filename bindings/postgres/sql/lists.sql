@@ -25,6 +25,20 @@ SELECT * FROM calendar_holidays(E'# Sweden\n\nspan,Midsummer Eve,iso,M06,19,frid
 SELECT * FROM calendar_holidays('fixed,New Year,iso,M01,1,exact,,,,saturday-1 sunday+1', '2021-12-31', '2023-01-02');
 SELECT * FROM calendar_holidays('fixed,New Year,iso,M01,1,exact,,,,saturday-1 sunday+1', '2022-01-01', '2023-01-01');
 
+-- Weeks and moves over the ends of years, by their definition: the last of a weekday up to the new year, and the new year six days earlier.
+WITH years AS (
+    SELECT name, calendar_date(name, calendar_part('year', name, '2024-03-01'), 1, 1) AS new_year FROM calendars
+), asked AS (
+    SELECT name, new_year, dow, ('{sunday,monday,tuesday,wednesday,thursday,friday,saturday}'::text[])[dow + 1] AS weekday,
+           extract(dow FROM new_year)::integer AS own, new_year + n AS day
+      FROM years, generate_series(0, 6) AS dow, generate_series(-14, 14) AS n
+)
+SELECT count(*), count(*) FILTER (WHERE span <> (day = new_year - (own - dow + 7) % 7)) AS other_weeks,
+       count(*) FILTER (WHERE fixed <> (day = new_year - CASE WHEN own = dow THEN 6 ELSE 0 END)) AS other_moves
+  FROM asked,
+       LATERAL (SELECT count(*) = 1 FROM calendar_holidays(format('span,Week,%s,M01,1,-%s', name, weekday), day, day)) AS a(span),
+       LATERAL (SELECT count(*) = 1 FROM calendar_holidays(format('fixed,New Year,%s,M01,1,exact,,,,%s-6', name, weekday), day, day)) AS b(fixed);
+
 -- A list goes on only as far as it is read.
 SELECT calendar_recurrences('2024-01-01', 'iso', 'days', 1, '2024-01-01', '999999-12-31') LIMIT 3;
 

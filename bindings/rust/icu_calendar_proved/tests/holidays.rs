@@ -168,7 +168,7 @@ fn record(numbers: &mut common::Numbers, number: usize, near: i64) -> String {
 fn changed(numbers: &mut common::Numbers, text: &str) -> Vec<u8> {
     let mut bytes = text.as_bytes().to_vec();
     let at = numbers.below(bytes.len() as u64) as usize;
-    let by = b" ,+-0123456789LMaadnsuy\"\n"[numbers.below(25) as usize];
+    let by = b" ,+-0123456789LMadnsuy\"\n#\r"[numbers.below(26) as usize];
     match numbers.below(3) {
         0 => bytes[at] = by,
         1 => bytes.insert(at, by),
@@ -192,7 +192,11 @@ fn books_are_listed_as_by_the_program() {
         let records: Vec<String> = (0..8)
             .map(|number| record(&mut numbers, number, near))
             .collect();
-        let (book, window) = (records.concat(), (first, (first + length).min(ENDS.1)));
+        let notes = ["", "# a book\n\n", "\r\n#\r\n", "\n\u{feff}"][numbers.below(4) as usize];
+        let (book, window) = (
+            notes.to_owned() + &records.concat(),
+            (first, (first + length).min(ENDS.1)),
+        );
         let wanted = listed_by_program(book.as_bytes(), window);
         assert_eq!(
             listed(book.as_bytes(), window),
@@ -208,6 +212,68 @@ fn books_are_listed_as_by_the_program() {
         }
     }
     assert!(lines > 1000, "{lines}");
+}
+
+/// Compares the lists of single days.
+fn compare_days(book: &str, days: std::ops::RangeInclusive<i64>) -> usize {
+    let compared = days.map(|day| {
+        let wanted = listed_by_program(book.as_bytes(), (day, day));
+        assert_eq!(listed(book.as_bytes(), (day, day)), wanted, "{day}\n{book}");
+        wanted.lines().count()
+    });
+    compared.sum()
+}
+
+#[test]
+fn weeks_and_moves_over_the_ends_of_years_are_listed() {
+    let mut lines = 0;
+    for name in common::NAMES {
+        let calendar = common::computed(name).unwrap();
+        let date = Date::from_rata_die(RataDie::new(739_000), calendar);
+        let first = date.to_rata_die() - i64::from(date.day_of_year().0) + 1;
+        let last = Date::from_rata_die(first - 1, calendar);
+        let (month, day) = (last.month().standard_code, last.day_of_month().0);
+        let records = WEEKDAYS.map(|weekday| {
+            format!(
+                "span,a {weekday},{name},M01,1,-{weekday},,,,{weekday}-1\n\
+                 span,b {weekday},{name},{month},{day},{weekday},,,,{weekday}+6\n\
+                 fixed,c {weekday},{name},M01,1,exact,,,,{weekday}-6\n\
+                 fixed,d {weekday},{name},{month},{day},exact,,,,{weekday}+6\n"
+            )
+        });
+        let first = first.to_i64_date();
+        lines += compare_days(&records.concat(), first - 14..=first + 14);
+    }
+    assert!(lines > 250, "{lines}");
+}
+
+#[test]
+fn days_at_the_ends_of_all_days_are_listed() {
+    let mut lines = 0;
+    for name in common::NAMES {
+        for (end, sign) in [(ENDS.0, '+'), (ENDS.1, '-')] {
+            let calendar = common::computed(name).unwrap();
+            let date = Date::from_rata_die(RataDie::new(end), calendar);
+            let (month, day) = (date.month().standard_code, date.day_of_month().0);
+            let moves = WEEKDAYS
+                .map(|weekday| format!("{weekday}{sign}6"))
+                .join(" ");
+            let mut book = format!("span,s,{name},{month},{day},-sunday,,,,{moves}\n");
+            for weekday in WEEKDAYS {
+                for nth in ["1", "2", "3", "4", "5", "-1"] {
+                    book += &format!(
+                        "weekday,{weekday} {nth},{name},{month},{nth},{weekday},,,,{moves}\n"
+                    );
+                }
+            }
+            for offset in -400..=-350 {
+                book += &format!("easter,{offset},gregorian,,{offset},,,,,{moves}\n");
+            }
+            let last = (end + 40).min(ENDS.1);
+            lines += compare_days(&book, (last - 40).max(ENDS.0)..=last);
+        }
+    }
+    assert!(lines > 900, "{lines}");
 }
 
 #[test]

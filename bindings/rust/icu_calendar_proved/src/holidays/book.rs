@@ -1,7 +1,7 @@
 //! Books of holidays.
 
 use super::entry::Entry;
-use super::records::Records;
+use super::records::{behind_notes, Records};
 use super::rule::{HolidayRule, Moves, RuleYears};
 use crate::error::errors;
 use alloc::vec::Vec;
@@ -53,7 +53,8 @@ pub struct Book {
 }
 
 impl Book {
-    /// Reads a book: records of six to ten fields with commas between them, which `docs/MANUAL.md` describes.
+    /// Reads a book: records of six to ten fields with commas between them, which `docs/MANUAL.md` describes. Empty lines
+    /// and notes, which begin with `#`, may stand before the first record.
     ///
     /// # Errors
     ///
@@ -71,7 +72,7 @@ impl Book {
     /// # }
     /// ```
     pub fn try_read(bytes: &[u8]) -> Result<Book, BookError> {
-        let numbered = (1..).zip(Records::new(bytes));
+        let numbered = (1..).zip(Records::new(behind_notes(bytes)));
         let entries = numbered.map(|(number, fields)| {
             Entry::read(&fields).map_err(|field| BookError { number, field })
         });

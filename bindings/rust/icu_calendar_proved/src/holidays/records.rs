@@ -2,6 +2,23 @@
 
 use alloc::vec::Vec;
 
+/// The most bytes of a line that the program ignores.
+const MOST_IGNORED: usize = 512;
+
+/// Returns what follows the empty lines and the notes, which begin with `#`, at the start of a text.
+pub(super) fn behind_notes(text: &[u8]) -> &[u8] {
+    let mut rest = text;
+    while !rest.is_empty() {
+        let line = rest.split(|byte| *byte == b'\n').next().unwrap_or(rest);
+        let is_empty = matches!(line, [] | [b'\r']);
+        if line.len() > MOST_IGNORED || !(is_empty || line[0] == b'#') {
+            return rest;
+        }
+        rest = rest.get(line.len() + 1..).unwrap_or(b"");
+    }
+    rest
+}
+
 /// An iterator over the records of a text. Blank lines and a byte order mark at the start are ignored, a record ends
 /// with a carriage return or a line feed, and a quoted field has a quote in it written twice.
 pub(super) struct Records<'a> {

@@ -277,9 +277,7 @@ impl Rows {
     pub fn holidays(&self, book: &[u8], window: Window) -> Result<Vec<RowHoliday>, BookError> {
         Book::try_read(book)?;
         let (first, last) = (window.first().to_i64_date(), window.last().to_i64_date());
-        // Behind rows a byte order mark would be a part of the first record.
-        let records = book.strip_prefix(b"\xef\xbb\xbf").unwrap_or(book);
-        let (status, output) = self.run_over(&format!("holidays {first} {last}"), records);
+        let (status, output) = self.run_over(&format!("holidays {first} {last}"), book);
         assert!(status == Status::Done, "the rows and the book are too long");
         Ok(output.lines().filter_map(answers::holiday).collect())
     }
