@@ -1,12 +1,11 @@
 -- What stands behind the date of a text names its calendar.
-use Rattle.std.proofs.Common.{◌≡◌, ◌∙◌, ◌++◌, ℕ, ◌+◌, ◌/◌, ◌%◌, min, length, Bool, true, false, List, [], ◌∷◌, Option, Some, None, refl, sym, ap, subst, arith}
+use Rattle.std.proofs.Common.{◌≡◌, ◌∙◌, ◌++◌, ℕ, ◌+◌, ◌/◌, ◌%◌, min, length, Bool, true, false, List, ◌∷◌, Option, Some, None, refl, ap, arith}
 use Rattle.std.specs.Prelude.{◌==◌, ◌||◌}
 use Rattle.std.specs.Option.{option_and_then}
-use Rattle.cal_types.specs.CalendarList.{Date}
-use Rattle.icu_calendar.specs.DateText.{FourDigits, IsDateText, Minus, Plus, YearForm, annotation, calendar_key, two_digits, year_text}
+use Rattle.icu_calendar.specs.DateText.{FourDigits, Minus, Plus, YearForm, annotation, two_digits, year_text}
 use Rattle.icu_calendar.specs.DateTextReading.{before_bracket, behind_key}
 use Rattle.icu_calendar.proofs.NameLemmas.{before_bracket-written}
-use Rattle.date_calls.specs.Texts.{IsNameIn, behind_date, has_sign, name_behind}
+use Rattle.date_calls.specs.Texts.{IsNameIn, behind_date, name_behind}
 
 no_sign : (n : ℕ) → (48 + n == 43 || 48 + n == 45) ≡ false
 no_sign n = grind (arith)
