@@ -1,6 +1,7 @@
-/* Lists from C, a few items at a time: birthdays, paydays, and the lengths of months and years. */
+/* Lists from C, a few items at a time: birthdays, paydays, the lengths of months and years, and texts of dates. */
 #include <inttypes.h>
 #include <stdio.h>
+#include <string.h>
 
 #include "icu_calendar.h"
 
@@ -60,6 +61,17 @@ static int show_lengths(uint8_t calendar, int64_t day) {
     return 0;
 }
 
+static void show_text(const char *text) {
+    uint8_t calendar = 0;
+    int64_t day = 0;
+    uint8_t code = icu_calendar_day_of_text((const uint8_t *)text, strlen(text), &calendar, &day);
+    if (code) {
+        printf("%s: %s\n", text, icu_calendar_code_text(code));
+    } else {
+        printf("%s: day %" PRId64 ", %s\n", text, day, icu_calendar_name(calendar));
+    }
+}
+
 /* Codes of calls that list nothing, and change nothing but the count. */
 static int show_refusals(void) {
     int64_t days[COUNT] = {7, 7}, next = 7;
@@ -85,5 +97,12 @@ int main(void) {
     fault = fault ? fault : show_lengths(ICU_CALENDAR_ISO, 738945);
     fault = fault ? fault : show_lengths(ICU_CALENDAR_HEBREW, 738939);
     fault = fault ? fault : show_lengths(ICU_CALENDAR_CHINESE, 738926);
+    show_text("2024-03-01");
+    show_text("+012024-03-01[u-ca=hebrew]");
+    show_text("-000001-12-31[!u-ca=gregory]");
+    show_text("0001-01-01[u-ca=islamic-type1-thursday]");
+    show_text("2024-03-01[u-ca=klingon]");
+    show_text("2023-02-29[u-ca=hebrew]");
+    show_text("");
     return fault ? fault : show_refusals();
 }

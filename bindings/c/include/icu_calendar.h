@@ -112,7 +112,8 @@ enum {
     ICU_CALENDAR_MONTH_NOT_IN_YEAR = 17,
     ICU_CALENDAR_INCONSISTENT_MONTH = 18,
     ICU_CALENDAR_INVALID_ORDINAL_MONTH = 19, /* max: how many months the year has */
-    ICU_CALENDAR_INVALID_DAY = 20            /* max: how many days the month has */
+    ICU_CALENDAR_INVALID_DAY = 20,           /* max: how many days the month has */
+    ICU_CALENDAR_INVALID_TEXT = 21           /* not a date of RFC 9557 */
 };
 
 /* What `calspan` returns: the exit status of the program, or CALSPAN_NO_ROOM. */
@@ -265,6 +266,11 @@ uint8_t icu_calendar_until(uint8_t calendar, uint8_t years, int64_t first, int64
 uint8_t icu_calendar_era_of_day(uint8_t calendar, uint8_t years, int64_t day, uint8_t *room, size_t room_len,
                                 size_t *written);
 
+/* Reads the text of a date, such as 2024-03-01 or 2024-03-01[u-ca=hebrew] (RFC 9557): its ISO date's day number, and the
+ * calendar that it names; without a name, ICU_CALENDAR_ISO. Names are CLDR's or those of `icu_calendar_name`. Fails with
+ * 21 or, if no calendar has the name, with 1. */
+uint8_t icu_calendar_day_of_text(const uint8_t *text, size_t text_len, uint8_t *calendar, int64_t *day);
+
 /* Finds how many days and months the year of a day number has, and how many days its month has. Fails with 1, 2 or 4. */
 uint8_t icu_calendar_lengths_of_day(uint8_t calendar, uint8_t years, int64_t day, icu_calendar_lengths *lengths);
 
@@ -378,7 +384,7 @@ static inline const char *icu_calendar_code_text(uint8_t code) {
     case ICU_CALENDAR_DONE:
         return "The call succeeded.";
     case ICU_CALENDAR_UNKNOWN_CALENDAR:
-        return "No calendar has the code.";
+        return "No calendar has the code or the name.";
     case ICU_CALENDAR_UNKNOWN_YEARS:
         return "The code stands for neither computed nor published years.";
     case ICU_CALENDAR_UNKNOWN_OPTION:
@@ -413,6 +419,8 @@ static inline const char *icu_calendar_code_text(uint8_t code) {
         return "The year doesn't have this ordinal month.";
     case ICU_CALENDAR_INVALID_DAY:
         return "The month doesn't have the day.";
+    case ICU_CALENDAR_INVALID_TEXT:
+        return "The text isn't a date such as 2024-03-01[u-ca=hebrew], or the date doesn't exist.";
     default:
         return "No call returns this code.";
     }

@@ -24,6 +24,30 @@ kinds =
 abbrev pub kind_of_code : ℕ → Option AnyCalendarKind
 kind_of_code code = slice_get kinds code
 
+-- the code of a kind
+abbrev pub code_of_kind : AnyCalendarKind → Option ℕ
+code_of_kind kind.Buddhist = Some 0
+code_of_kind kind.Chinese = Some 1
+code_of_kind kind.Coptic = Some 2
+code_of_kind kind.Dangi = Some 3
+code_of_kind kind.Ethiopian = Some 4
+code_of_kind kind.EthiopianAmeteAlem = Some 5
+code_of_kind kind.Gregorian = Some 6
+code_of_kind kind.Hebrew = Some 7
+code_of_kind kind.Indian = Some 8
+code_of_kind kind.HijriTabularTypeIIFriday = Some 9
+code_of_kind kind.HijriSimulatedMecca = Some 10
+code_of_kind kind.HijriTabularTypeIIThursday = Some 11
+code_of_kind kind.HijriUmmAlQura = Some 12
+code_of_kind kind.Iso = Some 13
+code_of_kind kind.Japanese = Some 14
+code_of_kind kind.JapaneseExtended = None
+code_of_kind kind.Julian = Some 15
+code_of_kind kind.Persian = Some 16
+code_of_kind kind.Roc = Some 17
+code_of_kind kind.HijriTabularTypeIFriday = Some 18
+code_of_kind kind.HijriTabularTypeIThursday = Some 19
+
 -- which tables a code says: none, so that years are computed, or those of the published years
 abbrev pub contents_of_code : ℕ → Option TableContents
 contents_of_code code = slice_get (no_contents ∷ published_contents ∷ []) code

@@ -14,3 +14,4 @@ pub mod Lengths
 pub mod Lists
 pub mod Yearly
 pub mod Recurrences
+pub mod Texts

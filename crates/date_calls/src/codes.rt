@@ -1,9 +1,9 @@
 //! The codes that callers pass: calendars, sources of years, and options.
 
-ghost use Rattle.std.specs.Prelude.{◌≡◌};
+ghost use Rattle.std.specs.Prelude.{◌≡◌, IfSome, Some};
 ghost use Rattle.std.specs.Option.{option_map};
 ghost use Rattle.cal_tables.specs.Kinds.{table_contents};
-ghost use Rattle.date_calls.specs.Codes.{contents_of_code, kind_of_code, overflow_of_code, strategy_of_code, unit_of_code};
+ghost use Rattle.date_calls.specs.Codes.{code_of_kind, contents_of_code, kind_of_code, overflow_of_code, strategy_of_code, unit_of_code};
 
 use cal_kinds::AnyCalendarKind;
 use cal_tables::Tables;
@@ -35,6 +35,36 @@ pub(crate) fn kind_of(code: u8) -> Option<AnyCalendarKind>
         18 => Some(AnyCalendarKind::HijriTabularTypeIFriday),
         19 => Some(AnyCalendarKind::HijriTabularTypeIThursday),
         _ => None,
+    }
+}
+
+/// Returns the code of a kind of calendar, or `None` if it has none.
+pub(crate) fn code_of(kind: AnyCalendarKind) -> Option<u8>
+    ensures code { result ≡ code_of_kind kind }
+    ensures kind { IfSome result (λ code. kind_of_code code ≡ Some kind) }
+{
+    match kind {
+        AnyCalendarKind::Buddhist => Some(0),
+        AnyCalendarKind::Chinese => Some(1),
+        AnyCalendarKind::Coptic => Some(2),
+        AnyCalendarKind::Dangi => Some(3),
+        AnyCalendarKind::Ethiopian => Some(4),
+        AnyCalendarKind::EthiopianAmeteAlem => Some(5),
+        AnyCalendarKind::Gregorian => Some(6),
+        AnyCalendarKind::Hebrew => Some(7),
+        AnyCalendarKind::Indian => Some(8),
+        AnyCalendarKind::HijriTabularTypeIIFriday => Some(9),
+        AnyCalendarKind::HijriSimulatedMecca => Some(10),
+        AnyCalendarKind::HijriTabularTypeIIThursday => Some(11),
+        AnyCalendarKind::HijriUmmAlQura => Some(12),
+        AnyCalendarKind::Iso => Some(13),
+        AnyCalendarKind::Japanese => Some(14),
+        AnyCalendarKind::JapaneseExtended => None,
+        AnyCalendarKind::Julian => Some(15),
+        AnyCalendarKind::Persian => Some(16),
+        AnyCalendarKind::Roc => Some(17),
+        AnyCalendarKind::HijriTabularTypeIFriday => Some(18),
+        AnyCalendarKind::HijriTabularTypeIThursday => Some(19),
     }
 }
 

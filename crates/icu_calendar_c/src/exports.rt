@@ -11,6 +11,7 @@ ghost use Rattle.date_calls.specs.Fields.{bag_given, month_of};
 ghost use Rattle.date_calls.specs.Lengths.{ShowsLengths};
 ghost use Rattle.date_calls.specs.Lists.{IsUnlisted};
 ghost use Rattle.date_calls.specs.Recurrences.{ListsOccurrences, rule_given};
+ghost use Rattle.date_calls.specs.Texts.{ReadsText};
 ghost use Rattle.date_calls.specs.Yearly.{ListsYearly};
 ghost use Rattle.cal_days.specs.Day.{is_valid_day};
 ghost use Rattle.cal_days.specs.Easter.{IsGregorianEaster, IsJulianEaster};
@@ -470,4 +471,23 @@ pub extern "C" fn icu_calendar_recurrences(
     date_calls::recurrences(
         calendar, years, start, unit, every, overflow, first, last, items, written, next,
     )
+}
+
+/// Reads the text of a date (RFC 9557), such as `2024-03-01` or `2024-03-01[u-ca=hebrew]`: its ISO date's day number, in
+/// `day`, and the code of the calendar that it names, in `calendar`; without a name, ISO.
+///
+/// The year has four digits, or a sign and six digits. A name may be marked critical, as in `[!u-ca=hebrew]`. It is
+/// CLDR's, such as `gregory`, or the program's, such as `julian`. Times, offsets and other annotations are rejected.
+///
+/// # Errors
+///
+/// The code is 0 if both are filled in. Otherwise both are unchanged, and the code is the first of:
+///
+/// - 21 if the text has another form, or its date doesn't exist.
+/// - 1 if no calendar has the name.
+#[unsafe(no_mangle)]
+pub extern "C" fn icu_calendar_day_of_text(text: &[u8], calendar: &mut u8, day: &mut i64) -> u8
+    ensures { ReadsText text.now result calendar.old calendar.new day.old day.new }
+{
+    date_calls::day_of_text(text, calendar, day)
 }

@@ -2,9 +2,9 @@
 
 use crate::exports::{
     icu_calendar_add, icu_calendar_anniversaries, icu_calendar_date_of_day,
-    icu_calendar_date_of_fields, icu_calendar_dates_of_days, icu_calendar_easter,
-    icu_calendar_era_of_day, icu_calendar_lengths_of_day, icu_calendar_recurrences,
-    icu_calendar_until, icu_calendar_week_of_year,
+    icu_calendar_date_of_fields, icu_calendar_dates_of_days, icu_calendar_day_of_text,
+    icu_calendar_easter, icu_calendar_era_of_day, icu_calendar_lengths_of_day,
+    icu_calendar_recurrences, icu_calendar_until, icu_calendar_week_of_year,
 };
 use crate::program::calspan;
 use date_calls::{
@@ -360,4 +360,32 @@ fn recurrences_go_on(rt: HostRuntime) {
         &mut next,
     );
     assert!(rt; code == 4 && written == 0);
+}
+
+#[test]
+fn texts_name_days(rt: HostRuntime) {
+    let mut calendar = 77;
+    let mut day = 7;
+    assert_eq!(rt;
+        icu_calendar_day_of_text(b"2024-03-01", &mut calendar, &mut day),
+        0
+    );
+    assert!(rt; calendar == ISO && day == 738946);
+    let text = b"+002024-03-01[u-ca=hebrew]";
+    assert_eq!(rt; icu_calendar_day_of_text(text, &mut calendar, &mut day), 0);
+    assert!(rt; calendar == HEBREW && day == 738946);
+    let text = b"-000001-12-31[!u-ca=gregory]";
+    assert_eq!(rt; icu_calendar_day_of_text(text, &mut calendar, &mut day), 0);
+    assert!(rt; calendar == 6 && day == -366);
+    let text = b"0001-01-01[u-ca=julian]";
+    assert_eq!(rt; icu_calendar_day_of_text(text, &mut calendar, &mut day), 0);
+    assert!(rt; calendar == 15 && day == 1);
+    let text = b"2024-03-01[u-ca=klingon]";
+    assert_eq!(rt; icu_calendar_day_of_text(text, &mut calendar, &mut day), 1);
+    let text = b"2023-02-29[u-ca=hebrew]";
+    assert_eq!(rt; icu_calendar_day_of_text(text, &mut calendar, &mut day), 21);
+    let text = b"2024-03-01 [u-ca=hebrew]";
+    assert_eq!(rt; icu_calendar_day_of_text(text, &mut calendar, &mut day), 21);
+    assert_eq!(rt; icu_calendar_day_of_text(b"", &mut calendar, &mut day), 21);
+    assert!(rt; calendar == 15 && day == 1);
 }
