@@ -34,7 +34,7 @@ fn explain(rt: &HostRuntime, code: u8, first: &[u8], lines: u64) -> io::Result<(
         None => Ok(()),
         Some(why) if code == 3 || code == 7 => {
             eprintln!(rt;
-                "calspan: {why}; {lines} {}; see the manual",
+                "calspan: {why}; {} {lines}; see the manual",
                 answers(first)
             )
         }

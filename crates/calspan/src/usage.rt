@@ -79,8 +79,8 @@ pub fn why(code: u8) -> Option<&'static str> {
 /// Returns what a run writes lines of, by its command.
 pub fn answers(first: &[u8]) -> &'static str {
     if first == b"span".as_slice() || first == b"convert".as_slice() {
-        "answers are written"
+        "answers written:"
     } else {
-        "lines are written"
+        "lines written:"
     }
 }
