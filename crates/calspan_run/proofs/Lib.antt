@@ -17,7 +17,6 @@ mod KindLimits
 mod KindNear
 mod KnownLemmas
 mod ListLemmas
-pub mod ListOverLemmas
 mod ListRunLemmas
 mod ListTextLemmas
 mod ListYieldLemmas
