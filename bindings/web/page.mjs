@@ -266,7 +266,7 @@ class Shown {
     element("recurrence-error").textContent = isValid ? "" : `Numbers are whole: from 1 to 9999 units, and from 1 to ${MOST_RECURRENCES} times.`;
     mark("rule-text", true);
     const rule = element("rule-text").value.trim().replace(/^RRULE:/i, "");
-    if (rule) this.#byRule(date, rule, isCount ? count : 0);
+    if (rule && this.calendars.hasRules) this.#byRule(date, rule, isCount ? count : 0);
     else this.#byForm(date, every, isValid ? count : 0);
   }
 

@@ -163,7 +163,8 @@ async function takePicture(url, file) {
   const session = await browser.open(`${url}#hebrew/5784-M05L-10`);
   await people.ready(browser, session);
   await browser.value(session, TYPE);
-  await browser.value(session, `type("rule-text", "FREQ=YEARLY;BYMONTH=5L;BYMONTHDAY=10;SKIP=FORWARD"); type("holiday-place", "germany-bavaria"); ${LATER}`);
+  const rule = `document.getElementById("rule").hidden || type("rule-text", "FREQ=YEARLY;BYMONTH=5L;BYMONTHDAY=10;SKIP=FORWARD")`;
+  await browser.value(session, `${rule}; type("holiday-place", "germany-bavaria"); ${LATER}`);
   await browser.call("Emulation.setDeviceMetricsOverride", { width: 1100, height: 1500, deviceScaleFactor: 1, mobile: false }, session);
   writeFileSync(file, await browser.picture(session));
 }

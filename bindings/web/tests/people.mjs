@@ -29,7 +29,7 @@ const REACHED = `[...document.querySelectorAll("a[href], button, input, select")
 
 /** Tab leads through all controls in the order of the document, each shows its focus, and keys do what buttons do. */
 export async function testKeyboard(browser, session) {
-  await browser.value(session, `document.activeElement.blur(); getSelection().removeAllRanges(); scrollTo(0, 0)`);
+  await browser.value(session, `document.activeElement.blur(); getSelection().removeAllRanges(); scrollTo(0, 0); ${SETTLED}`);
   const wanted = await browser.value(session, REACHED);
   await browser.value(session, `document.querySelector("a[href]").focus()`);
   const found = [(await browser.value(session, FOCUSED)).id];

@@ -18,7 +18,6 @@ mod HolidayLineLemmas
 mod KindLimits
 mod KnownLemmas
 mod ListLemmas
-pub mod ListOverLemmas
 mod ListRunLemmas
 mod ListTextLemmas
 mod ListYieldLemmas

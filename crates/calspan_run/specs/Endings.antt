@@ -36,11 +36,6 @@ EndsOver result status before now faults more text =
     (IsEnd status × (result ≡ status) × Appends before now text)
     ⊎ ((result ≡ WriteFault) × WrotePrefix before now text × Rose faults more)
 
--- one of the texts that a list may have was written, with its status; or a prefix of one
-abbrev pub EndsOneOf : (List ℕ → Status → Type 0) → Status → Option (List ℕ) → Option (List ℕ) → ℕ → ℕ → Type 0
-EndsOneOf Ends result before now faults more =
-    (text : List ℕ) × (status : Status) × Ends text status × EndsOver result status before now faults more text
-
 -- these bytes were taken, and a run of a command may end with this text and status
 pub record MayEnd (c : Rules) (left now : Option (List ℕ)) (text : List ℕ) (status : Status) : Type 0 where
   pub bytes : List ℕ

@@ -26,7 +26,6 @@ pub mod HolidayRuns
 pub mod Laws
 pub mod ListAnswers
 pub mod ListEnds
-pub mod ListOver
 pub mod ListTexts
 pub mod Progress
 pub mod Recurrences

@@ -5,7 +5,7 @@ ghost use Rattle.cal_types.specs.CalendarSystem.{CalendarSystem};
 ghost use Rattle.cal_tables.specs.Kinds.{TableContents, table_contents};
 ghost use Rattle.calspan_run.specs.Refusals.{refusal};
 ghost use Rattle.calspan_run.specs.BehindRows.{OverTables};
-ghost use Rattle.calspan_run.specs.Endings.{EndsList, EndsOneOf, EndsOver, EndsWith};
+ghost use Rattle.calspan_run.specs.Endings.{EndsList, EndsOver, EndsWith};
 ghost use Rattle.table_rows.specs.RowsSaid.{rows_said};
 ghost use Rattle.calspan_run.specs.Rules.{end_rules};
 ghost use Rattle.calspan_run.specs.Run.{outside};
@@ -73,22 +73,6 @@ fn refuse_line<K: Sink>(number: u64, is_long: bool, sink: &mut K) -> Status
     end_with(&text, Status::Refused, sink)
 }
 
-/// Writes a list over tables, and returns the status of the run.
-pub(crate) fn write_over<L: TableList, K: Sink>(
-    list: &L,
-    tables: &Tables<'_>,
-    sink: &mut K,
-) -> Status
-    ensures { EndsOneOf (L.ends list.now (table_contents tables.now)) result (K.taken sink.old) (K.taken sink.new)
-        (K.faults sink.old) (K.faults sink.new) }
-{
-    match list.write(tables, sink) {
-        Ok(true) => Status::Refused,
-        Ok(false) => Status::Done,
-        Err(_) => Status::WriteFault,
-    }
-}
-
 /// Writes the list over the tables of the rows, or the line for an invalid table.
 fn list_over<L: TableList, K: Sink>(rows: &TableRows, list: &L, sink: &mut K) -> Status
     ensures { (text : List ℕ) × (status : Status)
@@ -99,7 +83,11 @@ fn list_over<L: TableList, K: Sink>(rows: &TableRows, list: &L, sink: &mut K) ->
         Ok(tables) => tables,
         Err(refusal) => return refuse_table(refusal, sink),
     };
-    write_over(list, &tables, sink)
+    match list.write(&tables, sink) {
+        Ok(true) => Status::Refused,
+        Ok(false) => Status::Done,
+        Err(_) => Status::WriteFault,
+    }
 }
 
 /// Runs a command with a list: reads row lines to the end of the source, and writes the list over their tables. A

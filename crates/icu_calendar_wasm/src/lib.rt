@@ -5,6 +5,4 @@
 #![tactic(auto)]
 
 mod exports;
-mod held;
 mod line;
-mod list;
