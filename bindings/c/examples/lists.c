@@ -72,6 +72,14 @@ static void show_text(const char *text) {
     }
 }
 
+static void show_day(uint8_t calendar, int64_t day, size_t room_len) {
+    uint8_t room[43];
+    size_t written = 77;
+    memset(room, '.', sizeof room);
+    uint8_t code = icu_calendar_text_of_day(calendar, day, room, room_len, &written);
+    printf("%u: %zu bytes, %.*s\n", code, written, (int)sizeof room, (const char *)room);
+}
+
 /* Codes of calls that list nothing, and change nothing but the count. */
 static int show_refusals(void) {
     int64_t days[COUNT] = {7, 7}, next = 7;
@@ -104,5 +112,15 @@ int main(void) {
     show_text("2024-03-01[u-ca=klingon]");
     show_text("2023-02-29[u-ca=hebrew]");
     show_text("");
+    show_day(ICU_CALENDAR_ISO, 738946, 43);
+    show_day(ICU_CALENDAR_HEBREW, 738946, 23);
+    show_day(ICU_CALENDAR_GREGORIAN, 4391371, 43);
+    show_day(ICU_CALENDAR_ISO, -366, 43);
+    show_day(ICU_CALENDAR_ISLAMIC_TYPE1_THURSDAY, 365242134, 42);
+    show_day(ICU_CALENDAR_HEBREW, 738946, 22);
+    show_day(ICU_CALENDAR_ISO, 738946, 0);
+    show_day(ICU_CALENDAR_ISLAMIC_SIMULATED, 738946, 43);
+    show_day(ICU_CALENDAR_ISO, -365242500, 43);
+    show_day(20, -365242500, 43);
     return fault ? fault : show_refusals();
 }

@@ -271,6 +271,11 @@ uint8_t icu_calendar_era_of_day(uint8_t calendar, uint8_t years, int64_t day, ui
  * 21 or, if no calendar has the name, with 1. */
 uint8_t icu_calendar_day_of_text(const uint8_t *text, size_t text_len, uint8_t *calendar, int64_t *day);
 
+/* Writes the text of a day's date (RFC 9557): at most 42 bytes, with no 0 behind them, which `icu_calendar_day_of_text`
+ * reads back. Fails with 1, 21 (ICU_CALENDAR_ISLAMIC_SIMULATED, which no text names) or 4, and 0 in `*written`; or with 8,
+ * and the number of bytes needed. */
+uint8_t icu_calendar_text_of_day(uint8_t calendar, int64_t day, uint8_t *room, size_t room_len, size_t *written);
+
 /* Finds how many days and months the year of a day number has, and how many days its month has. Fails with 1, 2 or 4. */
 uint8_t icu_calendar_lengths_of_day(uint8_t calendar, uint8_t years, int64_t day, icu_calendar_lengths *lengths);
 

@@ -4,7 +4,8 @@ use crate::exports::{
     icu_calendar_add, icu_calendar_anniversaries, icu_calendar_date_of_day,
     icu_calendar_date_of_fields, icu_calendar_dates_of_days, icu_calendar_day_of_text,
     icu_calendar_easter, icu_calendar_era_of_day, icu_calendar_lengths_of_day,
-    icu_calendar_recurrences, icu_calendar_until, icu_calendar_week_of_year,
+    icu_calendar_recurrences, icu_calendar_text_of_day, icu_calendar_until,
+    icu_calendar_week_of_year,
 };
 use crate::program::calspan;
 use date_calls::{
@@ -388,4 +389,31 @@ fn texts_name_days(rt: HostRuntime) {
     assert_eq!(rt; icu_calendar_day_of_text(text, &mut calendar, &mut day), 21);
     assert_eq!(rt; icu_calendar_day_of_text(b"", &mut calendar, &mut day), 21);
     assert!(rt; calendar == 15 && day == 1);
+}
+
+#[test]
+fn days_have_texts(rt: HostRuntime) {
+    let mut room = [7; 44];
+    let mut written = 77;
+    let code = icu_calendar_text_of_day(HEBREW, 738946, &mut room, &mut written);
+    assert!(rt; code == 0 && written == 23);
+    assert_eq!(rt; &room[..24], b"2024-03-01[u-ca=hebrew]\x07".as_slice());
+    let code = icu_calendar_text_of_day(ISO, -365242499, &mut room, &mut written);
+    assert!(rt; code == 0 && written == 13);
+    assert_eq!(rt; &room[..15], b"-999999-01-01ca".as_slice());
+    let code = icu_calendar_text_of_day(19, 365242134, &mut room, &mut written);
+    assert!(rt; code == 0 && written == 42);
+    let text = b"+999999-12-31[u-ca=islamic-type1-thursday]\x07";
+    assert_eq!(rt; &room[..43], text.as_slice());
+    let code = icu_calendar_text_of_day(ISO, 3652059, &mut room[..10], &mut written);
+    assert!(rt; code == 0 && written == 10);
+    assert_eq!(rt; &room[..13], b"9999-12-31-31".as_slice());
+    let code = icu_calendar_text_of_day(6, 3652060, &mut room[..26], &mut written);
+    assert!(rt; code == 8 && written == 27 && room[0] == b'9');
+    let code = icu_calendar_text_of_day(10, 365242135, &mut room, &mut written);
+    assert!(rt; code == 21 && written == 0);
+    let code = icu_calendar_text_of_day(ISO, 365242135, &mut room, &mut written);
+    assert!(rt; code == 4 && written == 0);
+    let code = icu_calendar_text_of_day(20, 365242135, &mut room, &mut written);
+    assert!(rt; code == 1 && written == 0 && room[0] == b'9');
 }

@@ -12,6 +12,7 @@ ghost use Rattle.date_calls.specs.Lengths.{ShowsLengths};
 ghost use Rattle.date_calls.specs.Lists.{IsUnlisted};
 ghost use Rattle.date_calls.specs.Recurrences.{ListsOccurrences, rule_given};
 ghost use Rattle.date_calls.specs.Texts.{ReadsText};
+ghost use Rattle.date_calls.specs.DayTexts.{WritesText};
 ghost use Rattle.date_calls.specs.Yearly.{ListsYearly};
 ghost use Rattle.cal_days.specs.Day.{is_valid_day};
 ghost use Rattle.cal_days.specs.Easter.{IsGregorianEaster, IsJulianEaster};
@@ -490,4 +491,30 @@ pub extern "C" fn icu_calendar_day_of_text(text: &[u8], calendar: &mut u8, day: 
     ensures { ReadsText text.now result calendar.old calendar.new day.old day.new }
 {
     date_calls::day_of_text(text, calendar, day)
+}
+
+/// Writes the text of a day's date in a calendar (RFC 9557) to the start of `room`, and its number of bytes, at most 42,
+/// to `written`: the ISO date and, unless the calendar is ISO, the calendar's name, as in `2024-03-01[u-ca=hebrew]`.
+///
+/// Years from 0 to 9999 have four digits, all others a sign and six. The name is CLDR's, such as `gregory`, or, if it
+/// has none, the program's, such as `julian`. `icu_calendar_day_of_text` reads the text back.
+///
+/// # Errors
+///
+/// The code is 0 if the text is written. Otherwise `room` is unchanged, and the code is the first of:
+///
+/// - 1 if no calendar has the code, with 0 in `written`.
+/// - 21 if the calendar is `islamic-simulated`, with 0 in `written`: names in texts have parts of at most eight letters.
+/// - 4 if `day` isn't from -365242499 to 365242134, with 0 in `written`.
+/// - 8 if `room` is too short; `written` is the number of bytes needed.
+#[unsafe(no_mangle)]
+pub extern "C" fn icu_calendar_text_of_day(
+    calendar: u8,
+    day: i64,
+    room: &mut [u8],
+    written: &mut usize,
+) -> u8
+    ensures { WritesText calendar day result written.new room.old room.new }
+{
+    date_calls::text_of_day(calendar, day, room, written)
 }
