@@ -16,3 +16,4 @@ pub mod Yearly
 pub mod Recurrences
 pub mod Texts
 pub mod DayTexts
+pub mod laws
