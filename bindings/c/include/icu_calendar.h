@@ -113,7 +113,7 @@ enum {
     ICU_CALENDAR_INCONSISTENT_MONTH = 18,
     ICU_CALENDAR_INVALID_ORDINAL_MONTH = 19, /* max: how many months the year has */
     ICU_CALENDAR_INVALID_DAY = 20,           /* max: how many days the month has */
-    ICU_CALENDAR_INVALID_TEXT = 21           /* not a date of RFC 9557 */
+    ICU_CALENDAR_INVALID_TEXT = 21           /* not a date of RFC 9557, or no such text names the calendar */
 };
 
 /* What `calspan` returns: the exit status of the program, or CALSPAN_NO_ROOM. */
@@ -425,7 +425,7 @@ static inline const char *icu_calendar_code_text(uint8_t code) {
     case ICU_CALENDAR_INVALID_DAY:
         return "The month doesn't have the day.";
     case ICU_CALENDAR_INVALID_TEXT:
-        return "The text isn't a date such as 2024-03-01[u-ca=hebrew], or the date doesn't exist.";
+        return "The text isn't a date such as 2024-03-01[u-ca=hebrew], its date doesn't exist, or no text names the calendar.";
     default:
         return "No call returns this code.";
     }
