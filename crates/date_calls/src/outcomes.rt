@@ -29,7 +29,7 @@ pub const NO_ROOM: u8 = 8;
 /// The columns don't have the same length.
 pub(crate) const LENGTHS_DIFFER: u8 = 9;
 
-/// The text isn't a date of RFC 9557.
+/// The text isn't a date of RFC 9557, or no such text names the calendar.
 pub(crate) const INVALID_TEXT: u8 = 21;
 
 /// What a call returned: a code, and the greatest valid number, which is 0 if the code has none.
