@@ -15,3 +15,4 @@ pub mod Lists
 pub mod Yearly
 pub mod Recurrences
 pub mod Texts
+pub mod Rules
