@@ -1,7 +1,6 @@
 //! Recurrence rules of iCalendar (RFC 5545; RFC 7529), in a caller's column.
 
-ghost use Rattle.std.specs.Prelude.{◌≡◌, IsTrue};
-ghost use Rattle.cal_rrule.specs.NearDays.{IsNearList};
+ghost use Rattle.std.specs.Prelude.{◌≡◌};
 ghost use Rattle.cal_tables.specs.Kinds.{kind_system, table_contents};
 ghost use Rattle.date_calls.specs.Codes.{contents_of_code, kind_of_code};
 ghost use Rattle.recurrence_sets.specs.Occurrences.{IsOfSome};

@@ -3,7 +3,7 @@
 ghost use Rattle.std.specs.Prelude.{◌≡◌, length, MatchResult, ◌≢◌, MatchBool};
 ghost use Rattle.date_calls.specs.Calendars.{calendar_of};
 ghost use Rattle.date_calls.specs.Calls.{AddsIn, DiffersIn, IsLeft, IsLeftWith, NamesIn, ShowsDay, ShowsEra};
-ghost use Rattle.date_calls.specs.Codes.{overflow_of_code, strategy_of_code, unit_of_code};
+ghost use Rattle.date_calls.specs.Codes.{contents_of_code, kind_of_code, overflow_of_code, strategy_of_code, unit_of_code};
 ghost use Rattle.date_calls.specs.ColumnCalls.{AddEach, AddToEach, DifferEach, NameEach, ShowsDayAt};
 ghost use Rattle.date_calls.specs.Columns.{AreLeft, Fills};
 ghost use Rattle.date_calls.specs.Durations.{duration_given};
@@ -11,6 +11,7 @@ ghost use Rattle.date_calls.specs.Fields.{bag_given, month_of};
 ghost use Rattle.date_calls.specs.Lengths.{ShowsLengths};
 ghost use Rattle.date_calls.specs.Lists.{IsUnlisted};
 ghost use Rattle.date_calls.specs.Recurrences.{ListsOccurrences, rule_given};
+ghost use Rattle.date_calls.specs.Rules.{ListsRuleOver};
 ghost use Rattle.date_calls.specs.Texts.{ReadsText};
 ghost use Rattle.date_calls.specs.Yearly.{ListsYearly};
 ghost use Rattle.cal_days.specs.Day.{is_valid_day};
@@ -19,7 +20,7 @@ ghost use Rattle.date_calls.specs.Weeks.{IsWeekLeft, IsWeekTold, ShowsWeekAt};
 
 use date_calls::{
     CalendarDate, CalendarDuration, CalendarFields, CalendarLengths, CalendarOccurrence,
-    CalendarOutcome, CalendarWeek,
+    CalendarOutcome, CalendarRuleFault, CalendarWeek,
 };
 
 /// Converts a day number to a date of a calendar, in `date`.
@@ -490,4 +491,42 @@ pub extern "C" fn icu_calendar_day_of_text(text: &[u8], calendar: &mut u8, day: 
     ensures { ReadsText text.now result calendar.old calendar.new day.old day.new }
 {
     date_calls::day_of_text(text, calendar, day)
+}
+
+/// Lists the occurrences of a recurrence rule of iCalendar (RFC 5545, RRULE; RFC 7529) from `first` to `last`: `rule` is
+/// its text, such as `FREQ=MONTHLY;BYDAY=-1FR`, and `start` the day that it starts on. As many of them as `items` has
+/// places are written to its start, in order, and their number to `written`. An item's index is how many occurrences
+/// come before it from the start on, whatever the window is. The start is an occurrence only if the rule has it.
+///
+/// The list goes on from the day `next`: the same call with `next` in place of `first` writes the items that follow,
+/// with their indices. If `next` comes after `last`, none do. Each call counts from the start.
+///
+/// # Errors
+///
+/// The code is 0 if occurrences are listed. Otherwise `items` and `next` are unchanged, `written` is 0, and the code is
+/// the first of:
+///
+/// - 1 or 2 for an unknown calendar or an unknown source of years.
+/// - 4 if `start` isn't from -365242499 to 365242134.
+/// - 5 if a day of the window isn't from -365242499 to 365242134, or if `last` comes before `first`.
+/// - 22 if the text is no rule of the calendar. Then `fault` says why; otherwise it is unchanged.
+#[unsafe(no_mangle)]
+pub extern "C" fn icu_calendar_rule_days(
+    calendar: u8,
+    years: u8,
+    start: i64,
+    rule: &[u8],
+    first: i64,
+    last: i64,
+    items: &mut [CalendarOccurrence],
+    written: &mut usize,
+    next: &mut i64,
+    fault: &mut CalendarRuleFault,
+) -> u8
+    ensures { ListsRuleOver (kind_of_code calendar) (contents_of_code years) start rule.now first last result items.old
+        items.new written.new next.old next.new fault.old fault.new }
+{
+    date_calls::rule_days(
+        calendar, years, start, rule, first, last, items, written, next, fault,
+    )
 }
