@@ -72,7 +72,8 @@ items_before items xs = map occurrence_of items ++ xs
 -- behind them is there still
 pub record FillsRule (Is : ℤ → Type 0) (b : Bounds) (rest left : Option Window) (before now : List CalendarOccurrence)
     (written : ℕ) : Type 0 where
-  pub whole : (xs : List Occurrence) → sets.AreLeft Is b left xs → sets.AreLeft Is b rest (items_before (take written now) xs)
+  pub whole : (xs : List Occurrence) → sets.AreLeft Is b left xs →
+      sets.AreLeft Is b rest (items_before (take written now) xs)
   pub behind : drop written now ≡ drop written before
   pub fits : written ≤ length before
   pub complete : written < length before → left ≡ None
