@@ -1,11 +1,12 @@
 //! Values that come from outside, and codes of refusals.
 
 use crate::exports::{
-    icu_calendar_add, icu_calendar_anniversaries, icu_calendar_date_of_day,
-    icu_calendar_date_of_fields, icu_calendar_dates_of_days, icu_calendar_day_of_text,
-    icu_calendar_easter, icu_calendar_era_of_day, icu_calendar_lengths_of_day,
-    icu_calendar_recurrences, icu_calendar_rule_days, icu_calendar_until,
-    icu_calendar_week_of_year,
+    icu_calendar_add, icu_calendar_date_of_day, icu_calendar_date_of_fields, icu_calendar_easter,
+    icu_calendar_era_of_day, icu_calendar_rule_days, icu_calendar_until, icu_calendar_week_of_year,
+};
+use crate::more_exports::{
+    icu_calendar_anniversaries, icu_calendar_dates_of_days, icu_calendar_day_of_text,
+    icu_calendar_lengths_of_day, icu_calendar_recurrences,
 };
 use crate::program::calspan;
 use date_calls::{
