@@ -16,4 +16,5 @@ pub mod Yearly
 pub mod Recurrences
 pub mod Texts
 pub mod DayTexts
+pub mod Rules
 pub mod laws
