@@ -15,6 +15,7 @@ from typing import NamedTuple
 TOP = Path(__file__).resolve().parent.parent
 KIND_SOURCE = "crates/cal_kinds/src/any_calendar_kind.rt"
 CODE_SOURCE = "crates/date_calls/src/codes.rt"
+TEXT_SOURCE = "crates/date_calls/src/day_texts.rt"
 ALGORITHM_SOURCE = "crates/cal_errors/src/algorithm.rt"
 # The columns of a line of code in the files that have lists.
 MOST_COLUMNS = 140
@@ -278,6 +279,13 @@ def codes() -> list[str]:
     return [*differing(CODE_SOURCE, said, wanted), *differing(specs, defined, wanted)]
 
 
+def text_names() -> list[str]:
+    """What the texts of a calendar's dates name: CLDR's name or the program's; nothing for ISO, or if a part is too long for such a text."""
+    said = dict(re.findall(r'(\d+) => Ok\(b"\[u-ca=([^"]+)\]"\)', source(TEXT_SOURCE)))
+    named = {it.code: it.cldr or it.name for it in CODED if it.name != "iso"}
+    return differing(TEXT_SOURCE, said, {code: it for code, it in named.items() if max(map(len, it.split("-"))) <= 8})
+
+
 def cldr_names() -> list[str]:
     """CLDR's name of a kind: the text of the algorithm that is converted to it."""
     algorithm = r"(?:Hijri)?CalendarAlgorithm::(\w+)(?:\(Some\(HijriCalendarAlgorithm::(\w+)\)\))?"
@@ -331,7 +339,7 @@ def main(words: list[str]) -> int:
         for path, text in texts.items():
             (TOP / path).write_text(text)
         found = []
-    found += [*variants(), *program_names(), *codes(), *cldr_names(), *eras(), *constructors()]
+    found += [*variants(), *program_names(), *codes(), *text_names(), *cldr_names(), *eras(), *constructors()]
     for it in found:
         print(it, file=sys.stderr)
     return int(bool(found))

@@ -73,13 +73,13 @@ const CAUSES = new Map([
   [18, ["InconsistentMonth", "The month and its place in the year differ."]],
   [19, ["InvalidOrdinalMonth", "The year doesn't have a month in this place."]],
   [20, ["InvalidDay", "The month doesn't have the day."]],
+  [22, ["InvalidRule", "The text is no recurrence rule of the calendar."]],
   [101, ["InvalidWindow", "The window's days aren't valid days in order."]],
   [102, ["Every", "The number of units isn't from 1 to 4294967295."]],
-  [103, ["InvalidRule", "The text is no recurrence rule of the calendar."]],
   [104, ["InvalidRecord", "A record of the book is invalid."]],
 ]);
 
-/** What is wrong with a recurrence rule, by the program's names. @type {Readonly<Record<string, string>>} */
+/** What is wrong with a recurrence rule, by the program's names, in the order of the module's numbers. @type {Readonly<Record<string, string>>} */
 const RULE_CAUSES = Object.freeze({
   BadPart: "A part isn't NAME=VALUE.",
   UnknownPart: "There is no part of this name.",
@@ -96,6 +96,13 @@ const RULE_CAUSES = Object.freeze({
   SetPosAlone: "BYSETPOS needs another BY-part.",
   TooLong: "The rule is too long.",
 });
+const RULE_FAULTS = Object.keys(RULE_CAUSES);
+
+/** The parts of a recurrence rule, in the order of the module's numbers. */
+const RULE_PARTS = [
+  "FREQ", "UNTIL", "COUNT", "INTERVAL", "BYSECOND", "BYMINUTE", "BYHOUR", "BYDAY", "BYMONTHDAY", "BYYEARDAY", "BYWEEKNO", "BYMONTH", "BYSETPOS",
+  "WKST", "RSCALE", "SKIP",
+];
 
 /** A call failed: `cause` names the cause, and `max` is the greatest valid number, if there is one. */
 export class CalendarError extends RangeError {
@@ -114,7 +121,7 @@ export class CalendarError extends RangeError {
 export class RuleError extends CalendarError {
   /** @param {string} cause @param {string | null} [part] */
   constructor(cause, part = null) {
-    super(103);
+    super(22);
     this.name = "RuleError";
     this.cause = cause;
     this.part = part;
@@ -277,21 +284,22 @@ export class CalendarDate {
 }
 
 // Where values stand in the module's memory, from the start of the host's part of it on.
-const AT = { date: 0, fields: 32, duration: 64, max: 96, count: 104, week: 112, text: 128, code: 192, line: 256, output: 1024, known: 1536, words: 4608, list: 12800 };
+const AT = {
+  date: 0, fields: 32, duration: 64, max: 96, fault: 98, count: 104, week: 112, next: 120, text: 128, code: 192,
+  line: 256, output: 1024, known: 1536, rule: 4608, items: 12800,
+};
 // Texts that are put there once, each in a slot of its own, and how many.
 const SLOT = 24;
 const SLOTS = 128;
 // A character takes at most three bytes.
 const MOST_CHARACTERS = SLOT / 3;
-// The words of a list, and the lines that come back.
-const LONGEST_WORDS = AT.list - AT.words;
-// The module writes no longer list.
-const LIST_ROOM = 8192;
-const EXTENT = AT.list + LIST_ROOM;
-const NO_ROOM = 8;
-// The first window that a list is asked for, in days. Windows double as long as they have fewer lines than these.
-const FIRST_DAYS = 64;
-const MANY_LINES = 32;
+// The text of a rule, and the items that come back: few at first, and more at each call.
+const LONGEST_RULE = AT.items - AT.rule;
+const ITEM = 16;
+const FEW_ITEMS = 16;
+const MOST_ITEMS = 512;
+const EXTENT = AT.items + MOST_ITEMS * ITEM;
+const INVALID_RULE = 22;
 const DECODER = new TextDecoder();
 const ENCODER = new TextEncoder();
 // Why a year may lack a day that other years have.
@@ -457,11 +465,6 @@ export class Calendars {
     }
   }
 
-  /** Whether the module lists recurrence rules. */
-  get hasRules() {
-    return "calspan_list" in this.#calls;
-  }
-
   /**
    * Yields the occurrences from `first` to `last` of a recurrence rule of iCalendar (the value of RRULE in RFC 5545, with RSCALE and SKIP of RFC
    * 7529), counted in the calendar of a start, each with its index: how many come before it from the start on. The start is one of them only if the
@@ -472,42 +475,36 @@ export class Calendars {
    */
   *rrule(start, { rule, first = start.dayNumber, last = LAST_DAY }) {
     this.#window(first, last, start.calendar, start.years);
-    let days = FIRST_DAYS;
+    let most = FEW_ITEMS;
     for (let from = first; from <= last; ) {
-      const to = Math.min(from + days - 1, last);
-      const lines = this.#ruleLines(start, rule, from, to);
-      if (lines === null) {
-        days = Math.ceil(days / 2);
-        continue;
-      }
-      for (const line of lines) {
-        const [index, day] = [line.slice(0, line.indexOf(" ")), line.slice(line.lastIndexOf("@") + 1)];
-        yield { index: Number(index), date: this.dateOfDay(Number(day), start.calendar, start.years) };
-      }
-      from = to + 1;
-      if (lines.length < MANY_LINES) days *= 2;
+      const { items, next } = this.#ruleDays(start, rule, from, last, most);
+      for (const { index, day } of items) yield { index, date: this.dateOfDay(day, start.calendar, start.years) };
+      from = next;
+      most = Math.min(2 * most, MOST_ITEMS);
     }
   }
 
   /**
-   * Returns the program's lines of a rule in a window, or null if there is no room for them.
-   * @param {CalendarDate} start @param {string} rule @param {number} first @param {number} last
+   * Returns the first items of a rule in a window, at most so many, and the day from which the list goes on.
+   * @param {CalendarDate} start @param {string} rule @param {number} first @param {number} last @param {number} most
    */
-  #ruleLines({ calendar, years, dayNumber }, rule, first, last) {
-    // A rule without spaces is one word, and none is empty. Another text that is no rule, for the same reason, stands for one that is no word.
-    const word = rule.replaceAll(" ", "?") || ";";
-    const words = ENCODER.encode(`rrule ${calendar} iso ${first} ${last} ${dayNumber} ${word}`);
-    if (words.length > LONGEST_WORDS) throw new RuleError("TooLong");
-    this.#bytes.set(words, AT.words);
-    const { words: given, list, count } = this.#address;
-    const status = this.#calls.calspan_list(codeOf(YEARS, years, 2), given, BigInt(words.length), list, BigInt(LIST_ROOM), count);
-    if (status === NO_ROOM) return null;
-    const lines = this.#text(AT.list).split("\n").slice(0, -1);
-    if (status) {
-      const [, cause, part] = (lines[0] ?? "err BadPart").split(" ");
-      throw new RuleError(cause, part ?? null);
+  #ruleDays({ calendar, years, dayNumber }, rule, first, last, most) {
+    const [code, source] = [codeOf(CALENDAR_CODES, calendar, 1), codeOf(YEARS, years, 2)];
+    const text = ENCODER.encode(rule);
+    if (text.length > LONGEST_RULE) throw new RuleError("TooLong");
+    this.#bytes.set(text, AT.rule);
+    const { rule: given, items: room, count, next, fault } = this.#address;
+    const window = /** @type {const} */ ([BigInt(first), BigInt(last)]);
+    const answer = this.#calls.icu_calendar_rule_days(
+      code, source, BigInt(dayNumber), given, BigInt(text.length), ...window, room, BigInt(most), count, next, fault);
+    if (answer === INVALID_RULE) {
+      throw new RuleError(RULE_FAULTS[this.#bytes[AT.fault] - 1], RULE_PARTS[this.#bytes[AT.fault + 1] - 1]);
     }
-    return lines;
+    settle(answer);
+    const view = this.#view;
+    const places = Array.from({ length: Number(view.getBigUint64(AT.count, true)) }, (_, place) => AT.items + ITEM * place);
+    const items = places.map((place) => ({ day: Number(view.getBigInt64(place, true)), index: view.getUint32(place + 8, true) }));
+    return { items, next: Number(view.getBigInt64(AT.next, true)) };
   }
 
   /** The sum, null where it isn't there, or undefined where it is beyond what the calendars hold. */

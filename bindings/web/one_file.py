@@ -34,8 +34,9 @@ def packed(content: bytes) -> str:
 
 
 def script(name: str) -> str:
-    """A script without its imports and exports: all of them stand in one module."""
+    """A script without its imports, its exports and the lines of its comments: all of them stand in one module."""
     text = (WEB / name).read_text()
+    text = re.sub(r"^ *(?:/\*\*(?:(?!\*/).)*\*/|//[^\n]*)\n", "", text, flags=re.M | re.S)
     text = re.sub(r"^import .*?;\n", "", text, flags=re.M | re.S)
     return re.sub(r"^export ", "", text, flags=re.M)
 

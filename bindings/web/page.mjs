@@ -266,7 +266,7 @@ class Shown {
     element("recurrence-error").textContent = isValid ? "" : `Numbers are whole: from 1 to 9999 units, and from 1 to ${MOST_RECURRENCES} times.`;
     mark("rule-text", true);
     const rule = element("rule-text").value.trim().replace(/^RRULE:/i, "");
-    if (rule && this.calendars.hasRules) this.#byRule(date, rule, isCount ? count : 0);
+    if (rule) this.#byRule(date, rule, isCount ? count : 0);
     else this.#byForm(date, every, isValid ? count : 0);
   }
 
@@ -331,7 +331,6 @@ class Page {
     this.calendars = calendars;
     this.shown = new Shown(calendars, new Words(navigator.language || "en"));
     this.forms = ["first", "second"].map((side) => new DateForm(calendars, side));
-    element("rule").hidden = !calendars.hasRules;
     element("anniversary-calendar").append(...ORDER.map((it) => made("option", { value: it }, CALENDAR_NAMES[it])));
   }
 

@@ -1,4 +1,4 @@
-/* Lists from C, a few items at a time: birthdays, paydays, the lengths of months and years, and texts of dates. */
+/* Lists from C, a few items at a time: birthdays, paydays, recurrence rules; lengths of months and years, and texts of dates. */
 #include <inttypes.h>
 #include <stdio.h>
 #include <string.h>
@@ -52,6 +52,31 @@ static int show_recurrences(const char *title, uint8_t unit, uint32_t every, uin
     return 0;
 }
 
+/* Prints the occurrences of a recurrence rule, or why the text isn't one. */
+static int show_rule(uint8_t calendar, int64_t start, const char *rule, int64_t last) {
+    icu_calendar_occurrence items[COUNT + 1] = {0};
+    printf("%s:", rule);
+    for (int64_t next = start; next <= last; printf("%s", next <= last ? ";" : "\n")) {
+        size_t written;
+        icu_calendar_rule_fault fault = {0};
+        uint8_t code = icu_calendar_rule_days(calendar, ICU_CALENDAR_PUBLISHED, start, (const uint8_t *)rule, strlen(rule), next, last, items, COUNT,
+                                              &written, &next, &fault);
+        if (code == ICU_CALENDAR_INVALID_RULE) {
+            const char *part = icu_calendar_rule_part(fault.part);
+            printf(" %s%s%s\n", icu_calendar_rule_cause(fault.cause), part ? " " : "", part ? part : "");
+            return 0;
+        }
+        if (code || fault.cause || written > COUNT || items[COUNT].day) {
+            return 5;
+        }
+        for (size_t place = 0; place < written; place++) {
+            printf(" %" PRIu32, items[place].index);
+            print(items[place].day);
+        }
+    }
+    return 0;
+}
+
 static int show_lengths(uint8_t calendar, int64_t day) {
     icu_calendar_lengths lengths = {0};
     if (icu_calendar_lengths_of_day(calendar, ICU_CALENDAR_PUBLISHED, day, &lengths)) {
@@ -72,6 +97,14 @@ static void show_text(const char *text) {
     }
 }
 
+static void show_day(uint8_t calendar, int64_t day, size_t room_len) {
+    uint8_t room[43];
+    size_t written = 77;
+    memset(room, '.', sizeof room);
+    uint8_t code = icu_calendar_text_of_day(calendar, day, room, room_len, &written);
+    printf("%u: %zu bytes, %.*s\n", code, written, (int)sizeof room, (const char *)room);
+}
+
 /* Codes of calls that list nothing, and change nothing but the count. */
 static int show_refusals(void) {
     int64_t days[COUNT] = {7, 7}, next = 7;
@@ -81,10 +114,14 @@ static int show_refusals(void) {
            icu_calendar_anniversaries(ICU_CALENDAR_ISO, 0, 1, 0, 1, 0, LAST, FIRST, days, COUNT, &written, &next),
            icu_calendar_anniversaries(ICU_CALENDAR_ISO, 0, 1, 1, 1, 0, FIRST, LAST, days, COUNT, &written, &next),
            icu_calendar_anniversaries(ICU_CALENDAR_ISO, 0, 1, 0, 32, 0, FIRST, LAST, days, COUNT, &written, &next));
+    icu_calendar_rule_fault fault = {0};
+    const uint8_t rule[] = {'F'};
+    printf(" %u %u", icu_calendar_rule_days(ICU_CALENDAR_ISO, 0, FIRST, rule, 1, FIRST, LAST, items, COUNT, &written, &next, &fault),
+           icu_calendar_rule_days(ICU_CALENDAR_ISO, 0, FIRST, rule, 1, LAST, FIRST, items, COUNT, &written, &next, &fault));
     printf(" %u %u %u\n", icu_calendar_recurrences(ICU_CALENDAR_ISO, 0, FIRST, ICU_CALENDAR_UNIT_DEFAULT, 1, 0, FIRST, LAST, items, COUNT, &written, &next),
            icu_calendar_recurrences(ICU_CALENDAR_ISO, 0, FIRST, ICU_CALENDAR_DAYS, 0, 0, FIRST, LAST, items, COUNT, &written, &next),
            icu_calendar_recurrences(ICU_CALENDAR_ISO, 0, 365242135, ICU_CALENDAR_DAYS, 1, 0, FIRST, LAST, items, COUNT, &written, &next));
-    return written || next != 7 || days[0] != 7 || items[0].day != 7 ? 4 : 0;
+    return written || next != 7 || days[0] != 7 || items[0].day != 7 || fault.cause != 1 || fault.part ? 4 : 0;
 }
 
 int main(void) {
@@ -94,6 +131,10 @@ int main(void) {
     fault = fault ? fault : show_recurrences("month by month", ICU_CALENDAR_MONTHS, 1, ICU_CALENDAR_CONSTRAIN, 739037);
     fault = fault ? fault : show_recurrences("months with day 31", ICU_CALENDAR_MONTHS, 1, ICU_CALENDAR_OVERFLOW_DEFAULT, 739037);
     fault = fault ? fault : show_recurrences("every other week", ICU_CALENDAR_WEEKS, 2, ICU_CALENDAR_OVERFLOW_DEFAULT, 738960);
+    fault = fault ? fault : show_rule(ICU_CALENDAR_ISO, 729269, "FREQ=MONTHLY;BYDAY=FR;BYMONTHDAY=13", 730485);
+    fault = fault ? fault : show_rule(ICU_CALENDAR_CHINESE, 734909, "RSCALE=CHINESE;FREQ=YEARLY", 736002);
+    fault = fault ? fault : show_rule(ICU_CALENDAR_ISO, FIRST, "FREQ=MONTHLY;BYDAY=first", LAST);
+    fault = fault ? fault : show_rule(ICU_CALENDAR_ISO, FIRST, "FREQ=DAILY;COUNT=3;UNTIL=20240101", LAST);
     fault = fault ? fault : show_lengths(ICU_CALENDAR_ISO, 738945);
     fault = fault ? fault : show_lengths(ICU_CALENDAR_HEBREW, 738939);
     fault = fault ? fault : show_lengths(ICU_CALENDAR_CHINESE, 738926);
@@ -104,5 +145,15 @@ int main(void) {
     show_text("2024-03-01[u-ca=klingon]");
     show_text("2023-02-29[u-ca=hebrew]");
     show_text("");
+    show_day(ICU_CALENDAR_ISO, 738946, 43);
+    show_day(ICU_CALENDAR_HEBREW, 738946, 23);
+    show_day(ICU_CALENDAR_GREGORIAN, 4391371, 43);
+    show_day(ICU_CALENDAR_ISO, -366, 43);
+    show_day(ICU_CALENDAR_ISLAMIC_TYPE1_THURSDAY, 365242134, 42);
+    show_day(ICU_CALENDAR_HEBREW, 738946, 22);
+    show_day(ICU_CALENDAR_ISO, 738946, 0);
+    show_day(ICU_CALENDAR_ISLAMIC_SIMULATED, 738946, 43);
+    show_day(ICU_CALENDAR_ISO, -365242500, 43);
+    show_day(20, -365242500, 43);
     return fault ? fault : show_refusals();
 }

@@ -113,7 +113,8 @@ enum {
     ICU_CALENDAR_INCONSISTENT_MONTH = 18,
     ICU_CALENDAR_INVALID_ORDINAL_MONTH = 19, /* max: how many months the year has */
     ICU_CALENDAR_INVALID_DAY = 20,           /* max: how many days the month has */
-    ICU_CALENDAR_INVALID_TEXT = 21           /* not a date of RFC 9557 */
+    ICU_CALENDAR_INVALID_TEXT = 21,          /* not a date of RFC 9557, or no such text names the calendar */
+    ICU_CALENDAR_INVALID_RULE = 22           /* not a recurrence rule of the calendar */
 };
 
 /* What `calspan` returns: the exit status of the program, or CALSPAN_NO_ROOM. */
@@ -187,8 +188,14 @@ typedef struct {
 /* An occurrence of a recurrence. */
 typedef struct {
     int64_t day;    /* number */
-    uint32_t index; /* how many times the step was added to the start; 0 is the start itself */
+    uint32_t index; /* how many times the step was added to the start, or how many occurrences of a rule come before */
 } icu_calendar_occurrence;
+
+/* Why a text is no recurrence rule. */
+typedef struct {
+    uint8_t cause; /* from 1 to 13; `icu_calendar_rule_cause` has its name */
+    uint8_t part;  /* that it is about, from 1 to 16, or 0; `icu_calendar_rule_part` has its name */
+} icu_calendar_rule_fault;
 
 /* The layout of the structs, as the library reads them. */
 #if defined(__cplusplus) && __cplusplus >= 201103L
@@ -240,6 +247,9 @@ ICU_CALENDAR_ASSERT(sizeof(icu_calendar_lengths) == 4);
 ICU_CALENDAR_AT(icu_calendar_occurrence, day, 0);
 ICU_CALENDAR_AT(icu_calendar_occurrence, index, 8);
 ICU_CALENDAR_ASSERT(sizeof(icu_calendar_occurrence) == 16);
+ICU_CALENDAR_AT(icu_calendar_rule_fault, cause, 0);
+ICU_CALENDAR_AT(icu_calendar_rule_fault, part, 1);
+ICU_CALENDAR_ASSERT(sizeof(icu_calendar_rule_fault) == 2);
 
 /* Converts a day number to a date of a calendar. Fails with 1, 2 or 4, in this order. */
 uint8_t icu_calendar_date_of_day(uint8_t calendar, uint8_t years, int64_t day, icu_calendar_date *date);
@@ -270,6 +280,11 @@ uint8_t icu_calendar_era_of_day(uint8_t calendar, uint8_t years, int64_t day, ui
  * calendar that it names; without a name, ICU_CALENDAR_ISO. Names are CLDR's or those of `icu_calendar_name`. Fails with
  * 21 or, if no calendar has the name, with 1. */
 uint8_t icu_calendar_day_of_text(const uint8_t *text, size_t text_len, uint8_t *calendar, int64_t *day);
+
+/* Writes the text of a day's date (RFC 9557): at most 42 bytes, with no 0 behind them, which `icu_calendar_day_of_text`
+ * reads back. Fails with 1, 21 (ICU_CALENDAR_ISLAMIC_SIMULATED, which no text names) or 4, and 0 in `*written`; or with 8,
+ * and the number of bytes needed. */
+uint8_t icu_calendar_text_of_day(uint8_t calendar, int64_t day, uint8_t *room, size_t room_len, size_t *written);
 
 /* Finds how many days and months the year of a day number has, and how many days its month has. Fails with 1, 2 or 4. */
 uint8_t icu_calendar_lengths_of_day(uint8_t calendar, uint8_t years, int64_t day, icu_calendar_lengths *lengths);
@@ -303,6 +318,14 @@ uint8_t icu_calendar_anniversaries(uint8_t calendar, uint8_t years, uint8_t mont
 uint8_t icu_calendar_recurrences(uint8_t calendar, uint8_t years, int64_t start, uint8_t unit, uint32_t every,
                                  uint8_t overflow, int64_t first, int64_t last, icu_calendar_occurrence *items,
                                  size_t items_len, size_t *written, int64_t *next);
+
+/* The occurrences of a recurrence rule of iCalendar (RFC 5545, RRULE; RFC 7529), such as FREQ=MONTHLY;BYDAY=-1FR, that
+ * starts on a day, each with its index: how many come before it from the start on, whatever the window is. The start is
+ * one of them only if the rule has it. Each call counts from the start. Fails with 1, 2, 4, 5 or 22. With 22 `*fault`
+ * says why the text is no rule of the calendar; otherwise it is unchanged. */
+uint8_t icu_calendar_rule_days(uint8_t calendar, uint8_t years, int64_t start, const uint8_t *rule, size_t rule_len,
+                               int64_t first, int64_t last, icu_calendar_occurrence *items, size_t items_len,
+                               size_t *written, int64_t *next, icu_calendar_rule_fault *fault);
 
 /* Calls on columns. Each chooses the calendar once and does a call on one date at every place: `codes` or `outcomes`
  * has there what that call returns, and an output whose code isn't 0 is unchanged. So an invalid date changes no other
@@ -420,10 +443,31 @@ static inline const char *icu_calendar_code_text(uint8_t code) {
     case ICU_CALENDAR_INVALID_DAY:
         return "The month doesn't have the day.";
     case ICU_CALENDAR_INVALID_TEXT:
-        return "The text isn't a date such as 2024-03-01[u-ca=hebrew], or the date doesn't exist.";
+        return "The text isn't a date such as 2024-03-01[u-ca=hebrew], its date doesn't exist, or no text names the calendar.";
+    case ICU_CALENDAR_INVALID_RULE:
+        return "The text isn't a recurrence rule of the calendar.";
     default:
         return "No call returns this code.";
     }
+}
+
+/* Returns the name of a cause of `icu_calendar_rule_days`, such as "BadValue", or NULL for an unknown number. */
+static inline const char *icu_calendar_rule_cause(uint8_t cause) {
+    static const char *const names[] = {
+        "BadPart",         "UnknownPart",        "RepeatedPart", "TimeNotSupported", "BadValue",       "ValueOutOfRange",
+        "UnknownCalendar", "MismatchedCalendar", "MissingPart",  "CountWithUntil",   "PartNotAllowed", "OrdinalNotAllowed",
+        "SetPosAlone",
+    };
+    return 1 <= cause && cause <= sizeof names / sizeof *names ? names[cause - 1] : NULL;
+}
+
+/* Returns the name of a rule's part, such as "BYDAY", or NULL for 0 and for an unknown number. */
+static inline const char *icu_calendar_rule_part(uint8_t part) {
+    static const char *const names[] = {
+        "FREQ",       "UNTIL",     "COUNT",    "INTERVAL", "BYSECOND", "BYMINUTE", "BYHOUR", "BYDAY",
+        "BYMONTHDAY", "BYYEARDAY", "BYWEEKNO", "BYMONTH",  "BYSETPOS", "WKST",     "RSCALE", "SKIP",
+    };
+    return 1 <= part && part <= sizeof names / sizeof *names ? names[part - 1] : NULL;
 }
 
 #ifdef __cplusplus

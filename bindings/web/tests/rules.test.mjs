@@ -11,7 +11,6 @@ const top = new URL("../../../", import.meta.url);
 const module = process.env.ICU_CALENDAR_MODULE ?? fileURLToPath(new URL("bindings/web/icu_calendar.wasm", top));
 const calendars = await load(readFileSync(module));
 const cases = readFileSync(new URL("cases/rrule.jsonl", top), "utf8").trim().split("\n").map((line) => JSON.parse(line));
-const options = { skip: calendars.hasRules ? false : "the module lists no rules" };
 // 2024-01-01, a Monday.
 const START = 738886;
 
@@ -42,7 +41,7 @@ function testWindowAndRule(calendar, { rule, first, last }) {
   calendars.rrule(calendars.dateOfDay(last, calendar, "computed"), { rule, first: last, last }).next();
 }
 
-test("the lists of rrule are those of the cases", options, () => {
+test("the lists of rrule are those of the cases", () => {
   let count = 0;
   for (const { words, source, out, status } of cases) {
     const isGiven = !words.some((word) => /^(era|month-code)=$/.test(word));
@@ -54,7 +53,7 @@ test("the lists of rrule are those of the cases", options, () => {
   assert.ok(count > 500, `${count} cases`);
 });
 
-test("a rule over published years, one by one", options, () => {
+test("a rule over published years, one by one", () => {
   const start = calendars.dateOfDay(START, "chinese");
   const found = [];
   for (const { index, date } of calendars.rrule(start, { rule: "FREQ=YEARLY;BYMONTH=1;BYMONTHDAY=1" })) {
@@ -63,13 +62,13 @@ test("a rule over published years, one by one", options, () => {
   assert.deepEqual(found, ["0 2024-02-10", "1 2025-01-29", "2 2026-02-17"]);
 });
 
-test("long lists come in windows", options, () => {
+test("long lists come in parts", () => {
   const start = calendars.dateOfDay(START);
   assert.equal([...calendars.rrule(start, { rule: "FREQ=DAILY", last: START + 9999 })].length, 10_000);
   assert.equal([...calendars.rrule(start, { rule: "FREQ=DAILY;COUNT=700", last: START + 9999 })].length, 700);
 });
 
-test("a refusal names its cause and its part", options, () => {
+test("a refusal names its cause and its part", () => {
   const start = calendars.dateOfDay(START);
   for (const [rule, cause, part] of [["", "BadPart", null], ["FREQ=DAILY; COUNT=1", "UnknownPart", null], ["FREQ=HOURLY", "TimeNotSupported", "FREQ"]]) {
     assert.throws(() => calendars.rrule(start, { rule }).next(), { name: "RuleError", cause, part });

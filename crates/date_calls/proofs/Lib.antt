@@ -1,2 +1,4 @@
 pub mod ListLemmas
 pub mod TextLemmas
+pub mod DayTextLemmas
+pub mod RuleLemmas

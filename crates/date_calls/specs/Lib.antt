@@ -15,3 +15,6 @@ pub mod Lists
 pub mod Yearly
 pub mod Recurrences
 pub mod Texts
+pub mod DayTexts
+pub mod Rules
+pub mod laws

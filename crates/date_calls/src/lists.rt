@@ -53,7 +53,7 @@ fn fill_list<O: Copy, L: WindowList<O>>(list: &mut L, items: &mut [O]) -> usize
 }
 
 /// Returns the day on which the rest of a window begins, or the day after the last one.
-fn next_day(rest: Option<Window>, last: RataDie) -> i64
+pub(crate) fn next_day(rest: Option<Window>, last: RataDie) -> i64
     requires { IsValidDay last }
     ensures { result ≡ next_day last rest }
 {

@@ -29,8 +29,11 @@ pub const NO_ROOM: u8 = 8;
 /// The columns don't have the same length.
 pub(crate) const LENGTHS_DIFFER: u8 = 9;
 
-/// The text isn't a date of RFC 9557.
+/// The text isn't a date of RFC 9557, or no such text names the calendar.
 pub(crate) const INVALID_TEXT: u8 = 21;
+
+/// The text isn't a recurrence rule of the calendar.
+pub(crate) const INVALID_RULE: u8 = 22;
 
 /// What a call returned: a code, and the greatest valid number, which is 0 if the code has none.
 #[repr(C)]

@@ -23,7 +23,7 @@ use kind_calls::{CalendarTask, run_in_kind};
 pub struct CalendarOccurrence {
     /// The day number (rata die).
     pub day: i64,
-    /// How many times the step was added to the start: 0 is the start itself.
+    /// How many times the step was added to the start: 0 is the start itself. Of a rule, how many come before it.
     pub index: u32,
 }
 

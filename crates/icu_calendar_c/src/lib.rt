@@ -7,6 +7,7 @@
 
 mod exports;
 mod kept;
+mod more_exports;
 mod program;
 #[cfg(test)]
 mod tests;

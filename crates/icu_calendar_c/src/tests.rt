@@ -1,14 +1,17 @@
 //! Values that come from outside, and codes of refusals.
 
 use crate::exports::{
-    icu_calendar_add, icu_calendar_anniversaries, icu_calendar_date_of_day,
-    icu_calendar_date_of_fields, icu_calendar_dates_of_days, icu_calendar_day_of_text,
-    icu_calendar_easter, icu_calendar_era_of_day, icu_calendar_lengths_of_day,
-    icu_calendar_recurrences, icu_calendar_until, icu_calendar_week_of_year,
+    icu_calendar_add, icu_calendar_date_of_day, icu_calendar_date_of_fields, icu_calendar_easter,
+    icu_calendar_era_of_day, icu_calendar_rule_days, icu_calendar_until, icu_calendar_week_of_year,
+};
+use crate::more_exports::{
+    icu_calendar_anniversaries, icu_calendar_dates_of_days, icu_calendar_day_of_text,
+    icu_calendar_lengths_of_day, icu_calendar_recurrences, icu_calendar_text_of_day,
 };
 use crate::program::calspan;
 use date_calls::{
     CalendarDate, CalendarDuration, CalendarFields, CalendarLengths, CalendarOccurrence,
+    CalendarRuleFault,
 };
 
 const HEBREW: u8 = 7;
@@ -388,4 +391,135 @@ fn texts_name_days(rt: HostRuntime) {
     assert_eq!(rt; icu_calendar_day_of_text(text, &mut calendar, &mut day), 21);
     assert_eq!(rt; icu_calendar_day_of_text(b"", &mut calendar, &mut day), 21);
     assert!(rt; calendar == 15 && day == 1);
+}
+
+#[test]
+fn days_have_texts(rt: HostRuntime) {
+    let mut room = [7; 44];
+    let mut written = 77;
+    let code = icu_calendar_text_of_day(HEBREW, 738946, &mut room, &mut written);
+    assert!(rt; code == 0 && written == 23);
+    assert_eq!(rt; &room[..24], b"2024-03-01[u-ca=hebrew]\x07".as_slice());
+    let code = icu_calendar_text_of_day(ISO, -365242499, &mut room, &mut written);
+    assert!(rt; code == 0 && written == 13);
+    assert_eq!(rt; &room[..15], b"-999999-01-01ca".as_slice());
+    let code = icu_calendar_text_of_day(19, 365242134, &mut room, &mut written);
+    assert!(rt; code == 0 && written == 42);
+    let text = b"+999999-12-31[u-ca=islamic-type1-thursday]\x07";
+    assert_eq!(rt; &room[..43], text.as_slice());
+    let code = icu_calendar_text_of_day(ISO, 3652059, &mut room[..10], &mut written);
+    assert!(rt; code == 0 && written == 10);
+    assert_eq!(rt; &room[..13], b"9999-12-31-31".as_slice());
+    let code = icu_calendar_text_of_day(6, 3652060, &mut room[..26], &mut written);
+    assert!(rt; code == 8 && written == 27 && room[0] == b'9');
+    let code = icu_calendar_text_of_day(10, 365242135, &mut room, &mut written);
+    assert!(rt; code == 21 && written == 0);
+    let code = icu_calendar_text_of_day(ISO, 365242135, &mut room, &mut written);
+    assert!(rt; code == 4 && written == 0);
+    let code = icu_calendar_text_of_day(20, 365242135, &mut room, &mut written);
+    assert!(rt; code == 1 && written == 0 && room[0] == b'9');
+}
+
+#[test]
+fn rules_go_on(rt: HostRuntime) {
+    let none = CalendarOccurrence { day: 7, index: 7 };
+    let mut items = [none; 3];
+    let mut written = 7;
+    let mut next = 7;
+    let mut fault = CalendarRuleFault { cause: 7, part: 7 };
+    // Every Friday the 13th from 1997-09-02 on, as RFC 5545 lists them up to 2000.
+    let rule = b"FREQ=MONTHLY;BYDAY=FR;BYMONTHDAY=13";
+    let code = icu_calendar_rule_days(
+        ISO,
+        0,
+        729269,
+        rule,
+        729269,
+        730485,
+        &mut items,
+        &mut written,
+        &mut next,
+        &mut fault,
+    );
+    assert!(rt; code == 0 && written == 3 && next == 729707);
+    assert!(rt; items[0].day == 729433 && items[0].index == 0);
+    assert!(rt; items[1].day == 729461 && items[1].index == 1);
+    assert!(rt; items[2].day == 729706 && items[2].index == 2);
+    let code = icu_calendar_rule_days(
+        ISO,
+        0,
+        729269,
+        rule,
+        next,
+        730485,
+        &mut items,
+        &mut written,
+        &mut next,
+        &mut fault,
+    );
+    assert!(rt; code == 0 && written == 2 && next == 730486);
+    assert!(rt; items[0].day == 729979 && items[0].index == 3);
+    assert!(rt; items[1].day == 730406 && items[1].index == 4);
+    assert!(rt; items[2].day == 729706 && fault.cause == 7 && fault.part == 7);
+}
+
+#[test]
+fn texts_that_are_no_rules(rt: HostRuntime) {
+    let mut items = [CalendarOccurrence { day: 7, index: 7 }; 1];
+    let mut written = 7;
+    let mut next = 7;
+    let mut fault = CalendarRuleFault { cause: 7, part: 7 };
+    let code = icu_calendar_rule_days(
+        ISO,
+        0,
+        729269,
+        b"FREQ=MONTHLY;BYDAY=first",
+        729269,
+        730485,
+        &mut items,
+        &mut written,
+        &mut next,
+        &mut fault,
+    );
+    assert!(rt; code == 22 && written == 0 && next == 7 && items[0].day == 7);
+    assert!(rt; fault.cause == 5 && fault.part == 8);
+    let code = icu_calendar_rule_days(
+        ISO,
+        0,
+        729269,
+        b"",
+        730485,
+        729269,
+        &mut items,
+        &mut written,
+        &mut next,
+        &mut fault,
+    );
+    assert!(rt; code == 5 && fault.cause == 5);
+    let code = icu_calendar_rule_days(
+        ISO,
+        0,
+        365242135,
+        b"",
+        730485,
+        729269,
+        &mut items,
+        &mut written,
+        &mut next,
+        &mut fault,
+    );
+    assert!(rt; code == 4 && fault.cause == 5);
+    let code = icu_calendar_rule_days(
+        ISO,
+        2,
+        365242135,
+        b"",
+        730485,
+        729269,
+        &mut items,
+        &mut written,
+        &mut next,
+        &mut fault,
+    );
+    assert!(rt; code == 2 && written == 0);
 }
