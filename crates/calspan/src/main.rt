@@ -4,16 +4,14 @@
 //! above 1. `--help` and `--version` are answered there, too.
 #![tactic(auto)]
 
-mod line_count;
 mod usage;
 
 use byte_io::{StdSink, StdSource};
 use calspan_run::run_program;
-use line_count::LineCount;
 use std::env::Env;
 use std::process::ExitCode;
 use std::{env, io};
-use usage::{USAGE, answers, fault, told, why};
+use usage::{USAGE, fault, told, why, written};
 
 /// Returns the first word of the command line. It is empty if there is none, or if it has more than 16 bytes.
 fn first_word<'b>(rt: &HostRuntime, buffer: &'b mut [u8; 16]) -> &'b [u8] {
@@ -23,9 +21,8 @@ fn first_word<'b>(rt: &HostRuntime, buffer: &'b mut [u8; 16]) -> &'b [u8] {
     }
 }
 
-/// Says on standard error why a run ended with an exit code above 1, and if its input wasn't read to its end, how many
-/// lines are written.
-fn explain(rt: &HostRuntime, code: u8, first: &[u8], lines: u64) -> io::Result<()> {
+/// Says on standard error why a run ended with an exit code above 1.
+fn explain(rt: &HostRuntime, code: u8, first: &[u8]) -> io::Result<()> {
     if code == 2 {
         eprintln!(rt; "calspan: {}", fault(first))?;
         return eprint!(rt; "{USAGE}");
@@ -33,10 +30,7 @@ fn explain(rt: &HostRuntime, code: u8, first: &[u8], lines: u64) -> io::Result<(
     match why(code) {
         None => Ok(()),
         Some(why) if code == 3 || code == 7 => {
-            eprintln!(rt;
-                "calspan: {why}; {} {lines}; see the manual",
-                answers(first)
-            )
+            eprintln!(rt; "calspan: {why}; {}; see the manual", written(first))
         }
         Some(why) => eprintln!(rt; "calspan: {why}; see the manual"),
     }
@@ -52,9 +46,9 @@ fn main(rt: HostRuntime) -> ExitCode {
         };
     }
     let mut source = StdSource::new(rt.stdin());
-    let mut sink = LineCount::new(StdSink::new(rt.stdout()));
+    let mut sink = StdSink::new(rt.stdout());
     let code = run_program(rt.alloc(), env::args(&rt), &mut source, &mut sink);
-    match explain(&rt, code, first, sink.lines()) {
+    match explain(&rt, code, first) {
         Ok(()) => ExitCode::from(code),
         Err(_) => ExitCode::from(code), // standard error can't be written
     }

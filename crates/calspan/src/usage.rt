@@ -76,11 +76,14 @@ pub fn why(code: u8) -> Option<&'static str> {
     }
 }
 
-/// Returns what a run writes lines of, by its command.
-pub fn answers(first: &[u8]) -> &'static str {
-    if first == b"span".as_slice() || first == b"convert".as_slice() {
-        "answers written:"
+/// Returns what is written of a run that ended before its input did, by the command.
+pub fn written(first: &[u8]) -> &'static str {
+    if first == b"span".as_slice()
+        || first == b"convert".as_slice()
+        || first == b"explain".as_slice()
+    {
+        "the answers to the lines before are written"
     } else {
-        "lines written:"
+        "nothing is written"
     }
 }
