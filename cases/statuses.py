@@ -78,7 +78,7 @@ def says_why(run: Run) -> bool:
 
 
 def tells(word: str) -> bool:
-    """Whether the program answers a word about itself on standard error."""
+    """Whether the program answers `--help` and `--version` on standard error."""
     it = subprocess.run([PROGRAM, word], timeout=60, check=False, capture_output=True, stdin=subprocess.DEVNULL)
     if it.returncode == 0 and not it.stdout and it.stderr.startswith(TOLD[word]):
         return True

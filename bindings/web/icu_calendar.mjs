@@ -507,7 +507,7 @@ export class Calendars {
     return { items, next: Number(view.getBigInt64(AT.next, true)) };
   }
 
-  /** The sum, null where it isn't there, or undefined where it is beyond what the calendars hold. */
+  /** The sum, null if it doesn't exist, or undefined if it is beyond what the calendars hold. */
   #addedOrNull(start, duration, overflow) {
     try {
       return this.add(start, duration, overflow);

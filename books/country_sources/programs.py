@@ -104,7 +104,7 @@ def renamed_from(program: Program, year: int, names: dict[str, str]) -> Program:
 
 
 def moving(program: Program, names: set[str], moves: dict[int, int], since_year: int, until_year: int = 9999) -> Program:
-    """The days of a program, of which some move by the law off weekdays (0 is a Monday)."""
+    """The days of a program. The law moves some of them off certain weekdays (0 is a Monday)."""
 
     def moved(day: date, name: str) -> date:
         kept = name not in names or not since_year <= day.year <= until_year

@@ -22,7 +22,7 @@ use cal_days::RataDie;
 use cal_rule::Frequency;
 use recurrence_sets::PeriodDays;
 
-/// Returns the days that are kept of a year if BYWEEKNO isn't there.
+/// Returns the days that are kept of a year if the rule has no BYWEEKNO.
 fn named_block<C: Calendar>(
     calendar: &C,
     asked: &Asked,

@@ -91,7 +91,8 @@ fn rule_weekdays<C: Calendar>(calendar: &C, asked: &Asked, from: i64, weeks: u16
     days_of_weekdays(calendar, asked, &span_of_weeks(from, weeks))
 }
 
-/// Returns the days of BYDAY in so many weeks, or those with the start's weekday if BYDAY isn't there.
+/// Returns the days of BYDAY in so many weeks, or those with the start's weekday if the rule has no
+/// BYDAY.
 fn weekdays_of_weeks<C: Calendar>(calendar: &C, asked: &Asked, from: i64, weeks: u16) -> PeriodDays
     requires missing { AreMissing asked.now.rule asked.now.missing }
     requires valid { IsValidDay asked.now.day }

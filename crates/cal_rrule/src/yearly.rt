@@ -1,4 +1,4 @@
-//! The days that YEARLY keeps where BYWEEKNO isn't there.
+//! The days that YEARLY keeps if the rule has no BYWEEKNO.
 
 ghost use Rattle.std.specs.Prelude.{◌≡◌, ◌<◌, ◌*◌, IfSome, MatchOption};
 ghost use Rattle.cal_days.specs.Day.{IsValidDay};
