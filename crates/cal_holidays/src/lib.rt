@@ -64,7 +64,7 @@ mod unread;
 mod valid_days;
 mod weekdays;
 
-pub use book::{Book, BookError};
+pub use book::{Book, BookError, invalid_field};
 pub use book_holidays::{Holidays, holidays};
 pub use holiday_rule::{HolidayRule, SpanWeek};
 pub use merged::Holiday;
