@@ -2,6 +2,7 @@
 use Rattle.std.proofs.Common.{◌≡◌, ℕ, List, Option, Some, None, ◌↔◌, refl, subst, ◌∙◌}
 use Rattle.calspan_run.specs.Command.{Asked, Span, Generate, Anniversary, Recur, Rrule, Holidays, Convert, Explain}
 use Rattle.calspan_run.specs.CommandRuns.{Ends, Runs, RunsAs, ServesAs}
+use Rattle.calspan_run.specs.HolidayLines.{holidays_written}
 use Rattle.calspan_run.specs.Laws.{AreLasting}
 use Rattle.calspan_run.specs.ListTexts.{ListsAnniversaries, ListsOccurrences}
 use Rattle.calspan_run.specs.Rules.{end_rules, explain_rules, generator_rules, holiday_rules, list_rules, span_rules}
@@ -12,10 +13,10 @@ use Rattle.calspan_run.specs.Serving.{Rules, Serves}
 use Rattle.calspan_run.specs.declared.status.Status.{Status}
 use Rattle.calspan_run.specs.declared.status.Status.TheVariants.{Words}
 use Rattle.calspan_run.proofs.AnswerLemmas.{span_lasts}
+use Rattle.calspan_run.proofs.BookLemmas.{book_lasts}
 use Rattle.calspan_run.proofs.ConvertCommandLemmas.{stream_headline}
 use Rattle.calspan_run.proofs.ExplainLemmas.{explain_lasts}
 use Rattle.calspan_run.proofs.GeneratorLemmas.{generator_lasts}
-use Rattle.calspan_run.proofs.HolidayLemmas.{holidays_last}
 use Rattle.calspan_run.proofs.ListLemmas.{end_lasts, list_lasts}
 use Rattle.calspan_run.proofs.ServingLemmas.{headline}
 
@@ -29,7 +30,7 @@ runs_as (Generate count) status l l2 t t2 r r2 w w2 h = runs_by (generator_rules
 runs_as (Anniversary asked) status l l2 t t2 r r2 w w2 h = runs_by (list_rules (ListsAnniversaries asked)) (list_lasts (ListsAnniversaries asked)) status l l2 t t2 r r2 w w2 h
 runs_as (Recur asked) status l l2 t t2 r r2 w w2 h = runs_by (list_rules (ListsOccurrences asked)) (list_lasts (ListsOccurrences asked)) status l l2 t t2 r r2 w w2 h
 runs_as (Rrule asked) status l l2 t t2 r r2 w w2 h = runs_by (end_rules (EndsRule asked)) (end_lasts (EndsRule asked)) status l l2 t t2 r r2 w w2 h
-runs_as (Holidays asked) status l l2 t t2 r r2 w w2 h = runs_by (holiday_rules asked) (holidays_last asked) status l l2 t t2 r r2 w w2 h
+runs_as (Holidays asked) status l l2 t t2 r r2 w w2 h = runs_by (holiday_rules asked) (book_lasts (holidays_written asked)) status l l2 t t2 r r2 w w2 h
 runs_as (Convert asked) status l l2 t t2 r r2 w w2 h = record { streams = h; writes = stream_headline asked status l l2 t t2 r r2 w w2 h }
 runs_as Explain status l l2 t t2 r r2 w w2 h = runs_by explain_rules explain_lasts status l l2 t t2 r r2 w w2 h
 

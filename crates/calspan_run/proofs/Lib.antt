@@ -1,5 +1,6 @@
 mod AnswerLemmas
 mod BehindRowsLemmas
+mod BookLemmas
 mod BookRowLemmas
 mod CommandLemmas
 mod ConvertAnswerLemmas

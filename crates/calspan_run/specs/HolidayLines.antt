@@ -10,7 +10,8 @@ use Rattle.cal_types.specs.DayDates.{date_on}
 use Rattle.cal_tables.specs.Kinds.{TableContents}
 use Rattle.reply_texts.specs.DateTexts.{date_text}
 use Rattle.calspan_run.specs.Asked.{HolidaysAsked}
-use Rattle.calspan_run.specs.DayLines.{is_window}
+use Rattle.calspan_run.specs.Converted.{Answer}
+use Rattle.calspan_run.specs.DayLines.{is_refused, is_window, list_text}
 use Rattle.calspan_run.specs.TextSoFar.{lines_text}
 
 -- the holidays of records, or the number of the first record that is none and of its first bad field; the first record
@@ -47,3 +48,8 @@ abbrev pub holidays_answer : HolidaysAsked → TableContents → List ℕ → Re
 holidays_answer asked tables book =
     if is_window asked.first asked.last then holidays_by asked tables (book_read 1 (book_records book))
     else Err (codes "InvalidWindow")
+
+-- its text, and whether it is a refusal
+abbrev pub holidays_written : HolidaysAsked → TableContents → List ℕ → Answer
+holidays_written asked tables book =
+    (list_text (holidays_answer asked tables book), is_refused (holidays_answer asked tables book))

@@ -6,8 +6,8 @@ use Rattle.table_rows.specs.TableRows.{AreAccepted, TableRows, contents_of}
 use Rattle.calspan_run.specs.Asked.{HolidaysAsked}
 use Rattle.calspan_run.specs.BookRows.{HasBook}
 use Rattle.calspan_run.specs.DayLines.{is_refused, list_text}
-use Rattle.calspan_run.specs.HolidayLines.{holidays_answer}
-use Rattle.calspan_run.specs.Rules.{SaysHolidays, holiday_rules}
+use Rattle.calspan_run.specs.HolidayLines.{holidays_answer, holidays_written}
+use Rattle.calspan_run.specs.Rules.{SaysBook, holiday_rules}
 use Rattle.calspan_run.specs.Run.{Outside, Exchanged, limit}
 use Rattle.calspan_run.specs.Serving.{StoppedWriting}
 use Rattle.calspan_run.specs.declared.status.Status.{Status}
@@ -32,7 +32,7 @@ pub record RowsRefused (asked : HolidaysAsked) (old new : Outside) : Type 0 wher
   pub within : length bytes ≤ limit
   pub exchanged : Exchanged old new bytes text
   pub at_end : IsAtEnd new.left
-  pub says : SaysHolidays asked bytes true text TableRefused
+  pub says : SaysBook (holidays_written asked) bytes true text TableRefused
 
 -- what is so where a run of `holidays` ends with a status
 abbrev pub HolidayEnds : HolidaysAsked → Status → Outside → Outside → Type 0

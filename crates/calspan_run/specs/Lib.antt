@@ -2,6 +2,7 @@ pub mod Anniversaries
 pub mod Answers
 pub mod Asked
 pub mod BehindRows
+pub mod BookEndings
 pub mod BookRows
 pub mod BooksRead
 pub mod Command
@@ -20,7 +21,6 @@ pub mod Explained
 pub mod Explaining
 pub mod Generator
 pub mod Heading
-pub mod HolidayEndings
 pub mod HolidayLines
 pub mod HolidayRuns
 pub mod Laws
@@ -28,6 +28,7 @@ pub mod ListAnswers
 pub mod ListEnds
 pub mod ListTexts
 pub mod Progress
+pub mod RecordsExplained
 pub mod Recurrences
 pub mod Refusals
 pub mod Replies

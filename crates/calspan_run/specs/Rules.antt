@@ -5,11 +5,12 @@ use Rattle.byte_io.specs.Lines.{lines_in}
 use Rattle.calspan_run.specs.Asked.{HolidaysAsked}
 use Rattle.calspan_run.specs.BehindRows.{Behind, OverTables, SaysBehindRows}
 use Rattle.calspan_run.specs.BookRows.{behind_lines}
-use Rattle.calspan_run.specs.DayLines.{is_refused, list_text}
+use Rattle.calspan_run.specs.Converted.{Answer}
 use Rattle.calspan_run.specs.Explained.{any_malformed, explained}
 use Rattle.calspan_run.specs.Generator.{IsGenerated}
-use Rattle.calspan_run.specs.HolidayLines.{holidays_answer}
+use Rattle.calspan_run.specs.HolidayLines.{holidays_written}
 use Rattle.calspan_run.specs.ListAnswers.{end_behind, list_end}
+use Rattle.calspan_run.specs.RecordsExplained.{book_explained}
 use Rattle.calspan_run.specs.Refusals.{status_of}
 use Rattle.table_rows.specs.RowLines.{RowTakesMemory}
 use Rattle.calspan_run.specs.Serving.{Rules}
@@ -58,31 +59,40 @@ generator_rules count = record {
   KeepsInput = ⊥;
 }
 
--- over some tables the list of a book is written, or the line that refuses it
-abbrev pub book_end : HolidaysAsked → List ℕ → TableContents → List ℕ → Status → Type 0
-book_end asked book tables text status =
-    (text ≡ list_text (holidays_answer asked tables book))
-    × (status ≡ status_of (is_refused (holidays_answer asked tables book)))
+-- what is written for a book over some tables, and whether the run ends as refused
+abbrev pub BookText : Type 0
+BookText = TableContents → List ℕ → Answer
+
+abbrev pub book_end : BookText → List ℕ → TableContents → List ℕ → Status → Type 0
+book_end written book tables text status = (text ≡ (written tables book).0) × (status ≡ status_of (written tables book).1)
 
 -- the book of an input begins with the first line that is neither ignored nor a row line, and is read over the tables
-abbrev pub holiday_behind : HolidaysAsked → List ℕ → Behind
-holiday_behind asked bytes = record {
-  AtEnd = book_end asked [];
+abbrev pub book_behind : BookText → List ℕ → Behind
+book_behind written bytes = record {
+  AtEnd = book_end written [];
   AtLine = λ rows n request others text status.
-      OverTables (book_end asked (behind_lines (n - 1) bytes)) rows text status;
+      OverTables (book_end written (behind_lines (n - 1) bytes)) rows text status;
 }
 
--- the text of `holidays`: nothing before the whole input was read, and then the list or the line that refuses it, a row
--- or a table
-abbrev pub SaysHolidays : HolidaysAsked → List ℕ → Bool → List ℕ → Status → Type 0
-SaysHolidays asked bytes false text status = (text ≡ []) × (status ≡ Done)
-SaysHolidays asked bytes true text status = SaysBehindRows (holiday_behind asked bytes) bytes true text status
+-- what is written for rows and a book: nothing before the whole input was read, and then the text of the book, or the
+-- line that refuses a row or a table
+abbrev pub SaysBook : BookText → List ℕ → Bool → List ℕ → Status → Type 0
+SaysBook written bytes false text status = (text ≡ []) × (status ≡ Done)
+SaysBook written bytes true text status = SaysBehindRows (book_behind written bytes) bytes true text status
 
--- `holidays`: the input is rows and a book as a whole, and no line ends the run
-abbrev pub holiday_rules : HolidaysAsked → Rules
-holiday_rules asked = record {
-  Says = SaysHolidays asked;
+-- the input is rows and a book as a whole, and no line ends the run
+abbrev pub book_rules : BookText → Rules
+book_rules written = record {
+  Says = SaysBook written;
   EndsAtLine = λ status. ⊥;
   MayLack = λ bytes whole. 0 < length bytes;
   KeepsInput = Unit {0};
 }
+
+-- `holidays`: the list of a book, or the line that refuses it
+abbrev pub holiday_rules : HolidaysAsked → Rules
+holiday_rules asked = book_rules (holidays_written asked)
+
+-- `explain holidays`: the lines about the invalid records of a book
+abbrev pub record_rules : Rules
+record_rules = book_rules book_explained

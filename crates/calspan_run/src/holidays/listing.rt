@@ -1,36 +1,31 @@
 //! Running `holidays`.
-ghost use Rattle.std.specs.Prelude.{◌≡◌, ◌<◌, ◌⊎◌, codes, length, true, Err};
+ghost use Rattle.std.specs.Prelude.{◌≡◌, ◌<◌, codes, length, true, Err};
 ghost use Rattle.calspan_run.specs.CommandSaid.{holidays_said};
 ghost use Rattle.calspan_run.specs.DayLines.{is_window, list_text};
 ghost use Rattle.calspan_run.specs.Endings.{EndsWith};
-ghost use Rattle.calspan_run.specs.HolidayEndings.{EndsHolidays, EndsInput, EndsOverRows, LacksMemory};
 ghost use Rattle.cal_tables.specs.Kinds.{table_contents};
-ghost use Rattle.table_rows.specs.RowsSaid.{rows_said};
-ghost use Rattle.calspan_run.specs.HolidayLines.{holiday_line, record_fault};
+ghost use Rattle.calspan_run.specs.BookEndings.{EndsBook};
+ghost use Rattle.calspan_run.specs.HolidayLines.{holiday_line, holidays_written, record_fault};
 ghost use Rattle.calspan_run.specs.TextSoFar.{lines_text};
 ghost use Rattle.calspan_run.specs.Written.{Wrote};
 ghost use Rattle.byte_io.specs.Faults.{HasCause};
 ghost use Rattle.cal_holidays.specs.BookNames.{holidays_in};
 ghost use Rattle.cal_holidays.specs.Books.{named_rules};
-ghost use Rattle.calspan_run.specs.Rules.{holiday_rules};
-ghost use Rattle.calspan_run.specs.Run.{outside};
-ghost use Rattle.calspan_run.specs.Serving.{Serves};
 ghost use Rattle.calspan_run.specs.declared.status.Status.{Status};
 
 use crate::day_lines::window_of;
-use crate::endings::{end_with, refuse_row, refuse_table};
+use crate::books::BookTask;
+use crate::endings::end_with;
 use crate::holidays::book_lines::BookLines;
-use crate::holidays::book_rows::{RowsBefore, read_rows_before};
 use crate::holidays::words::HolidayWords;
 use crate::status::Status;
 use crate::writer::write_lines;
-use byte_io::{Failed, LIMIT, ReadAllError, Sink, Source, read_all};
+use byte_io::{Failed, Sink};
 use cal_holidays::{Book, BookError, holidays};
 use cal_tables::Tables;
 use cal_types::Window;
 use reply_texts::{Pending, push_all, push_number};
 use std::alloc::Global;
-use table_rows::TableRows;
 
 /// Writes the `err` line for an invalid window.
 fn refuse_window<K: Sink>(sink: &mut K) -> Status
@@ -85,8 +80,8 @@ fn list_window<K: Sink>(
 ) -> Status
     requires window { is_window window.first window.last ≡ true }
     requires some { 0 < length bytes.now }
-    ensures { EndsHolidays (record { first = window.first; last = window.last }) (table_contents tables.now) result
-        bytes.now (K.taken sink.old) (K.taken sink.new) (K.faults sink.old) (K.faults sink.new) }
+    ensures { EndsBook (holidays_written (record { first = window.first; last = window.last }))
+        (table_contents tables.now) result bytes.now (K.taken sink.old) (K.taken sink.new) (K.faults sink.old) (K.faults sink.new) }
 {
     let book = match Book::try_read(alloc, bytes) {
         Ok(book) => book,
@@ -107,7 +102,7 @@ fn list_book<K: Sink>(
     bytes: &[u8],
     sink: &mut K,
 ) -> Status
-    ensures { EndsHolidays (holidays_said words) (table_contents tables.now) result bytes.now
+    ensures { EndsBook (holidays_written (holidays_said words)) (table_contents tables.now) result bytes.now
         (K.taken sink.old) (K.taken sink.new) (K.faults sink.old) (K.faults sink.new) }
 {
     let Some(window) = window_of(words.first, words.last) else {
@@ -119,54 +114,16 @@ fn list_book<K: Sink>(
     list_window(alloc, window, tables, bytes, sink)
 }
 
-/// Writes the holidays of a book over the tables of the rows, or the line for an invalid table.
-fn list_over_rows<K: Sink>(
-    alloc: Global,
-    words: HolidayWords,
-    rows: &TableRows,
-    book: &[u8],
-    sink: &mut K,
-) -> Status
-    ensures { EndsOverRows (holidays_said words) (rows_said rows.now) result book.now (K.taken sink.old)
-        (K.taken sink.new) (K.faults sink.old) (K.faults sink.new)
-        ⊎ LacksMemory result book.now (K.taken sink.old) (K.taken sink.new) }
-{
-    match rows.tables() {
-        Ok(tables) => list_book(alloc, words, &tables, book, sink),
-        Err(refusal) => refuse_table(refusal, sink),
-    }
-}
+impl BookTask for HolidayWords {
+    ghost written = { λ words. holidays_written (holidays_said words) };
 
-/// Reads the rows and the book of an input and writes its holidays, or the line for the first thing that is invalid.
-fn list_input<K: Sink>(alloc: Global, words: HolidayWords, bytes: &[u8], sink: &mut K) -> Status
-    ensures { EndsInput (holidays_said words) result bytes.now (K.taken sink.old) (K.taken sink.new)
-        (K.faults sink.old) (K.faults sink.new)
-        ⊎ LacksMemory result bytes.now (K.taken sink.old) (K.taken sink.new) }
-{
-    match read_rows_before(alloc, bytes) {
-        RowsBefore::Read(rows, book) => list_over_rows(alloc, words, &rows, book, sink),
-        RowsBefore::Refused(number, why) => refuse_row(number, why, sink),
-        RowsBefore::NoMemory => Status::NoMemory,
-    }
-}
-
-/// Runs `holidays`. Reads row lines and the book behind them to the end of the source, and writes a line for each of
-/// its holidays in the window, over the tables of the rows. Writes one line instead if a row or a table is invalid, or
-/// else one `err` line if the window or a record is.
-pub(crate) fn serve_holidays<S: Source, K: Sink>(
-    alloc: Global,
-    words: HolidayWords,
-    source: &mut S,
-    sink: &mut K,
-) -> Status
-    ensures { Serves (holiday_rules (holidays_said words)) result
-        (outside (S.left source.old) (K.taken sink.old) (S.faults source.old) (K.faults sink.old))
-        (outside (S.left source.new) (K.taken sink.new) (S.faults source.new) (K.faults sink.new)) }
-{
-    match read_all(alloc, source, LIMIT) {
-        Ok(bytes) => list_input(alloc, words, &bytes, sink),
-        Err(ReadAllError::Fault) => Status::ReadFault,
-        Err(ReadAllError::TooLong) => Status::TooLong,
-        Err(ReadAllError::NoMemory) => Status::NoMemory,
+    fn write_book<K: Sink>(
+        &self,
+        alloc: Global,
+        tables: &Tables<'_>,
+        book: &[u8],
+        sink: &mut K,
+    ) -> Status {
+        list_book(alloc, *self, tables, book, sink)
     }
 }
