@@ -14,6 +14,6 @@ mod NumberLemmas
 mod ObservedLemmas
 mod OwnDayLemmas
 mod PairLemmas
-mod RecordLemmas
+pub mod RecordLemmas
 mod SplitLemmas
 pub mod YieldLemmas
