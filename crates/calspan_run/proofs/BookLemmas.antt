@@ -46,6 +46,19 @@ use Rattle.calspan_run.specs.declared.status.Status.TheVariants.{Done, Refused, 
 use Rattle.calspan_run.proofs.EndLemmas.{ends_serve}
 use Rattle.calspan_run.proofs.KnownLemmas.{appends_none}
 
+-- an empty text has no records
+pub no_records : book_records [] ≡ []
+unfolding next_record records_from strip_bom
+no_records = refl
+
+pub empty_bytes : (bytes : List ℕ) → true ≡ (length bytes == 0) → bytes ≡ []
+empty_bytes [] e = refl
+empty_bytes (b ∷ bytes) e =
+    ⊎_elim {C = b ∷ bytes ≡ []}
+    (λ none. absurd (omega (arith, none.1)))
+    (λ some. absurd (false≢true (sym some.0 ∙ sym e)))
+    (eqb_tells (length (b ∷ bytes)) 0)
+
 -- what is said of rows and a book lasts, and there is one text and one status
 pub book_lasts : (written : BookText) → AreLasting (book_rules written)
 book_lasts written = record {

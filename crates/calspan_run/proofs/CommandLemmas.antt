@@ -1,11 +1,12 @@
 -- A run of any command: what it says lasts, so that all of its text is written.
 use Rattle.std.proofs.Common.{◌≡◌, ℕ, List, Option, Some, None, ◌↔◌, refl, subst, ◌∙◌}
-use Rattle.calspan_run.specs.Command.{Asked, Span, Generate, Anniversary, Recur, Rrule, Holidays, Convert, Explain}
+use Rattle.calspan_run.specs.Command.{Asked, Span, Generate, Anniversary, Recur, Rrule, Holidays, Convert, Explain, ExplainHolidays}
 use Rattle.calspan_run.specs.CommandRuns.{Ends, Runs, RunsAs, ServesAs}
 use Rattle.calspan_run.specs.HolidayLines.{holidays_written}
 use Rattle.calspan_run.specs.Laws.{AreLasting}
 use Rattle.calspan_run.specs.ListTexts.{ListsAnniversaries, ListsOccurrences}
-use Rattle.calspan_run.specs.Rules.{end_rules, explain_rules, generator_rules, holiday_rules, list_rules, span_rules}
+use Rattle.calspan_run.specs.RecordsExplained.{book_explained}
+use Rattle.calspan_run.specs.Rules.{end_rules, explain_rules, generator_rules, holiday_rules, list_rules, record_rules, span_rules}
 use Rattle.calspan_run.specs.RuleLists.{EndsRule}
 use Rattle.calspan_run.specs.Run.{Outside, outside}
 use Rattle.calspan_run.specs.Streaming.{Streams, convert_rules}
@@ -33,6 +34,7 @@ runs_as (Rrule asked) status l l2 t t2 r r2 w w2 h = runs_by (end_rules (EndsRul
 runs_as (Holidays asked) status l l2 t t2 r r2 w w2 h = runs_by (holiday_rules asked) (book_lasts (holidays_written asked)) status l l2 t t2 r r2 w w2 h
 runs_as (Convert asked) status l l2 t t2 r r2 w w2 h = record { streams = h; writes = stream_headline asked status l l2 t t2 r r2 w w2 h }
 runs_as Explain status l l2 t t2 r r2 w w2 h = runs_by explain_rules explain_lasts status l l2 t t2 r r2 w w2 h
+runs_as ExplainHolidays status l l2 t t2 r r2 w w2 h = runs_by record_rules (book_lasts book_explained) status l l2 t t2 r r2 w w2 h
 
 pub command_ends : (asked : Asked) (o : Option Asked) → Some asked ≡ o → (status : Status) (l l2 t t2 : Option (List ℕ)) (r r2 w w2 : ℕ) → ServesAs asked status (outside l t r w) (outside l2 t2 r2 w2) → Ends o status (outside l t r w) (outside l2 t2 r2 w2)
 command_ends asked o said status l l2 t t2 r r2 w w2 h =
@@ -51,6 +53,7 @@ not_words (Rrule asked) status old new h e = no_words (end_rules (EndsRule asked
 not_words (Holidays asked) status old new h e = no_words (holiday_rules asked) status old new h.serves e
 not_words (Convert asked) status old new h e = subst (λ (s : Status). Streams (convert_rules asked) s old new) e h.streams
 not_words Explain status old new h e = no_words explain_rules status old new h.serves e
+not_words ExplainHolidays status old new h e = no_words record_rules status old new h.serves e
 
 -- a run ends as one of other words exactly where there is no command
 pub words_told : (o : Option Asked) (status : Status) (old new : Outside) → Ends o status old new → (status ≡ Words) ↔ (o ≡ None)

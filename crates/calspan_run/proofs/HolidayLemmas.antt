@@ -43,6 +43,7 @@ use Rattle.calspan_run.specs.Serving.{Serves, WantedMemory}
 use Rattle.calspan_run.specs.TextSoFar.{lines_text}
 use Rattle.calspan_run.specs.declared.status.Status.{Status}
 use Rattle.calspan_run.specs.declared.status.Status.TheVariants.{Done, Refused, Words, ReadFault, WriteFault, NoMemory, TableRefused, TooLong}
+use Rattle.calspan_run.proofs.BookLemmas.{no_records}
 use Rattle.calspan_run.proofs.EndLemmas.{ends_serve}
 use Rattle.calspan_run.proofs.KnownLemmas.{appends_none}
 
@@ -105,19 +106,6 @@ pub record_refused : (asked : HolidaysAsked) (tables : TableContents) (bytes : L
 record_refused asked tables bytes result before now faults more number field shown shown_field e window fault is same same_field ends =
     let first = answer_is_record asked tables bytes number field window (subst (IsBookFault (book_records bytes)) is fault) in
     ends_with_answer asked tables bytes result before now faults more (Err (record_fault shown shown_field)) (first ∙ ap₂ (λ (n f : ℕ). Err (record_fault n f)) (sym same) (sym same_field)) ends
-
--- an empty text has no records
-no_records : book_records [] ≡ []
-unfolding next_record records_from strip_bom
-no_records = refl
-
-pub empty_bytes : (bytes : List ℕ) → true ≡ (length bytes == 0) → bytes ≡ []
-empty_bytes [] e = refl
-empty_bytes (b ∷ bytes) e =
-    ⊎_elim {C = b ∷ bytes ≡ []}
-    (λ none. absurd (omega (arith, none.1)))
-    (λ some. absurd (false≢true (sym some.0 ∙ sym e)))
-    (eqb_tells (length (b ∷ bytes)) 0)
 
 -- no rule names a day
 no_pairs : (n : ℤ) (days : ℕ) → pairs_in 0 n days ≡ []

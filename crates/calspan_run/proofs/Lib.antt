@@ -23,6 +23,7 @@ mod ListRunLemmas
 mod ListTextLemmas
 mod ListYieldLemmas
 mod ProgramLemmas
+mod RecordLineLemmas
 mod RuleListLemmas
 mod RuleYieldLemmas
 mod SameDayLemmas

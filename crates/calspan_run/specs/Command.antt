@@ -9,7 +9,7 @@ use Rattle.calspan_run.specs.RruleAsked.{RruleAsked, rrule_of}
 use Rattle.calspan_run.specs.Asked.{AnniversaryAsked, HolidaysAsked, RecurAsked, anniversary_read, holidays_read, recur_of}
 
 -- answers to the lines of an input, counts and sums over the answers to so many requests, a list, dates in a second
--- calendar, or the first bad word of each line
+-- calendar, the first bad word of each line, or the first invalid field of each record
 pub data Asked : Type 0 where
   Span : Asked
   Generate : ℕ → Asked
@@ -19,6 +19,7 @@ pub data Asked : Type 0 where
   Holidays : HolidaysAsked → Asked
   Convert : ConvertAsked → Asked
   Explain : Asked
+  ExplainHolidays : Asked
 
 -- a number of requests
 abbrev pub few_requests : ℕ → Option ℕ
@@ -46,6 +47,10 @@ holidays_of words = and_then (holidays_read words) (λ asked words. at_end (Holi
 abbrev pub convert_of : List (List ℕ) → Option Asked
 convert_of words = and_then (convert_read words) (λ asked words. at_end (Convert asked) words)
 
+abbrev pub explain_of : List (List ℕ) → Option Asked
+explain_of [] = Some Explain
+explain_of (word ∷ words) = if is_text word (codes "holidays") then at_end ExplainHolidays words else None
+
 abbrev pub named_of : List ℕ → List (List ℕ) → Option Asked
 named_of name words =
     if is_text name (codes "span") then at_end Span words
@@ -55,9 +60,10 @@ named_of name words =
     else (if is_text name (codes "rrule") then option_map Rrule (rrule_of words)
     else (if is_text name (codes "holidays") then holidays_of words
     else (if is_text name (codes "convert") then convert_of words
-    else (if is_text name (codes "explain") then at_end Explain words else None)))))))
+    else (if is_text name (codes "explain") then explain_of words else None)))))))
 
--- the word `span` or `explain` alone; the word `gen` and a number of requests; or the name of a list and its words
+-- the word `span` alone; the word `gen` and a number of requests; the word `explain`, alone or with the word `holidays`;
+-- or the name of a list and its words
 abbrev pub command_of : List (List ℕ) → Option Asked
 command_of [] = None
 command_of (name ∷ words) = named_of name words
@@ -72,3 +78,4 @@ is_command (Rrule asked) = ⊤
 is_command (Holidays asked) = ⊤
 is_command (Convert asked) = ⊤
 is_command Explain = ⊤
+is_command ExplainHolidays = ⊤

@@ -1,8 +1,8 @@
 -- How a run of any command ends, and how the program does.
 use Rattle.std.specs.Prelude.{◌≡◌, ◌≢◌, ◌≤◌, ℕ, true, List, ◌⊎◌, Option, Some, None, IfSome, length}
-use Rattle.calspan_run.specs.Command.{Asked, Span, Generate, Anniversary, Recur, Rrule, Holidays, Convert, Explain, command_of}
+use Rattle.calspan_run.specs.Command.{Asked, Span, Generate, Anniversary, Recur, Rrule, Holidays, Convert, Explain, ExplainHolidays, command_of}
 use Rattle.calspan_run.specs.ListTexts.{ListsAnniversaries, ListsOccurrences}
-use Rattle.calspan_run.specs.Rules.{end_rules, explain_rules, generator_rules, holiday_rules, list_rules, span_rules}
+use Rattle.calspan_run.specs.Rules.{end_rules, explain_rules, generator_rules, holiday_rules, list_rules, record_rules, span_rules}
 use Rattle.calspan_run.specs.RuleLists.{EndsRule}
 use Rattle.calspan_run.specs.Run.{Outside, NoFault, limit}
 use Rattle.calspan_run.specs.Serving.{IsAnswered, Rules, Serves}
@@ -21,6 +21,7 @@ ServesAs (Rrule asked) status old new = Serves (end_rules (EndsRule asked)) stat
 ServesAs (Holidays asked) status old new = Serves (holiday_rules asked) status old new
 ServesAs (Convert asked) status old new = Streams (convert_rules asked) status old new
 ServesAs Explain status old new = Serves explain_rules status old new
+ServesAs ExplainHolidays status old new = Serves record_rules status old new
 
 -- how a run ended, and what it took and wrote; and over every input within the limit, with no fault and with memory,
 -- all of its text is written
@@ -40,6 +41,7 @@ RunsAs (Rrule asked) status old new = Runs (end_rules (EndsRule asked)) status o
 RunsAs (Holidays asked) status old new = Runs (holiday_rules asked) status old new
 RunsAs (Convert asked) status old new = RunsStream (convert_rules asked) status old new
 RunsAs Explain status old new = Runs explain_rules status old new
+RunsAs ExplainHolidays status old new = Runs record_rules status old new
 
 -- the command ran; or there is none, and nothing was read or written
 abbrev pub Ends : Option Asked → Status → Outside → Outside → Type 0

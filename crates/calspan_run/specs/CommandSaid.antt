@@ -10,7 +10,7 @@ use Rattle.calspan_run.specs.declared.holidays.words.HolidayWords.{HolidayWords}
 use Rattle.calspan_run.specs.declared.recur.words.RecurHeader.{RecurHeader}
 use Rattle.calspan_run.specs.declared.recur.words.RecurWords.{RecurWords}
 use Rattle.calspan_run.specs.declared.command.Command.{Command}
-use Rattle.calspan_run.specs.declared.command.Command.TheVariants.{Span, Generate, Anniversary, Recur, Rrule, Holidays, Convert, Explain}
+use Rattle.calspan_run.specs.declared.command.Command.TheVariants.{Span, Generate, Anniversary, Recur, Rrule, Holidays, Convert, Explain, ExplainHolidays}
 
 abbrev pub anniversary_said : AnniversaryWords → asked.AnniversaryAsked
 anniversary_said w =
@@ -52,3 +52,4 @@ command_said (Rrule w) = command.Rrule (rrule_said w)
 command_said (Holidays w) = command.Holidays (holidays_said w)
 command_said (Convert w) = command.Convert (convert_said w)
 command_said Explain = command.Explain
+command_said ExplainHolidays = command.ExplainHolidays

@@ -59,15 +59,19 @@ abbrev pub record_line : ℕ → List (List ℕ) → Answer
 record_line number fields = fault_line number fields (record_fault fields)
 
 -- the lines about some records, the first of which has this number
-abbrev pub records_explained : ℕ → List (List (List ℕ)) → List ℕ
-records_explained number [] = []
-records_explained number (row ∷ more) = (record_line number row).0 ++ records_explained (number + 1) more
+abbrev pub record_lines : ℕ → List (List (List ℕ)) → List ℕ
+record_lines number [] = []
+record_lines number (row ∷ rows) = (record_line number row).0 ++ record_lines (number + 1) rows
 
 -- whether one of them is invalid
 abbrev pub any_invalid : ℕ → List (List (List ℕ)) → Bool
 any_invalid number [] = false
-any_invalid number (row ∷ more) = (record_line number row).1 || any_invalid (number + 1) more
+any_invalid number (row ∷ rows) = (record_line number row).1 || any_invalid (number + 1) rows
 
--- the lines about the records of a book, whatever the tables are
+-- the lines about the records of a book, and whether one is invalid
+abbrev pub records_explained : List ℕ → Answer
+records_explained book = (record_lines 1 (book_records book), any_invalid 1 (book_records book))
+
+-- the same whatever the tables are
 abbrev pub book_explained : TableContents → List ℕ → Answer
-book_explained tables book = (records_explained 1 (book_records book), any_invalid 1 (book_records book))
+book_explained tables book = records_explained book

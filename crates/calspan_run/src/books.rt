@@ -51,12 +51,7 @@ fn write_over_rows<T: BookTask, K: Sink>(
 }
 
 /// Reads the rows and the book of an input and writes its text, or the line for the first row or table that is invalid.
-fn write_input<T: BookTask, K: Sink>(
-    alloc: Global,
-    task: &T,
-    bytes: &[u8],
-    sink: &mut K,
-) -> Status
+fn write_input<T: BookTask, K: Sink>(alloc: Global, task: &T, bytes: &[u8], sink: &mut K) -> Status
     ensures { EndsInput (T.written task.now) result bytes.now (K.taken sink.old) (K.taken sink.new)
         (K.faults sink.old) (K.faults sink.new)
         ⊎ LacksMemory result bytes.now (K.taken sink.old) (K.taken sink.new) }

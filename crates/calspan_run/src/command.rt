@@ -2,7 +2,7 @@
 ghost use Rattle.std.specs.Prelude.{◌≡◌, ◌≤◌, IfSome, string_bytes, map};
 ghost use Rattle.std.specs.Option.{option_map};
 ghost use Rattle.request_lines.specs.Reading.{IsReading, next_word};
-ghost use Rattle.calspan_run.specs.Command.{anniversary_of, at_end, command_of, convert_of, count_of, generate_of, holidays_of, is_command};
+ghost use Rattle.calspan_run.specs.Command.{anniversary_of, at_end, command_of, convert_of, count_of, explain_of, generate_of, holidays_of, is_command};
 ghost use Rattle.calspan_run.specs.CommandWordsLeft.{words_left};
 ghost use Rattle.calspan_run.specs.SpacedWords.{words_in};
 
@@ -36,6 +36,8 @@ pub enum Command<'a> {
     Convert(ConvertWords),
     /// `explain`: write a line about the first bad word of each malformed line.
     Explain,
+    /// `explain holidays`: write a line about the first invalid field of each invalid record of a book.
+    ExplainHolidays,
 }
 
 ghost use Rattle.calspan_run.specs.CommandSaid.{command_said};
@@ -98,6 +100,21 @@ fn read_conversion(mut words: CommandWords<'_>) -> Option<Command<'_>>
     at_end(Command::Convert(asked), &words)
 }
 
+/// Reads the word behind `explain`, if there is one.
+fn read_explain(mut words: CommandWords<'_>) -> Option<Command<'_>>
+    ensures said { option_map command_said result ≡ explain_of (words_left words.entry) }
+    ensures few { IfSome result (λ c. is_command (command_said c)) }
+{
+    let Some(word) = words.next() else {
+        return Some(Command::Explain);
+    };
+    if word == b"holidays".as_slice() {
+        at_end(Command::ExplainHolidays, &words)
+    } else {
+        None
+    }
+}
+
 /// Reads a command from all remaining words.
 fn read_words(mut words: CommandWords<'_>) -> Option<Command<'_>>
     ensures said { option_map command_said result ≡ command_of (words_left words.entry) }
@@ -126,7 +143,7 @@ fn read_words(mut words: CommandWords<'_>) -> Option<Command<'_>>
         return read_conversion(words);
     }
     if name == b"explain".as_slice() {
-        at_end(Command::Explain, &words)
+        read_explain(words)
     } else {
         None
     }

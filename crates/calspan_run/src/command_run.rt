@@ -7,11 +7,12 @@ ghost use Rattle.calspan_run.specs.CommandSaid.{command_said};
 ghost use Rattle.calspan_run.specs.Run.{outside};
 ghost use Rattle.calspan_run.specs.SpacedWords.{words_in};
 
+use crate::books::serve_book;
 use crate::command::{Command, read_command, read_command_text};
 use crate::convert::serving::serve_convert;
+use crate::explain::records::RecordLines;
 use crate::explain::serving::serve_explain;
 use crate::generated::generating::serve_totals;
-use crate::holidays::listing::serve_holidays;
 use crate::lists::serve_list;
 use crate::span::serving::serve_span;
 use crate::status::Status;
@@ -37,9 +38,10 @@ fn run_command<S: Source, K: Sink>(
         Command::Anniversary(asked) => serve_list(alloc, &asked, source, sink),
         Command::Recur(asked) => serve_list(alloc, &asked, source, sink),
         Command::Rrule(asked) => serve_list(alloc, &asked, source, sink),
-        Command::Holidays(asked) => serve_holidays(alloc, asked, source, sink),
+        Command::Holidays(asked) => serve_book(alloc, &asked, source, sink),
         Command::Convert(asked) => serve_convert(alloc, asked, source, sink),
         Command::Explain => serve_explain(source, sink),
+        Command::ExplainHolidays => serve_book(alloc, &RecordLines, source, sink),
     }
 }
 
@@ -79,6 +81,7 @@ fn run_read<S: Source, K: Sink>(
 /// | `holidays FIRST LAST` | row lines, then a book | a line for each holiday | `Done`, `Refused`, `TableRefused` |
 /// | `convert ..` | row lines, then dates | a line for each date | `Done`, `Refused`, `TableRefused` |
 /// | `explain` | lines | a line about each malformed one | `Done`, `Refused` |
+/// | `explain holidays` | row lines, then a book | a line about each invalid record | `Done`, `Refused`, `TableRefused` |
 ///
 /// - `span` answers the request lines. Its tables are the row lines before the first request line.
 /// - `gen` counts and sums up the answers to `COUNT` generated requests. `COUNT` is one to six digits, up to 100000.
@@ -102,6 +105,10 @@ fn run_read<S: Source, K: Sink>(
 ///   the number of its first bad word, the word if the line has so many, and what may stand there. A line of more than 512
 ///   bytes has the line `line N: at most 512 bytes`.
 ///
+/// - `explain holidays` writes `record R field F FIELD: WHAT` about each invalid record of a book: the numbers of the
+///   record and of its first invalid field, the field if it is printable and not empty, and what may stand there. `F` is 0
+///   if the record doesn't have six to ten fields. Rows stand before the book as with `holidays`.
+///
 /// A list covers the day numbers from `FIRST` to `LAST` (rata die). If its arguments or its book are invalid, one
 /// `err` line replaces the list. It names the first of these:
 ///
@@ -119,7 +126,7 @@ fn run_read<S: Source, K: Sink>(
 /// The status says how the run ended.
 ///
 /// - `Done` and `Refused`: the whole text is written. The status is `Refused` if one of its lines is `err`, and
-///   with `explain` if there is a line.
+///   with `explain` and `explain holidays` if there is a line.
 /// - `Words`: the words name no command. Nothing was read or written.
 /// - `TableRefused`: a row line is invalid (`table line N syntax`, `range` or `late`), or a table
 ///   (`table NAME ROW PART`). The answers before it and the line about it are written.
@@ -129,7 +136,7 @@ fn run_read<S: Source, K: Sink>(
 ///   is a prefix of the lines of the occurrences up to a day of the window.
 /// - `TooLong`: the source has more than 16777216 bytes. With `span` and `explain`, the answers to all lines whose LF
 ///   is among the first 16777216 bytes are written; otherwise nothing. With `convert`, 18446744073709551615 reads were made.
-/// - `NoMemory`: there was no memory for a row of a year, with `holidays` for the input, or with `convert` for a line.
+/// - `NoMemory`: there was no memory for a row of a year, with `holidays` and `explain holidays` for the input, or with `convert` for a line.
 ///   Nothing is written. A row line that is invalid or names an era needs no memory. Rows and a book of more than
 ///   16777216 bytes are `TooLong`.
 pub fn run<S: Source, K: Sink>(

@@ -10,6 +10,7 @@
 #![tactic(auto)]
 
 mod anniversary;
+mod books;
 mod command;
 mod command_run;
 mod command_words;

@@ -30,7 +30,7 @@ use std::alloc::Global;
 use table_rows::TableRows;
 
 /// Returns the status at the end of the input.
-fn status_of(is_bad: bool) -> Status
+pub(crate) fn status_of(is_bad: bool) -> Status
     ensures { result ≡ status_where is_bad }
 {
     if is_bad {

@@ -17,7 +17,7 @@ use reply_texts::{Pending, push_all, push_number};
 use request_lines::is_silent;
 
 /// Returns the end of the line about a fault: what may stand there.
-fn ending(at: Expected) -> &'static [u8]
+pub(crate) fn ending(at: Expected) -> &'static [u8]
     ensures { result.now ≡ ending_of at }
 {
     match at {

@@ -13,8 +13,8 @@ ghost use Rattle.cal_holidays.specs.BookNames.{holidays_in};
 ghost use Rattle.cal_holidays.specs.Books.{named_rules};
 ghost use Rattle.calspan_run.specs.declared.status.Status.{Status};
 
-use crate::day_lines::window_of;
 use crate::books::BookTask;
+use crate::day_lines::window_of;
 use crate::endings::end_with;
 use crate::holidays::book_lines::BookLines;
 use crate::holidays::words::HolidayWords;

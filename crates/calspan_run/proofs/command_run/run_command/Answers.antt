@@ -38,8 +38,8 @@ returns-in-Rrule-clause-ends g c =
 pub returns-in-Holidays-clause-ends : goal.returns-in-Holidays-clause-ends
 returns-in-Holidays-clause-ends g c =
     let old = outside (g.S.Source.left c.args.source.now) (g.K.Sink.taken c.args.sink.now) (g.S.Source.faults c.args.source.now) (g.K.Sink.faults c.args.sink.now) in
-    let new = outside (g.S.Source.left c.serve_holidays.new.source) (g.K.Sink.taken c.serve_holidays.new.sink) (g.S.Source.faults c.serve_holidays.new.source) (g.K.Sink.faults c.serve_holidays.new.sink) in
-    subst (λ (x : Command). ServesAs (command_said x) c.serve_holidays.result old new) (sym c.in-Holidays.is) c.serve_holidays.ensures
+    let new = outside (g.S.Source.left c.serve_book.new.source) (g.K.Sink.taken c.serve_book.new.sink) (g.S.Source.faults c.serve_book.new.source) (g.K.Sink.faults c.serve_book.new.sink) in
+    subst (λ (x : Command). ServesAs (command_said x) c.serve_book.result old new) (sym c.in-Holidays.is) c.serve_book.ensures
 
 pub returns-in-Convert-clause-ends : goal.returns-in-Convert-clause-ends
 returns-in-Convert-clause-ends g c =
@@ -52,3 +52,9 @@ returns-in-Explain-clause-ends g c =
     let old = outside (g.S.Source.left c.args.source.now) (g.K.Sink.taken c.args.sink.now) (g.S.Source.faults c.args.source.now) (g.K.Sink.faults c.args.sink.now) in
     let new = outside (g.S.Source.left c.serve_explain.new.source) (g.K.Sink.taken c.serve_explain.new.sink) (g.S.Source.faults c.serve_explain.new.source) (g.K.Sink.faults c.serve_explain.new.sink) in
     subst (λ (x : Command). ServesAs (command_said x) c.serve_explain.result old new) (sym c.in-Explain.is) c.serve_explain.ensures
+
+pub returns-in-ExplainHolidays-clause-ends : goal.returns-in-ExplainHolidays-clause-ends
+returns-in-ExplainHolidays-clause-ends g c =
+    let old = outside (g.S.Source.left c.args.source.now) (g.K.Sink.taken c.args.sink.now) (g.S.Source.faults c.args.source.now) (g.K.Sink.faults c.args.sink.now) in
+    let new = outside (g.S.Source.left c.serve_book-in-ExplainHolidays.new.source) (g.K.Sink.taken c.serve_book-in-ExplainHolidays.new.sink) (g.S.Source.faults c.serve_book-in-ExplainHolidays.new.source) (g.K.Sink.faults c.serve_book-in-ExplainHolidays.new.sink) in
+    subst (λ (x : Command). ServesAs (command_said x) c.serve_book-in-ExplainHolidays.result old new) (sym c.in-ExplainHolidays.is) c.serve_book-in-ExplainHolidays.ensures

@@ -4,7 +4,8 @@ use Rattle.cal_tables.specs.Kinds.{table_contents}
 use Rattle.calspan_run.specs.CommandSaid.{holidays_said}
 use Rattle.calspan_run.specs.DayLines.{is_window}
 use Rattle.calspan_run.specs.declared.status.Status.TheVariants.{Done}
-use Rattle.calspan_run.proofs.HolidayLemmas.{empty_answer, empty_bytes, ends_with_answer}
+use Rattle.calspan_run.proofs.BookLemmas.{empty_bytes}
+use Rattle.calspan_run.proofs.HolidayLemmas.{empty_answer, ends_with_answer}
 use Rattle.calspan_run.proofs.KnownLemmas.{appends_none}
 use Rattle.calspan_run.proofs.holidays.listing.list_book.Goals as goal
 
