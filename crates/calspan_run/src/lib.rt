@@ -11,9 +11,7 @@
 
 mod anniversary;
 mod books;
-mod command;
 mod command_run;
-mod command_words;
 mod convert;
 mod day_lines;
 mod endings;

@@ -1,6 +1,6 @@
 //! Running `holidays`.
 ghost use Rattle.std.specs.Prelude.{◌≡◌, ◌<◌, codes, length, true, Err};
-ghost use Rattle.calspan_run.specs.CommandSaid.{holidays_said};
+ghost use Rattle.command_line.specs.CommandSaid.{holidays_said};
 ghost use Rattle.calspan_run.specs.DayLines.{is_window, list_text};
 ghost use Rattle.calspan_run.specs.Endings.{EndsWith};
 ghost use Rattle.cal_tables.specs.Kinds.{table_contents};
@@ -17,13 +17,13 @@ use crate::books::BookTask;
 use crate::day_lines::window_of;
 use crate::endings::end_with;
 use crate::holidays::book_lines::BookLines;
-use crate::holidays::words::HolidayWords;
 use crate::status::Status;
 use crate::writer::write_lines;
 use byte_io::{Failed, Sink};
 use cal_holidays::{Book, BookError, holidays};
 use cal_tables::Tables;
 use cal_types::Window;
+use command_line::HolidayWords;
 use reply_texts::{Pending, push_all, push_number};
 use std::alloc::Global;
 

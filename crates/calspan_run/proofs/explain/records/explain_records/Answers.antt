@@ -40,8 +40,7 @@ loop-row-preserved c =
     let s = rw (c.in-Some.is, c.in-Ok.is) at ((c.next.ensures.steps inv.2 inv.0).0 inv.1) in
     let flexible = rw (c.in-Some.is, c.in-Ok.is) at (c.next.ensures.steps inv.2 inv.0).3 in
     let m = rows-more (λ (s : Bor (List ℕ)). Some s.now) c.loop-row.row-iterator.rdr c.next.new.self.rdr row default_config st.StartRecord (strip_bom c.args.book.now) inv.4 inv.6 inv.3 inv.5 inv.7 s.0 in
-    let number : c.in-Some-checked_add.next ≡ 1 + length inv.6 = ? in
-    (
+    let number : c.in-Some-checked_add.next ≡ 1 + length inv.6 = ? in (
       s.0.3 ∙ inv.0,
       inl s.1,
       s.2,
