@@ -1,6 +1,6 @@
 -- A run over an input in memory: what it leaves, and the codes that a call may return.
 use Rattle.std.proofs.Common.{◌≡◌, ◌≢◌, ◌≤◌, ◌<◌, ℕ, Bool, true, false, List, [], ◌++◌, ◌⊎◌, inl, inr, length, drop, Option, Some, None, refl, arith, ap, subst, sym, ◌∙◌}
-use Rattle.command_line.specs.Command.{Asked, Span, Generate, Anniversary, Recur, Rrule, Holidays, Convert, Explain}
+use Rattle.command_line.specs.Command.{Asked, Span, Generate, Anniversary, Recur, Rrule, Holidays, Convert, Explain, ExplainHolidays}
 use Rattle.calspan_run.specs.CommandRuns.{Ends}
 use Rattle.calspan_run.specs.Run.{outside}
 use Rattle.calspan_run.specs.Status.{code_of}
@@ -33,6 +33,7 @@ not_read (Some (Rrule asked)) input text faults r = let rose = r.ends.serves.ros
 not_read (Some (Holidays asked)) input text faults r = let rose = r.ends.serves.rose in omega (arith, rose)
 not_read (Some (Convert asked)) input text faults r = let rose = r.ends.streams.rose in omega (arith, rose)
 not_read (Some Explain) input text faults r = let rose = r.ends.serves.rose in omega (arith, rose)
+not_read (Some ExplainHolidays) input text faults r = let rose = r.ends.serves.rose in omega (arith, rose)
 
 code_small : (status : Status) → code_of status ≤ 8
 code_small Done = omega arith
