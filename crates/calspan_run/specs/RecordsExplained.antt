@@ -1,10 +1,10 @@
 -- What `explain holidays` writes for the records of a book.
-use Rattle.std.specs.Prelude.{ℕ, ◌+◌, ◌==◌, ◌&&◌, ◌||◌, Bool, false, true, nat_le, List, [], ◌∷◌, ◌++◌, get_or, length, codes, Option, Some, None, if◌then◌else◌}
+use Rattle.std.specs.Prelude.{ℕ, ◌+◌, ◌==◌, ◌&&◌, ◌||◌, Bool, false, true, nat_le, List, [], ◌∷◌, ◌++◌, length, codes, Option, Some, None, if◌then◌else◌}
 use Rattle.std.specs.Fmt.{decimal}
 use Rattle.std.specs.List.{list_all}
 use Rattle.cal_holidays.specs.Books.{book_records}
 use Rattle.cal_tables.specs.Kinds.{TableContents}
-use Rattle.record_faults.specs.RecordFaults.{record_fault}
+use Rattle.record_faults.specs.RecordFaults.{field_text, record_fault}
 use Rattle.record_faults.specs.declared.expected.FieldExpected.{FieldExpected}
 use Rattle.record_faults.specs.declared.expected.FieldExpected.TheVariants.{Fields, Kind, Name, Calendar, EasterCalendar, Month, Nothing, Day, Offset, Leaping, Nth, Weekday, SpanWeekday, Year, Every, NoEvery, Moves}
 use Rattle.record_faults.specs.declared.faults.RecordFault.{RecordFault}
@@ -44,16 +44,15 @@ standing_field text = if is_shown text then 32 ∷ text else []
 abbrev pub field_place : ℕ → ℕ → List ℕ
 field_place number field = (codes "record " ++ decimal number) ++ (codes " field " ++ decimal field)
 
--- the line about a fault; no field has the number 0
-abbrev pub field_text : ℕ → List (List ℕ) → RecordFault → List ℕ
-field_text number fields fault =
-    (field_place number fault.field ++ standing_field (get_or ([] ∷ fields) fault.field []))
-    ++ field_ending fault.expected
+-- the line about a fault
+abbrev pub field_line : ℕ → List (List ℕ) → RecordFault → List ℕ
+field_line number fields fault =
+    (field_place number fault.field ++ standing_field (field_text fields fault.field)) ++ field_ending fault.expected
 
 -- the line about a record, if it is invalid
 abbrev pub fault_line : ℕ → List (List ℕ) → Option RecordFault → Answer
 fault_line number fields None = ([], false)
-fault_line number fields (Some fault) = (field_text number fields fault, true)
+fault_line number fields (Some fault) = (field_line number fields fault, true)
 
 abbrev pub record_line : ℕ → List (List ℕ) → Answer
 record_line number fields = fault_line number fields (record_fault fields)

@@ -64,7 +64,8 @@ abbrev pub BookText : Type 0
 BookText = TableContents → List ℕ → Answer
 
 abbrev pub book_end : BookText → List ℕ → TableContents → List ℕ → Status → Type 0
-book_end written book tables text status = (text ≡ (written tables book).0) × (status ≡ status_of (written tables book).1)
+book_end written book tables text status =
+    (text ≡ (written tables book).0) × (status ≡ status_of (written tables book).1)
 
 -- the book of an input begins with the first line that is neither ignored nor a row line, and is read over the tables
 abbrev pub book_behind : BookText → List ℕ → Behind

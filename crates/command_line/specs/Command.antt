@@ -62,8 +62,8 @@ named_of name words =
     else (if is_text name (codes "convert") then convert_of words
     else (if is_text name (codes "explain") then explain_of words else None)))))))
 
--- the word `span` alone; the word `gen` and a number of requests; the word `explain`, alone or with the word `holidays`;
--- or the name of a list and its words
+-- the word `span` alone; the word `gen` and a number of requests; the word `explain`, alone or with the word
+-- `holidays`; or the name of a list and its words
 abbrev pub command_of : List (List ℕ) → Option Asked
 command_of [] = None
 command_of (name ∷ words) = named_of name words

@@ -1,9 +1,9 @@
 //! The first invalid field of a record.
 
-ghost use Rattle.std.specs.Prelude.{◌≡◌, ◌≤◌, [], get_or, IfSome};
+ghost use Rattle.std.specs.Prelude.{◌≡◌};
 ghost use Rattle.cal_types.specs.YearNames.{is_code};
 ghost use Rattle.csv.specs.Records.{fields_of};
-ghost use Rattle.record_faults.specs.RecordFaults.{every_field, expected_at, record_fault, rule_fields};
+ghost use Rattle.record_faults.specs.RecordFaults.{calendar_field, every_field, expected_at, field_text, last_field, month_field, record_fault, text_at, value_field};
 
 use crate::expected::FieldExpected;
 use cal_holidays::invalid_field;
@@ -20,9 +20,23 @@ pub struct RecordFault {
 
 /// Returns the field at a place, counted from 0, or an empty text if the record has fewer fields.
 fn field(record: &ByteRecord, place: usize) -> &[u8]
-    ensures { result.now ≡ get_or (fields_of record.now) place [] }
+    ensures { result.now ≡ text_at (fields_of record.now) place }
 {
-    record.get(place).unwrap_or(b"")
+    match record.get(place) {
+        Some(field) => field,
+        None => b"",
+    }
+}
+
+/// Returns the field of a number, counted from 1. It is empty for 0, and if the record has fewer fields.
+pub fn field_text(record: &ByteRecord, number: u8) -> &[u8]
+    ensures { result.now ≡ field_text (fields_of record.now) number }
+{
+    if number == 0 {
+        b""
+    } else {
+        field(record, usize::from(number - 1))
+    }
 }
 
 /// Returns whether a text is a word.
@@ -32,37 +46,57 @@ fn is_word(text: &[u8], word: &[u8]) -> bool
     text == word
 }
 
-/// Returns what may stand in the fields 3 to 6 of a record with a kind of rule.
-fn rule_fields(kind: &[u8]) -> [FieldExpected; 4]
-    ensures { result ≡ rule_fields kind.now }
+/// Returns what may stand in the field 3 of a record with a kind of rule.
+fn calendar_field(kind: &[u8]) -> FieldExpected
+    ensures { result ≡ calendar_field kind.now }
 {
     if is_word(kind, b"easter") {
-        return [
-            FieldExpected::EasterCalendar,
-            FieldExpected::Nothing,
-            FieldExpected::Offset,
-            FieldExpected::Nothing,
-        ];
+        FieldExpected::EasterCalendar
+    } else {
+        FieldExpected::Calendar
+    }
+}
+
+/// Returns what may stand in the field 4 of a record with a kind of rule.
+fn month_field(kind: &[u8]) -> FieldExpected
+    ensures { result ≡ month_field kind.now }
+{
+    if is_word(kind, b"easter") {
+        FieldExpected::Nothing
+    } else {
+        FieldExpected::Month
+    }
+}
+
+/// Returns what may stand in the field 5 of a record with a kind of rule.
+fn value_field(kind: &[u8]) -> FieldExpected
+    ensures { result ≡ value_field kind.now }
+{
+    if is_word(kind, b"easter") {
+        return FieldExpected::Offset;
     }
     if is_word(kind, b"weekday") {
-        return [
-            FieldExpected::Calendar,
-            FieldExpected::Month,
-            FieldExpected::Nth,
-            FieldExpected::Weekday,
-        ];
+        FieldExpected::Nth
+    } else {
+        FieldExpected::Day
     }
-    let last = if is_word(kind, b"span") {
+}
+
+/// Returns what may stand in the field 6 of a record with a kind of rule.
+fn last_field(kind: &[u8]) -> FieldExpected
+    ensures { result ≡ last_field kind.now }
+{
+    if is_word(kind, b"easter") {
+        return FieldExpected::Nothing;
+    }
+    if is_word(kind, b"weekday") {
+        return FieldExpected::Weekday;
+    }
+    if is_word(kind, b"span") {
         FieldExpected::SpanWeekday
     } else {
         FieldExpected::Leaping
-    };
-    [
-        FieldExpected::Calendar,
-        FieldExpected::Month,
-        FieldExpected::Day,
-        last,
-    ]
+    }
 }
 
 /// Returns what may stand in the field 9 of a record with a field 7.
@@ -80,15 +114,15 @@ fn every_field(since: &[u8]) -> FieldExpected
 fn expected_at(record: &ByteRecord, number: u8) -> FieldExpected
     ensures { result ≡ expected_at (fields_of record.now) number }
 {
-    let of_rule = rule_fields(field(record, 0));
+    let kind = field(record, 0);
     match number {
         0 => FieldExpected::Fields,
         1 => FieldExpected::Kind,
         2 => FieldExpected::Name,
-        3 => of_rule[0],
-        4 => of_rule[1],
-        5 => of_rule[2],
-        6 => of_rule[3],
+        3 => calendar_field(kind),
+        4 => month_field(kind),
+        5 => value_field(kind),
+        6 => last_field(kind),
         7 => FieldExpected::Year,
         8 => FieldExpected::Year,
         9 => every_field(field(record, 6)),

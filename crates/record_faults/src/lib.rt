@@ -7,4 +7,4 @@ mod expected;
 mod faults;
 
 pub use expected::FieldExpected;
-pub use faults::{RecordFault, record_fault};
+pub use faults::{RecordFault, field_text, record_fault};

@@ -1,10 +1,10 @@
 //! The lines about invalid records of a book.
-ghost use Rattle.std.specs.Prelude.{◌≡◌, ◌&&◌, ◌++◌, ◌∷◌, [], get_or, nat_le, IfSome, OnSome};
+ghost use Rattle.std.specs.Prelude.{◌≡◌, ◌&&◌, ◌++◌, nat_le, IfSome, OnSome};
 ghost use Rattle.std.specs.List.{list_all};
 ghost use Rattle.csv.specs.Records.{fields_of};
 ghost use Rattle.calspan_run.specs.Endings.{EndsWith};
 ghost use Rattle.calspan_run.specs.Refusals.{status_of as status_where};
-ghost use Rattle.calspan_run.specs.RecordsExplained.{book_explained, field_ending, field_place, field_text, is_shown, record_line, records_explained, standing_field};
+ghost use Rattle.calspan_run.specs.RecordsExplained.{book_explained, field_ending, field_line, field_place, is_shown, record_line, records_explained, standing_field};
 
 use crate::books::BookTask;
 use crate::convert::serving::{either, status_of};
@@ -15,7 +15,7 @@ use byte_io::Sink;
 use cal_tables::Tables;
 use csv::{ByteRecord, ReaderBuilder};
 use line_faults::Expected;
-use record_faults::{FieldExpected, RecordFault, record_fault};
+use record_faults::{FieldExpected, RecordFault, field_text, record_fault};
 use reply_texts::{Pending, push_all, push_number};
 use std::alloc::Global;
 
@@ -60,16 +60,6 @@ fn is_shown(text: &[u8]) -> bool
     1 <= text.len() && is_printable(text)
 }
 
-/// Returns the field of a number, counted from 1. It is empty for 0 and if the record has fewer fields.
-fn field_of(record: &ByteRecord, number: u8) -> &[u8]
-    ensures { result.now ≡ get_or ([] ∷ fields_of record.now) number [] }
-{
-    if number == 0 {
-        return b"";
-    }
-    record.get(usize::from(number - 1)).unwrap_or(b"")
-}
-
 /// Returns the numbers of a record and of a field.
 fn field_place(number: u64, field: u8) -> Pending
     ensures { result.items ≡ field_place number field }
@@ -100,11 +90,11 @@ fn push_fault(
     record: &ByteRecord,
     fault: RecordFault,
 ) -> Option<()>
-    ensures { OnSome result (text.new.items ≡ text.old.items ++ field_text number (fields_of record.now) fault) }
+    ensures { OnSome result (text.new.items ≡ text.old.items ++ field_line number (fields_of record.now) fault) }
 {
     text.extend_from_slice(&field_place(number, fault.field))
         .ok()?;
-    push_field(text, field_of(record, fault.field))?;
+    push_field(text, field_text(record, fault.field))?;
     text.extend_from_slice(field_ending(fault.expected)).ok()
 }
 

@@ -81,7 +81,8 @@ fn list_window<K: Sink>(
     requires window { is_window window.first window.last ≡ true }
     requires some { 0 < length bytes.now }
     ensures { EndsBook (holidays_written (record { first = window.first; last = window.last }))
-        (table_contents tables.now) result bytes.now (K.taken sink.old) (K.taken sink.new) (K.faults sink.old) (K.faults sink.new) }
+        (table_contents tables.now) result bytes.now (K.taken sink.old) (K.taken sink.new) (K.faults sink.old)
+        (K.faults sink.new) }
 {
     let book = match Book::try_read(alloc, bytes) {
         Ok(book) => book,
