@@ -1,7 +1,9 @@
-use Rattle.std.proofs.Common.{◌≡◌, ◌∙◌, rules, ℤ, subst, arith, FitsSigned, w32, to_z, of_z}
+use Rattle.std.proofs.Common.{◌∙◌, ◌≤◌, ℕ, ℤ, sym, subst, w32, arith}
+use Rattle.std.proofs.lemmas.Int.{to_z-of_z}
 use Rattle.cal_days.proofs.Signed.{signed}
 use Rattle.cal_types.specs.CalendarList.{IsOn}
 use Rattle.cal_types.proofs.ListLemmas.{year_length-most}
+use Rattle.cal_rrule.proofs.WordLemmas.{valid-word}
 use Rattle.cal_rrule.proofs.YearLookLemmas.{year-of, year-within}
 use Rattle.cal_rrule.proofs.looks.year_of.Goals as goal
 
@@ -9,10 +11,9 @@ pub returns-clause-look : goal.returns-clause-look
 returns-clause-look g c =
     let list = (g.C.Calendar.system c.args.calendar.now).list in
     let t = g.C.Calendar.date_of c.args.calendar.now c.from_rata_die-date.result in
-    let at : c.new.result ≡ c.args.day = omega (arith, signed) in
+    let at = c.new.ensures ∙ valid-word c.args.day c.requires in
     let on = subst (λ (n : ℤ). IsOn list n t) at c.from_rata_die-date.ensures.on in
-    let fits : FitsSigned w32 c.extended_year.result = search rules in
-    let year : to_z w32 (of_z w32 c.extended_year.result) ≡ c.extended_year.result = omega (arith, signed) in
+    let year = to_z-of_z w32 c.extended_year.result c.extended_year.type_inv in
     year-of list c.args.day t _ on (year ∙ c.extended_year.ensures)
     (omega (arith, signed, c.from.ensures, c.day_of_year.ensures, on.day)) c.days_in_year.ensures
 
@@ -20,7 +21,7 @@ pub returns-clause-within : goal.returns-clause-within
 returns-clause-within g c =
     let list = (g.C.Calendar.system c.args.calendar.now).list in
     let t = g.C.Calendar.date_of c.args.calendar.now c.from_rata_die-date.result in
-    let at : c.new.result ≡ c.args.day = omega (arith, signed) in
+    let at = c.new.ensures ∙ valid-word c.args.day c.requires in
     let on = subst (λ (n : ℤ). IsOn list n t) at c.from_rata_die-date.ensures.on in
     year-within list c.args.day t _ _ on (omega (arith, signed, c.from.ensures, c.day_of_year.ensures, on.day)) c.days_in_year.ensures
 
@@ -29,4 +30,4 @@ invariant_of-result-clause-short g c =
     let list = (g.C.Calendar.system c.args.calendar.now).list in
     let t = g.C.Calendar.date_of c.args.calendar.now c.from_rata_die-date.result in
     let most = year_length-most list t.year (g.met.C.Calendar.lawful c.args.calendar.now) in
-    omega (arith, c.days_in_year.ensures, most)
+    subst (λ (n : ℕ). n ≤ 403) (sym c.days_in_year.ensures) most
