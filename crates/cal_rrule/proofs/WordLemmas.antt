@@ -1,7 +1,9 @@
 -- Words that days and years pass through, and sums of days, months and years over plain numbers.
-use Rattle.std.proofs.Common.{◌≡◌, ◌↔◌, IsTrue, Bool, true, false, Fits, FitsSigned, ℕ, ◌+◌, ◌-◌, ◌*◌, ◌<◌, ◌≤◌, ℤ, pos, neg_ℤ, ◌+ℤ◌, ◌-ℤ◌, ◌≤ℤ◌, ◌<ℤ◌, int_le, int_lt, sym, ◌∙◌, to_z, of_z, w32, w64, arith}
+use Rattle.std.proofs.Common.{◌≡◌, ◌↔◌, IsTrue, Bool, true, false, Fits, FitsSigned, ℕ, ◌+◌, ◌-◌, ◌*◌, ◌<◌, ◌≤◌, ℤ, pos, neg_ℤ, ◌+ℤ◌, ◌-ℤ◌, ◌≤ℤ◌, ◌<ℤ◌, int_le, int_lt, sym, subst, ◌∙◌, to_z, of_z, w32, w64, arith}
 use mathlib.Core.Bool.{true≢false}
-use Rattle.cal_days.specs.Day.{IsBetween, IsFieldYear, IsValidDay}
+use Rattle.cal_days.specs.Day.{IsBetween, IsFieldYear, IsValidDay, is_valid_day}
+use Rattle.cal_days.specs.Sums.{years_up}
+use Rattle.cal_days.proofs.RangeLemmas.{is_between-true}
 use Rattle.cal_days.proofs.Signed.{by_bool, signed, signed_casts}
 
 -- ---- words
@@ -336,7 +338,7 @@ pub named-high : (to first start n : ℤ) (days length : ℕ) → to ≡ first +
 named-high to first start n days length is begins whole high = omega (arith, signed, is, begins, whole, high)
 
 -- a year ends where a valid day lies in it, or behind that
-pub ends-low : (end day : ℤ) → day <ℤ end → neg_ℤ (pos 365242499) ≤ℤ day → neg_ℤ (pos 365242498) ≤ℤ end
+pub ends-low : (end day : ℤ) → day <ℤ end → neg_ℤ (pos 365242499) ≤ℤ day → neg_ℤ (pos 365242499) ≤ℤ end
 ends-low end day high low = omega (arith, signed, high, low)
 
 -- a year that was found, from the year of a valid day on and up to a last day
@@ -360,3 +362,117 @@ day-few day length low high = omega (arith, low, high)
 pub first-word : (day from : ℤ) (n : ℕ) → from ≡ pos n → IsValidDay day → n ≤ 403 →
     to_z w64 (of_z w64 (to_z w64 (of_z w64 (to_z w64 (of_z w64 day) +ℤ pos 1)) -ℤ to_z w64 (of_z w64 from))) ≡ day +ℤ pos 1 -ℤ pos n
 first-word day from n is valid few = omega (arith, signed, is, valid.0, valid.1, few)
+
+pub never-same : (y z : ℤ) → z <ℤ y → y ≡ z → ⊥
+never-same y z less same = omega (arith, signed, less, same)
+
+-- ---- what passes through words and stays in its range
+
+pub held-valid : (n d : ℤ) → n ≡ d → IsValidDay d → IsValidDay (to_z w64 (of_z w64 n))
+held-valid n d e h = subst IsValidDay (sym (held-word n d e h)) h
+
+pub field-back : (y : ℤ) → IsFieldYear y → IsFieldYear (to_z w32 (of_z w32 y))
+field-back y h = subst IsFieldYear (sym (field-word y h)) h
+
+-- a test of a valid day
+pub valid-test : (test : Bool) (n : ℤ) → test ≡ is_valid_day n → test ≡ true → IsValidDay n
+valid-test test n is holds = is_between-true (neg_ℤ (pos 365242499)) (pos 365242134) n (sym is ∙ holds)
+
+pub first-fits : (day from : ℤ) (n : ℕ) → from ≡ pos n → IsValidDay day → n ≤ 403 →
+    FitsSigned w64 (to_z w64 (of_z w64 (to_z w64 (of_z w64 day) +ℤ pos 1)) -ℤ to_z w64 (of_z w64 from))
+first-fits day from n is valid few = omega (arith, signed, is, valid.0, valid.1, few)
+
+pub first-kept : (day from : ℤ) (n : ℕ) → from ≡ pos n → IsValidDay day → n ≤ 403 →
+    IsBetween (neg_ℤ (pos 1000000000)) (pos 1000000000) (to_z w64 (of_z w64 (to_z w64 (of_z w64 (to_z w64 (of_z w64 day) +ℤ pos 1)) -ℤ to_z w64 (of_z w64 from))))
+first-kept day from n is valid few = between-day _ day n (first-word day from n is valid few) valid few
+  where
+    between-day : (z d : ℤ) (k : ℕ) → z ≡ d +ℤ pos 1 -ℤ pos k → IsValidDay d → k ≤ 403 → IsBetween (neg_ℤ (pos 1000000000)) (pos 1000000000) z
+    between-day z d k e h small = (omega (arith, signed, e, h.0, small), omega (arith, signed, e, h.1))
+
+-- the first day of a year, by the day of the year
+pub year-day-few : (start : ℤ) (n before day length : ℕ) → start +ℤ pos n ≡ start +ℤ pos (before + (day - 1)) +ℤ pos 1 →
+    1 ≤ day → before + day ≤ length → length ≤ 403 → n ≤ 403
+year-day-few start n before day length is some within few = omega (arith, signed, is, some, within, few)
+
+pub year-first : (start day at : ℤ) (n : ℕ) → start +ℤ pos n ≡ at +ℤ pos 1 → at ≡ day → day +ℤ pos 1 -ℤ pos n ≡ start
+year-first start day at n is on = omega (arith, signed, is, on)
+
+-- ---- the month or year before one
+
+pub back-end : (w first : ℤ) (days : ℕ) → w ≡ first -ℤ pos days → w +ℤ pos days ≡ first
+back-end w first days is = omega (arith, signed, is)
+
+pub back-joins : (f w first : ℤ) (d days : ℕ) → f ≡ w → w ≡ first -ℤ pos days → d ≡ days → f +ℤ pos d ≡ first
+back-joins f w first d days begins is length = omega (arith, signed, begins, is, length)
+
+pub back-within : (w first : ℤ) (days : ℕ) → w ≡ first -ℤ pos days → days ≤ 403 → IsBetween (neg_ℤ (pos 365252499)) (pos 365252134) first →
+    IsBetween (neg_ℤ (pos 400000000)) (pos 400000000) w
+back-within w first days is short h = (omega (arith, signed, is, short, h.0), omega (arith, signed, is, h.1))
+
+-- ---- years about a year that begins near the valid days
+
+pub about-day : (n : ℤ) → IsBetween (neg_ℤ (pos 365248000)) (pos 365248000) n → IsBetween (neg_ℤ (pos 365252499)) (pos 365252134) n
+about-day n h = (omega (arith, signed, h.0), omega (arith, signed, h.1))
+
+pub about-own : (n : ℤ) → IsBetween (neg_ℤ (pos 365248000)) (pos 365248000) n → IsBetween (neg_ℤ (pos 365250000)) (pos 365250000) n
+about-own n h = (omega (arith, signed, h.0), omega (arith, signed, h.1))
+
+pub about-before : (first own : ℤ) (days : ℕ) → first +ℤ pos days ≡ own → days ≤ 403 →
+    IsBetween (neg_ℤ (pos 365248000)) (pos 365248000) own → IsBetween (neg_ℤ (pos 365250000)) (pos 365250000) first
+about-before first own days joins short h = (omega (arith, signed, joins, short, h.0), omega (arith, signed, joins, h.1))
+
+pub about-behind : (first own : ℤ) (days : ℕ) → first ≡ own +ℤ pos days → days ≤ 403 →
+    IsBetween (neg_ℤ (pos 365248000)) (pos 365248000) own → IsBetween (neg_ℤ (pos 365250000)) (pos 365250000) first
+about-behind first own days joins short h = (omega (arith, signed, joins, h.0), omega (arith, signed, joins, short, h.1))
+
+pub about-week : (first own : ℤ) → (own -ℤ pos 3) ≤ℤ first → first ≤ℤ (own +ℤ pos 3) →
+    IsBetween (neg_ℤ (pos 365248000)) (pos 365248000) own → IsBetween (neg_ℤ (pos 365250000)) (pos 365250000) first
+about-week first own low high h = (omega (arith, signed, low, h.0), omega (arith, signed, high, h.1))
+
+-- ---- walks to a day beside the valid days
+
+pub near-day-word : (n : ℤ) → IsBetween (neg_ℤ (pos 365252499)) (pos 365252134) n → to_z w64 (of_z w64 n) ≡ n
+near-day-word n h = omega (arith, signed, h.0, h.1)
+
+-- less is left
+pub less-left : (end first next : ℤ) (days : ℕ) → first <ℤ end → next ≡ first +ℤ pos days → 1 ≤ days →
+    years_up (end -ℤ next) < years_up (end -ℤ first)
+less-left end first next days before joins some = omega (arith, signed, before, joins, some)
+
+pub less-up : (end first next : ℤ) (days : ℕ) → next ≤ℤ end → next ≡ first +ℤ pos days → 1 ≤ days →
+    years_up (end -ℤ next) < years_up (end -ℤ first)
+less-up end first next days within joins some = omega (arith, signed, within, joins, some)
+
+pub less-back : (day first next : ℤ) (days : ℕ) → day <ℤ first → next +ℤ pos days ≡ first → 1 ≤ days →
+    years_up (next -ℤ day) < years_up (first -ℤ day)
+less-back day first next days before joins some = omega (arith, signed, before, joins, some)
+
+-- the walk behind the valid days begins with the last one's year or month
+pub year-last-low : (first : ℤ) (days : ℕ) → pos 365242134 <ℤ (first +ℤ pos days) → days ≤ 403 → pos 365241000 ≤ℤ first
+year-last-low first days high short = omega (arith, signed, high, short)
+
+pub month-last-low : (first : ℤ) (days : ℕ) → pos 365242134 <ℤ (first +ℤ pos days) → days ≤ 31 → pos 365242000 ≤ℤ first
+month-last-low first days high short = omega (arith, signed, high, short)
+
+pub month-low : (first : ℤ) → pos 365242000 ≤ℤ first → pos 365241000 ≤ℤ first
+month-low first low = omega (arith, signed, low)
+
+pub behind-up : (first day : ℤ) → first ≤ℤ pos 365242134 → pos 365242134 <ℤ day → first ≤ℤ day
+behind-up first day low behind = omega (arith, signed, low, behind)
+
+pub walk-near : (first day : ℤ) → pos 365241000 ≤ℤ first → first ≤ℤ day → IsBetween (neg_ℤ (pos 365252499)) (pos 365252134) day →
+    IsBetween (neg_ℤ (pos 365252499)) (pos 365252134) first
+walk-near first day low up h = (omega (arith, signed, low), omega (arith, signed, up, h.1))
+
+-- and the walk ahead of them with the first one's
+pub ahead-end : (day end : ℤ) → day <ℤ neg_ℤ (pos 365242499) → neg_ℤ (pos 365242499) <ℤ end → day <ℤ end
+ahead-end day end ahead within = omega (arith, signed, ahead, within)
+
+pub walk-back : (low first next : ℤ) (days : ℕ) → first ≤ℤ low → next +ℤ pos days ≡ first → next ≤ℤ low
+walk-back low first next days from joins = omega (arith, signed, from, joins)
+
+-- ---- a month behind a last day
+
+pub before-month : (l last first : ℤ) → l ≡ last → IsValidDay last → IsBetween (neg_ℤ (pos 1000000000)) (pos 1000000000) first →
+    int_lt (to_z w64 (of_z w64 (to_z w64 (of_z w64 l) +ℤ pos 1))) (to_z w64 (of_z w64 first)) ≡ true → (last +ℤ pos 1) <ℤ first
+before-month l last first is valid near test = omega (arith, signed, is, valid.0, valid.1, near.0, near.1, test)

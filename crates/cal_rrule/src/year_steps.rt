@@ -1,6 +1,6 @@
 //! The year so many years after a year.
 
-ghost use Rattle.std.specs.Prelude.{◌≡◌, ◌↔◌, ◌≤◌, MatchOption, IsTrue, pos, negsuc};
+ghost use Rattle.std.specs.Prelude.{◌≡◌, ◌↔◌, ◌≤◌, MatchOption, IsTrue, neg_ℤ, pos, negsuc};
 ghost use Rattle.std.specs.Prelude.{◌+ℤ◌, ◌-ℤ◌, ◌≤ℤ◌, ◌<ℤ◌};
 ghost use Rattle.cal_days.specs.Day.{IsFieldYear, IsValidDay};
 ghost use Rattle.cal_types.specs.CalendarList.{start_of_year};
@@ -76,7 +76,8 @@ fn number_after(look: &YearLook, years: u64) -> i64
 
 /// Returns the year with a number, whose first day is valid.
 fn year_numbered<C: Calendar>(calendar: &C, number: i32) -> Option<YearLook>
-    requires { IsFieldYear number }
+    requires low { neg_ℤ (pos 1040000) ≤ℤ number }
+    requires high { number ≤ℤ pos 1040000 }
     ensures { let list = (C.system calendar.now).list in
         MatchOption result (¬ (IsValidDay (start_of_year list number)))
         (λ found. IsYearLook list found × (found.year ≡ number)) }

@@ -5,7 +5,7 @@ use Rattle.cal_rrule.specs.Looks.{look_stretch}
 use Rattle.cal_rrule.specs.Stretches.{InStretch, end_of}
 use Rattle.cal_rrule.proofs.LookLemmas.{look-joins}
 use Rattle.cal_rrule.proofs.MonthStepLemmas.{held-next, held-none, held-zero, starts-near}
-use Rattle.cal_rrule.proofs.WordLemmas.{end-word, month-near, month-short, one-less, some-of}
+use Rattle.cal_rrule.proofs.WordLemmas.{end-word, month-near, month-short, one-less, some-of, valid-test}
 use Rattle.cal_rrule.proofs.month_steps.month_ahead.Goals as goal
 
 pub returns-then-months-eq0-clause-held : goal.returns-then-months-eq0-clause-held
@@ -53,3 +53,9 @@ returns-then-months-eq0-clause-first g c =
 
 pub returns-clause-first : goal.returns-clause-first
 returns-clause-first g c = starts-near c.months_after.result c.months_after.ensures.valid
+
+pub month_of-next-requires-clause-low : goal.month_of-next-requires-clause-low
+month_of-next-requires-clause-low g c = (valid-test c.is_valid.result _ c.is_valid.ensures c.if-not-is_valid.false).0
+
+pub month_of-next-requires-clause-high : goal.month_of-next-requires-clause-high
+month_of-next-requires-clause-high g c = (valid-test c.is_valid.result _ c.is_valid.ensures c.if-not-is_valid.false).1

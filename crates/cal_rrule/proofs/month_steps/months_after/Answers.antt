@@ -5,16 +5,22 @@ use Rattle.cal_types.specs.CalendarList.{IsOn, day_number}
 use Rattle.cal_rrule.specs.Looks.{look_stretch}
 use Rattle.cal_rrule.specs.Stretches.{InStretch}
 use Rattle.cal_rrule.proofs.MonthStepLemmas.{month-begins, month-found, month-none, month-sum}
-use Rattle.cal_rrule.proofs.WordLemmas.{held-word, valid-word}
+use Rattle.cal_rrule.proofs.WordLemmas.{held-valid, held-word, valid-word}
 use Rattle.cal_rrule.proofs.month_steps.months_after.Goals as goal
 
-pub month_of-requires : goal.month_of-requires
-month_of-requires g c =
-    let s = g.C.Calendar.system c.args.calendar.now in
+pub month_of-requires-clause-low : goal.month_of-requires-clause-low
+month_of-requires-clause-low g c =
     let u = g.C.Calendar.date_of c.args.calendar.now c.in-Ok.later in
     let valid = (g.met.C.Calendar.dated c.args.calendar.now c.in-Ok.later c.in-Ok.ensures.belongs).valid in
-    let day : c.to_i64_date.result ≡ day_number s.list u = c.to_i64_date.ensures.value ∙ c.to_rata_die.ensures in
-    subst IsValidDay (sym (held-word c.to_i64_date.result (day_number s.list u) day valid)) valid
+    let day = c.to_i64_date.ensures.value ∙ c.to_rata_die.ensures in
+    (held-valid c.to_i64_date.result (day_number (g.C.Calendar.system c.args.calendar.now).list u) day valid).0
+
+pub month_of-requires-clause-high : goal.month_of-requires-clause-high
+month_of-requires-clause-high g c =
+    let u = g.C.Calendar.date_of c.args.calendar.now c.in-Ok.later in
+    let valid = (g.met.C.Calendar.dated c.args.calendar.now c.in-Ok.later c.in-Ok.ensures.belongs).valid in
+    let day = c.to_i64_date.ensures.value ∙ c.to_rata_die.ensures in
+    (held-valid c.to_i64_date.result (day_number (g.C.Calendar.system c.args.calendar.now).list u) day valid).1
 
 pub returns-in-Ok-clause-found : goal.returns-in-Ok-clause-found
 returns-in-Ok-clause-found g c =

@@ -48,3 +48,9 @@ returns-in-Forward-clause-days g c = λ n reach.
     (apart-behind (look_stretch look) (look_stretch other) n c.month_after.ensures.joins)
     (reach-behind (look_stretch look) (look_stretch other) n
     (some list (g.met.C.Calendar.lawful c.args.calendar.now) other c.month_after.ensures.look) c.month_after.ensures.joins within.0 within.1)
+
+pub month_after-requires-clause-nearby : goal.month_after-requires-clause-nearby
+month_after-requires-clause-nearby g c = c.requires.nearby
+
+pub month_before-requires-clause-nearby : goal.month_before-requires-clause-nearby
+month_before-requires-clause-nearby g c = c.requires.nearby

@@ -1,5 +1,4 @@
-use Rattle.std.proofs.Common.{◌≡◌, ◌∙◌, ◌⊎◌, ℤ, ◌≤ℤ◌, refl, subst, arith}
-use Rattle.cal_days.proofs.Signed.{signed}
+use Rattle.std.proofs.Common.{◌≡◌, ◌∙◌, ◌⊎◌, ℤ, ◌≤ℤ◌, ◌<ℤ◌, refl, subst, to_z, of_z, w64}
 use Rattle.cal_types.specs.MonthParts.{month_parts}
 use Rattle.cal_rrule.specs.Looks.{look_stretch}
 use Rattle.cal_rrule.specs.Stretches.{InStretch}
@@ -8,7 +7,7 @@ use Rattle.cal_rrule.proofs.LookLemmas.{some}
 use Rattle.cal_rrule.proofs.MaskLemmas.{adds-as, adds-none, adds-then}
 use Rattle.cal_rrule.proofs.MonthDayLemmas.{marks-added}
 use Rattle.cal_rrule.proofs.NamedMonthLemmas.{before-all, before-next, before-none, look-in_year, look-starts}
-use Rattle.cal_rrule.proofs.WordLemmas.{begins-past, begins-within, near-word, same-least, span-from, walk-on}
+use Rattle.cal_rrule.proofs.WordLemmas.{begins-past, begins-within, less-left, lt-holds, near-word, same-least, span-from, walk-on}
 use Rattle.cal_rrule.proofs.named_months.days_in_months.Goals as goal
 
 pub months-init : goal.months-init
@@ -61,10 +60,14 @@ months-preserved g c =
 
 pub months-smaller : goal.months-smaller
 months-smaller g c =
-    let inv = c.months.invariant in
     let look = c.months.look in
-    let has = some (g.C.Calendar.system c.args.calendar.now).list (g.met.C.Calendar.lawful c.args.calendar.now) look inv.0 in
-    omega (arith, signed, c.months-test.true, c.month_after-next.ensures.joins, has, look.near, look.short, c.end-end.ensures, c.args.year.now.near, c.args.year.now.short)
+    let end = to_z w64 (of_z w64 c.end-end.result) in
+    let has = some (g.C.Calendar.system c.args.calendar.now).list (g.met.C.Calendar.lawful c.args.calendar.now) look c.months.invariant.0 in
+    let before = subst (λ (d : ℤ). d <ℤ end) (near-word look.first look.near) (lt-holds _ _ c.months-test.true) in
+    less-left end look.first c.month_after-next.result.first look.days before c.month_after-next.ensures.joins has
+
+pub month_after-next-requires-clause-nearby : goal.month_after-next-requires-clause-nearby
+month_after-next-requires-clause-nearby g c = c.requires.nearby
 
 pub returns : goal.returns
 returns g c =

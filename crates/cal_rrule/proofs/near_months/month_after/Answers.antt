@@ -4,7 +4,7 @@ use Rattle.cal_rrule.specs.Looks.{look_stretch}
 use Rattle.cal_rrule.specs.Stretches.{InStretch}
 use Rattle.cal_rrule.proofs.LookLemmas.{look-joins}
 use Rattle.cal_rrule.proofs.NearMonthLemmas.{next-begins}
-use Rattle.cal_rrule.proofs.WordLemmas.{end-word, field-word, month-short}
+use Rattle.cal_rrule.proofs.WordLemmas.{end-word, field-word, month-short, valid-test}
 use Rattle.cal_rrule.proofs.near_months.month_after.Goals as goal
 
 pub returns-then-is_valid-clause-joins : goal.returns-then-is_valid-clause-joins
@@ -27,3 +27,18 @@ look_at-requires-clause-begins g c =
     let end = end-word c.end-first.result look.first look.days c.end-first.ensures look.near (month-short look.days look.short) in
     end ∙ next-begins list law c.requires.nearby look c.requires.look c.requires.near year place c.place_after-year.ensures.next
     ∙ ap (λ (y : ℤ). day_number list (date y place 1)) (sym same)
+
+pub month_of-requires-clause-low : goal.month_of-requires-clause-low
+month_of-requires-clause-low g c = (valid-test c.is_valid.result _ c.is_valid.ensures c.if-is_valid.true).0
+
+pub month_of-requires-clause-high : goal.month_of-requires-clause-high
+month_of-requires-clause-high g c = (valid-test c.is_valid.result _ c.is_valid.ensures c.if-is_valid.true).1
+
+pub returns-clause-joins : goal.returns-clause-joins
+returns-clause-joins g c =
+    let look = c.args.look.now in
+    c.look_at.ensures.begins
+    ∙ end-word c.end-first.result look.first look.days c.end-first.ensures look.near (month-short look.days look.short)
+
+pub look_at-requires-clause-nearby : goal.look_at-requires-clause-nearby
+look_at-requires-clause-nearby g c = c.requires.nearby

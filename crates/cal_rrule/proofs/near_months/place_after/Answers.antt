@@ -2,15 +2,20 @@ use Rattle.std.proofs.Common.{◌≡◌, ◌∙◌, ◌<◌, ◌≤◌, ℕ, ℤ
 use Rattle.cal_days.specs.Day.{IsFieldYear}
 use Rattle.cal_types.specs.CalendarList.{month_count}
 use Rattle.cal_rrule.proofs.NearMonthLemmas.{after-last, after-within, look-field, next-field}
-use Rattle.cal_rrule.proofs.WordLemmas.{field-word, next-word, shift-fits}
+use Rattle.cal_rrule.proofs.WordLemmas.{field-back, field-word, next-word, shift-fits}
 use Rattle.cal_rrule.proofs.near_months.place_after.Goals as goal
 
-pub months_of_year-requires : goal.months_of_year-requires
-months_of_year-requires g c =
+pub months_of_year-requires-clause-low : goal.months_of_year-requires-clause-low
+months_of_year-requires-clause-low g c =
     let look = c.args.look.now in
-    let field = look-field (g.C.Calendar.system c.args.calendar.now).list (g.met.C.Calendar.lawful c.args.calendar.now) c.requires.nearby
-    look c.requires.look c.requires.near in
-    subst IsFieldYear (sym (field-word look.year field)) field
+    (field-back look.year (look-field (g.C.Calendar.system c.args.calendar.now).list (g.met.C.Calendar.lawful c.args.calendar.now)
+    c.requires.nearby look c.requires.look c.requires.near)).0
+
+pub months_of_year-requires-clause-high : goal.months_of_year-requires-clause-high
+months_of_year-requires-clause-high g c =
+    let look = c.args.look.now in
+    (field-back look.year (look-field (g.C.Calendar.system c.args.calendar.now).list (g.met.C.Calendar.lawful c.args.calendar.now)
+    c.requires.nearby look c.requires.look c.requires.near)).1
 
 pub returns-then-look-months_of_year-clause-next : goal.returns-then-look-months_of_year-clause-next
 returns-then-look-months_of_year-clause-next g c =

@@ -26,14 +26,32 @@ overflow_sub-year g c =
     back-fits look.year (look-field (g.C.Calendar.system c.args.calendar.now).list (g.met.C.Calendar.lawful c.args.calendar.now)
     c.requires.nearby look c.requires.look c.requires.near)
 
-pub months_of_year-requires : goal.months_of_year-requires
-months_of_year-requires g c =
+pub months_of_year-requires-clause-low : goal.months_of_year-requires-clause-low
+months_of_year-requires-clause-low g c =
     let list = (g.C.Calendar.system c.args.calendar.now).list in
     let law = g.met.C.Calendar.lawful c.args.calendar.now in
     let look = c.args.look.now in
     let field = look-field list law c.requires.nearby look c.requires.look c.requires.near in
-    subst IsFieldYear (sym (last-word look.year field))
-    (field-before list law c.requires.nearby look c.requires.look c.requires.near c.if-look-gt1.false)
+    (subst IsFieldYear (sym (last-word look.year field))
+    (field-before list law c.requires.nearby look c.requires.look c.requires.near c.if-look-gt1.false)).0
+
+pub months_of_year-requires-clause-high : goal.months_of_year-requires-clause-high
+months_of_year-requires-clause-high g c =
+    let list = (g.C.Calendar.system c.args.calendar.now).list in
+    let law = g.met.C.Calendar.lawful c.args.calendar.now in
+    let look = c.args.look.now in
+    let field = look-field list law c.requires.nearby look c.requires.look c.requires.near in
+    (subst IsFieldYear (sym (last-word look.year field))
+    (field-before list law c.requires.nearby look c.requires.look c.requires.near c.if-look-gt1.false)).1
+
+pub returns-clause-place : goal.returns-clause-place
+returns-clause-place g c =
+    let list = (g.C.Calendar.system c.args.calendar.now).list in
+    let law = g.met.C.Calendar.lawful c.args.calendar.now in
+    let look = c.args.look.now in
+    let field = look-field list law c.requires.nearby look c.requires.look c.requires.near in
+    (before-first list law look.year _ look.place _ c.requires.look.is_place c.if-look-gt1.false (last-back look.year field)
+    c.months_of_year.ensures).0
 
 pub returns-clause-next : goal.returns-clause-next
 returns-clause-next g c =

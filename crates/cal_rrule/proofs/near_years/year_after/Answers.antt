@@ -3,7 +3,7 @@ use Rattle.cal_types.proofs.ListLemmas.{year_length-most}
 use Rattle.cal_rrule.specs.Looks.{look_year}
 use Rattle.cal_rrule.specs.Stretches.{InStretch}
 use Rattle.cal_rrule.proofs.NearYearLemmas.{own-field, next-year-field, next-starts, year-joins}
-use Rattle.cal_rrule.proofs.WordLemmas.{behind-near, end-word, next-word, shift-fits}
+use Rattle.cal_rrule.proofs.WordLemmas.{behind-near, end-word, next-word, shift-fits, valid-test}
 use Rattle.cal_rrule.proofs.near_years.year_after.Goals as goal
 
 pub returns-then-is_valid-clause-year : goal.returns-then-is_valid-clause-year
@@ -30,13 +30,21 @@ overflow_add-year g c =
     shift-fits look.year (own-field (g.C.Calendar.system c.args.calendar.now).list (g.met.C.Calendar.lawful c.args.calendar.now) look
     c.requires.look c.requires.nearby c.requires.near)
 
-pub days_of_year-days-requires : goal.days_of_year-days-requires
-days_of_year-days-requires g c =
+pub days_of_year-days-requires-clause-low : goal.days_of_year-days-requires-clause-low
+days_of_year-days-requires-clause-low g c =
     let list = (g.C.Calendar.system c.args.calendar.now).list in
     let law = g.met.C.Calendar.lawful c.args.calendar.now in
     let look = c.args.look.now in
     let shifted = next-word look.year (own-field list law look c.requires.look c.requires.nearby c.requires.near) in
-    next-year-field list law look c.requires.look c.requires.nearby c.requires.near _ shifted
+    (next-year-field list law look c.requires.look c.requires.nearby c.requires.near _ shifted).0
+
+pub days_of_year-days-requires-clause-high : goal.days_of_year-days-requires-clause-high
+days_of_year-days-requires-clause-high g c =
+    let list = (g.C.Calendar.system c.args.calendar.now).list in
+    let law = g.met.C.Calendar.lawful c.args.calendar.now in
+    let look = c.args.look.now in
+    let shifted = next-word look.year (own-field list law look c.requires.look c.requires.nearby c.requires.near) in
+    (next-year-field list law look c.requires.look c.requires.nearby c.requires.near _ shifted).1
 
 pub invariant_of-result : goal.invariant_of-result
 invariant_of-result g c =
@@ -63,3 +71,9 @@ returns-clause-year g c =
     let look = c.args.look.now in
     next-word look.year (own-field (g.C.Calendar.system c.args.calendar.now).list (g.met.C.Calendar.lawful c.args.calendar.now) look
     c.requires.look c.requires.nearby c.requires.near)
+
+pub year_of-requires-clause-low : goal.year_of-requires-clause-low
+year_of-requires-clause-low g c = (valid-test c.is_valid.result _ c.is_valid.ensures c.if-is_valid.true).0
+
+pub year_of-requires-clause-high : goal.year_of-requires-clause-high
+year_of-requires-clause-high g c = (valid-test c.is_valid.result _ c.is_valid.ensures c.if-is_valid.true).1

@@ -8,13 +8,13 @@ use Rattle.cal_rrule.proofs.probes.months_of_year.Goals as goal
 pub returns-then-has_day : goal.returns-then-has_day
 returns-then-has_day g c =
     let list = (g.C.Calendar.system c.args.calendar.now).list in
-    let same = field-word c.args.year c.requires in
+    let same = field-word c.args.year (c.requires.low, c.requires.high) in
     thirteen list (g.met.C.Calendar.lawful c.args.calendar.now) c.args.year
     (ap (λ (y : ℤ). is_date list (date y 13 1)) (sym same) ∙ sym c.has_day.ensures ∙ c.if-has_day.true)
 
 pub returns : goal.returns
 returns g c =
     let list = (g.C.Calendar.system c.args.calendar.now).list in
-    let same = field-word c.args.year c.requires in
+    let same = field-word c.args.year (c.requires.low, c.requires.high) in
     twelve list (g.met.C.Calendar.lawful c.args.calendar.now) c.args.year
     (ap (λ (y : ℤ). is_date list (date y 13 1)) (sym same) ∙ sym c.has_day.ensures ∙ c.if-has_day.false)

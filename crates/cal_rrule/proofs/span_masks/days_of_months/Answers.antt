@@ -1,11 +1,10 @@
-use Rattle.std.proofs.Common.{◌∙◌, ℤ, ◌≤ℤ◌, ◌<ℤ◌, subst, arith}
-use Rattle.cal_days.proofs.Signed.{signed}
+use Rattle.std.proofs.Common.{◌∙◌, ℤ, pos, ◌+ℤ◌, ◌≤ℤ◌, ◌<ℤ◌, ap, subst, subst₂}
 use Rattle.cal_rrule.specs.Looks.{look_stretch}
 use Rattle.cal_rrule.specs.Periods.{IsOfMonths}
 use Rattle.cal_rrule.specs.Stretches.{end_of}
 use Rattle.cal_rrule.proofs.LookLemmas.{some}
 use Rattle.cal_rrule.proofs.WalkLemmas.{walk-first, walk-marks, walk-next}
-use Rattle.cal_rrule.proofs.WordLemmas.{end-word, month-short, span-from, walk-low, walk-on}
+use Rattle.cal_rrule.proofs.WordLemmas.{end-word, month-short, less-left, lt-fails, lt-holds, span-from, span-to, walk-low, walk-on}
 use Rattle.cal_rrule.proofs.span_masks.days_of_months.Goals as goal
 
 pub months-init : goal.months-init
@@ -46,17 +45,22 @@ months-preserved g c =
 
 pub months-smaller : goal.months-smaller
 months-smaller g c =
-    let list = (g.C.Calendar.system c.args.calendar.now).list in
-    let inv = c.months.invariant in
+    let span = c.args.span.now in
+    let look = c.months.look in
     let next = c.month_after-look.result in
-    let next_is = c.month_after-look.ensures.look in
-    let has = some list (g.met.C.Calendar.lawful c.args.calendar.now) next next_is in
-    omega (arith, signed, inv.1, c.months-test.true, c.month_after-look.ensures.joins, has)
+    let has = some (g.C.Calendar.system c.args.calendar.now).list (g.met.C.Calendar.lawful c.args.calendar.now) next c.month_after-look.ensures.look in
+    let before = subst₂ (λ (a b : ℤ). a <ℤ b) c.months.invariant.1 (span-to span.from span.to span.low span.order span.high)
+    (lt-holds _ _ c.months-test.true) in
+    less-left span.to (end_of (look_stretch look)) (end_of (look_stretch next)) next.days before
+    (ap (λ (d : ℤ). d +ℤ pos next.days) c.month_after-look.ensures.joins) has
+
+pub month_after-look-requires-clause-nearby : goal.month_after-look-requires-clause-nearby
+month_after-look-requires-clause-nearby g c = c.requires
 
 pub returns : goal.returns
 returns g c =
     let list = (g.C.Calendar.system c.args.calendar.now).list in
     let span = c.args.span.now in
     let inv = c.months.invariant in
-    let past : span.to ≤ℤ end_of (look_stretch c.months.look) = omega (arith, signed, inv.1, c.months-test.false) in
+    let past = subst₂ (λ (a b : ℤ). a ≤ℤ b) (span-to span.from span.to span.low span.order span.high) inv.1 (lt-fails _ _ c.months-test.false) in
     walk-marks c.months.days span.from (end_of (look_stretch c.months.look)) span.to (IsOfMonths list c.args.asked.now.rule) inv.3 past span.few

@@ -1,11 +1,10 @@
-use Rattle.std.proofs.Common.{◌∙◌, ℤ, ◌≤ℤ◌, ◌<ℤ◌, subst, arith}
-use Rattle.cal_days.proofs.Signed.{signed}
+use Rattle.std.proofs.Common.{◌∙◌, ℤ, pos, ◌+ℤ◌, ◌≤ℤ◌, ◌<ℤ◌, ap, subst, subst₂}
 use Rattle.cal_rrule.specs.Looks.{look_year}
 use Rattle.cal_rrule.specs.Periods.{IsOfWeekdays}
 use Rattle.cal_rrule.specs.Stretches.{end_of}
 use Rattle.cal_rrule.proofs.NearYearLemmas.{some-days}
 use Rattle.cal_rrule.proofs.WalkLemmas.{walk-first, walk-marks, walk-next, weekdays-year}
-use Rattle.cal_rrule.proofs.WordLemmas.{end-word, span-from, walk-low, walk-on}
+use Rattle.cal_rrule.proofs.WordLemmas.{end-word, less-left, lt-fails, lt-holds, span-from, span-to, walk-low, walk-on}
 use Rattle.cal_rrule.proofs.span_masks.weekdays_by_years.Goals as goal
 
 pub years-init : goal.years-init
@@ -46,17 +45,22 @@ years-preserved g c =
 
 pub years-smaller : goal.years-smaller
 years-smaller g c =
-    let list = (g.C.Calendar.system c.args.calendar.now).list in
-    let inv = c.years.invariant in
+    let span = c.args.span.now in
+    let look = c.years.look in
     let next = c.year_after-look.result in
-    let next_is = c.year_after-look.ensures.look in
-    let has = some-days list (g.met.C.Calendar.lawful c.args.calendar.now) next next_is in
-    omega (arith, signed, inv.1, c.years-test.true, c.year_after-look.ensures.joins, has)
+    let has = some-days (g.C.Calendar.system c.args.calendar.now).list (g.met.C.Calendar.lawful c.args.calendar.now) next c.year_after-look.ensures.look in
+    let before = subst₂ (λ (a b : ℤ). a <ℤ b) c.years.invariant.1 (span-to span.from span.to span.low span.order span.high)
+    (lt-holds _ _ c.years-test.true) in
+    less-left span.to (end_of (look_year look)) (end_of (look_year next)) next.days before
+    (ap (λ (d : ℤ). d +ℤ pos next.days) c.year_after-look.ensures.joins) has
+
+pub year_after-look-requires-clause-nearby : goal.year_after-look-requires-clause-nearby
+year_after-look-requires-clause-nearby g c = c.requires.nearby
 
 pub returns : goal.returns
 returns g c =
     let list = (g.C.Calendar.system c.args.calendar.now).list in
     let span = c.args.span.now in
     let inv = c.years.invariant in
-    let past : span.to ≤ℤ end_of (look_year c.years.look) = omega (arith, signed, inv.1, c.years-test.false) in
+    let past = subst₂ (λ (a b : ℤ). a ≤ℤ b) (span-to span.from span.to span.low span.order span.high) inv.1 (lt-fails _ _ c.years-test.false) in
     walk-marks c.years.days span.from (end_of (look_year c.years.look)) span.to (IsOfWeekdays list c.args.asked.now.rule) inv.3 past span.few

@@ -1,4 +1,4 @@
-use Rattle.std.proofs.Common.{◌≡◌, ◌*◌, arith, pos, ◌+ℤ◌, to_z, of_z, w64}
+use Rattle.std.proofs.Common.{◌≡◌, ◌*◌, arith, pos, ◌+ℤ◌, to_z, of_z, w64, ◌∙◌}
 use Rattle.cal_rrule.specs.Blocks.{start_of, weekly_periods}
 use Rattle.cal_rrule.proofs.WeeklyLemmas.{block-kept}
 use Rattle.cal_rrule.proofs.WordLemmas.{from-end-word, from-word}
@@ -21,3 +21,6 @@ returns g c = λ w block is from n.
     c.weeks_of_block.result c.args.from c.weekly_days-days.result c.kept_in_weeks-kept.result c.keep_days.new.self from count weeks few
     marks c.kept_in_weeks-kept.ensures.first c.keep_days.ensures.first
     (λ are. c.kept_in_weeks-kept.ensures.kept list t (block * weekly_periods a.rule.interval) are) cut c.keep_days.ensures.row n
+
+pub weekly_days-days-requires-clause-nearby : goal.weekly_days-days-requires-clause-nearby
+weekly_days-days-requires-clause-nearby g c = c.requires.nearby

@@ -5,7 +5,7 @@ use Rattle.cal_rrule.specs.Blocks.{start_of}
 use Rattle.cal_rrule.specs.Masks.{Marks}
 use Rattle.cal_rrule.specs.YearWeeks.{AreWeeksOf, IsNamedAbout}
 use Rattle.cal_rrule.proofs.WeeksBlockLemmas.{weeks-named}
-use Rattle.cal_rrule.proofs.WordLemmas.{span-from, span-to, week-word, weeks-fit, weeks-low}
+use Rattle.cal_rrule.proofs.WordLemmas.{about-week, span-from, span-to, week-word, weeks-fit, weeks-low}
 use Rattle.cal_rrule.proofs.weeks_block.days_of_weeks.Goals as goal
 
 pub returns-clause-days : goal.returns-clause-days
@@ -52,3 +52,11 @@ keep_start_weekday-requires-clause-first g c =
     let own = week-word weeks.first weeks.near in
     c.keep_weeks.ensures.first ∙ (c.named_about-days.ensures (start_of c.args.asked.now) c.requires.is_asked).first
     ∙ c.span_of_weeks-span.ensures.0 ∙ own
+
+pub keep_start_weekday-requires-clause-near : goal.keep_start_weekday-requires-clause-near
+keep_start_weekday-requires-clause-near g c =
+    let weeks = c.weeks_of_year-weeks in
+    about-week weeks.result.first c.args.year.now.first weeks.ensures.low weeks.ensures.high c.requires.near
+
+pub named_about-days-requires-clause-nearby : goal.named_about-days-requires-clause-nearby
+named_about-days-requires-clause-nearby g c = c.requires.nearby

@@ -1,6 +1,6 @@
 use Rattle.std.proofs.Common.{◌≡◌, ◌∙◌, ◌+ℤ◌, pos, sym}
-use Rattle.cal_rrule.proofs.WeeksBlockLemmas.{behind-all, behind-far, behind-least, never-same}
-use Rattle.cal_rrule.proofs.WordLemmas.{first-near, next-more, next-most, next-near, next-own, not-less}
+use Rattle.cal_rrule.proofs.WeeksBlockLemmas.{behind-all, behind-far, behind-least}
+use Rattle.cal_rrule.proofs.WordLemmas.{first-near, held-valid, never-same, next-more, next-most, next-near, next-own, not-less}
 use Rattle.cal_rrule.proofs.YearStepLemmas.{last-year}
 use Rattle.cal_rrule.proofs.weeks_block.year_behind.Goals as goal
 
@@ -60,3 +60,12 @@ years_to_next-requires-clause-high g c =
     (last-year (g.C.Calendar.system c.args.calendar.now).list (g.met.C.Calendar.lawful c.args.calendar.now)
     (g.met.C.Calendar.ranged c.args.calendar.now) c.year_of-high.result c.to_i64_date.result c.args.last c.to_i64_date.ensures.value
     c.requires.last c.year_of-high.ensures.look c.year_of-high.ensures.within).1
+
+pub year_of-high-requires-clause-low : goal.year_of-high-requires-clause-low
+year_of-high-requires-clause-low g c = (held-valid c.to_i64_date.result c.args.last c.to_i64_date.ensures.value c.requires.last).0
+
+pub year_of-high-requires-clause-high : goal.year_of-high-requires-clause-high
+year_of-high-requires-clause-high g c = (held-valid c.to_i64_date.result c.args.last c.to_i64_date.ensures.value c.requires.last).1
+
+pub year_after-requires-clause-nearby : goal.year_after-requires-clause-nearby
+year_after-requires-clause-nearby g c = c.requires.nearby

@@ -1,6 +1,6 @@
 use Rattle.std.proofs.Common.{◌≡◌, ◌∙◌, ◌+◌, ◌-◌, ◌+ℤ◌, pos, refl, sym, ap, ℤ}
 use Rattle.cal_rrule.proofs.WeeksBlockLemmas.{week-before, week-behind, week-own, within-same}
-use Rattle.cal_rrule.proofs.WordLemmas.{before-near, before-none, before-same, behind-same, fourth-early, fourth-far, fourth-from, fourth-within}
+use Rattle.cal_rrule.proofs.WordLemmas.{before-near, before-none, before-same, behind-same, first-near, fourth-early, fourth-far, fourth-from, fourth-within, held-valid}
 use Rattle.cal_rrule.proofs.YearStepLemmas.{last-year}
 use Rattle.cal_rrule.proofs.weeks_block.year_of_period.Goals as goal
 
@@ -86,3 +86,30 @@ year_reached-requires-2-clause-field g c =
     (last-year (g.C.Calendar.system c.args.calendar.now).list (g.met.C.Calendar.lawful c.args.calendar.now)
     (g.met.C.Calendar.ranged c.args.calendar.now) c.year_of-own.result a.day a.day refl c.requires.valid c.year_of-own.ensures.look
     c.year_of-own.ensures.within).1
+
+pub year_of-own-requires-clause-low : goal.year_of-own-requires-clause-low
+year_of-own-requires-clause-low g c = (held-valid c.args.asked.now.day c.args.asked.now.day refl c.requires.valid).0
+
+pub year_of-own-requires-clause-high : goal.year_of-own-requires-clause-high
+year_of-own-requires-clause-high g c = (held-valid c.args.asked.now.day c.args.asked.now.day refl c.requires.valid).1
+
+pub year_before-requires-clause-near : goal.year_before-requires-clause-near
+year_before-requires-clause-near g c =
+    let a = c.args.asked.now in
+    let own = c.year_of-own.result in
+    let in_own = last-year (g.C.Calendar.system c.args.calendar.now).list (g.met.C.Calendar.lawful c.args.calendar.now)
+    (g.met.C.Calendar.ranged c.args.calendar.now) own a.day a.day refl c.requires.valid c.year_of-own.ensures.look
+    c.year_of-own.ensures.within in
+    first-near own.first a.day own.days in_own.0.0 in_own.0.1 own.short c.requires.valid
+
+pub year_before-requires-clause-nearby : goal.year_before-requires-clause-nearby
+year_before-requires-clause-nearby g c = c.requires.nearby
+
+pub year_reached-requires-clause-nearby : goal.year_reached-requires-clause-nearby
+year_reached-requires-clause-nearby g c = c.requires.nearby
+
+pub year_reached-requires-then-fourth-own-clause-nearby : goal.year_reached-requires-then-fourth-own-clause-nearby
+year_reached-requires-then-fourth-own-clause-nearby g c = c.requires.nearby
+
+pub year_reached-requires-2-clause-nearby : goal.year_reached-requires-2-clause-nearby
+year_reached-requires-2-clause-nearby g c = c.requires.nearby

@@ -45,14 +45,23 @@ returns-then-years-eq0 g c =
     found-own list look high c.args.years c.args.last c.requires.look c.requires.high c.requires.within c.if-years-eq0.true
     (own-order look.year high.year c.args.years order)
 
-pub year_numbered-requires : goal.year_numbered-requires
-year_numbered-requires g c =
+pub year_numbered-requires-clause-low : goal.year_numbered-requires-clause-low
+year_numbered-requires-clause-low g c =
     let look = c.args.look.now in
     let high = c.args.high.now in
     let order = not-later look.year high.year c.number_after-number.result c.from.result c.args.years c.number_after-number.ensures
     c.from.ensures c.requires.field c.requires.high_field c.requires.most c.if-number-from.false in
     let field = field-between look.year high.year c.args.years c.requires.field c.requires.high_field order in
-    subst IsFieldYear (sym (number-word c.number_after-number.result _ c.number_after-number.ensures field)) field
+    (subst IsFieldYear (sym (number-word c.number_after-number.result _ c.number_after-number.ensures field)) field).0
+
+pub year_numbered-requires-clause-high : goal.year_numbered-requires-clause-high
+year_numbered-requires-clause-high g c =
+    let look = c.args.look.now in
+    let high = c.args.high.now in
+    let order = not-later look.year high.year c.number_after-number.result c.from.result c.args.years c.number_after-number.ensures
+    c.from.ensures c.requires.field c.requires.high_field c.requires.most c.if-number-from.false in
+    let field = field-between look.year high.year c.args.years c.requires.field c.requires.high_field order in
+    (subst IsFieldYear (sym (number-word c.number_after-number.result _ c.number_after-number.ensures field)) field).1
 
 pub returns : goal.returns
 returns g c =
@@ -65,3 +74,6 @@ returns g c =
     found-numbered list look high c.args.years _ c.args.last c.requires.look c.requires.high c.requires.within c.requires.low
     c.requires.last c.if-years-eq0.false order (number-word c.number_after-number.result _ c.number_after-number.ensures field)
     c.year_numbered.result c.year_numbered.ensures
+
+pub year_after-requires-clause-nearby : goal.year_after-requires-clause-nearby
+year_after-requires-clause-nearby g c = c.requires.nearby

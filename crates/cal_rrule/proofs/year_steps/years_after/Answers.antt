@@ -1,5 +1,5 @@
 use Rattle.std.proofs.Common.{pos, ◌+ℤ◌}
-use Rattle.cal_rrule.proofs.WordLemmas.{next-least, next-more, next-own, not-less}
+use Rattle.cal_rrule.proofs.WordLemmas.{held-valid, next-least, next-more, next-own, not-less}
 use Rattle.cal_rrule.proofs.YearStepLemmas.{begins-behind, last-year}
 use Rattle.cal_rrule.proofs.year_steps.years_after.Goals as goal
 
@@ -45,3 +45,12 @@ year_within-requires-clause-most g c =
     let same = next-own c.years_to_next.result look.year high.year c.years_to_next.ensures c.requires.field own.1 in
     next-least _ c.years_to_next.result look.year high.year c.args.years same c.years_to_next.ensures
     (not-less _ _ c.is_more.result c.is_more.ensures c.if-is_more.false)
+
+pub year_of-high-requires-clause-low : goal.year_of-high-requires-clause-low
+year_of-high-requires-clause-low g c = (held-valid c.to_i64_date.result c.args.last c.to_i64_date.ensures.value c.requires.last).0
+
+pub year_of-high-requires-clause-high : goal.year_of-high-requires-clause-high
+year_of-high-requires-clause-high g c = (held-valid c.to_i64_date.result c.args.last c.to_i64_date.ensures.value c.requires.last).1
+
+pub year_within-requires-clause-nearby : goal.year_within-requires-clause-nearby
+year_within-requires-clause-nearby g c = c.requires.nearby
