@@ -1,5 +1,5 @@
 -- Words that days and years pass through, and sums of days, months and years over plain numbers.
-use Rattle.std.proofs.Common.{◌≡◌, ◌↔◌, IsTrue, Bool, true, false, Fits, FitsSigned, ℕ, ◌+◌, ◌-◌, ◌*◌, ◌<◌, ◌≤◌, ℤ, pos, neg_ℤ, ◌+ℤ◌, ◌-ℤ◌, ◌≤ℤ◌, ◌<ℤ◌, int_le, int_lt, sym, subst, ◌∙◌, to_z, of_z, w32, w64, arith}
+use Rattle.std.proofs.Common.{◌≡◌, ◌↔◌, IsTrue, Bool, true, false, FitsSigned, ℕ, ◌+◌, ◌-◌, ◌*◌, ◌<◌, ◌≤◌, ℤ, pos, neg_ℤ, ◌+ℤ◌, ◌-ℤ◌, ◌≤ℤ◌, ◌<ℤ◌, int_le, int_lt, sym, subst, ◌∙◌, to_z, of_z, w32, w64, arith}
 use mathlib.Core.Bool.{true≢false}
 use Rattle.cal_days.specs.Day.{IsBetween, IsFieldYear, IsValidDay, is_valid_day}
 use Rattle.cal_days.specs.Sums.{years_up}

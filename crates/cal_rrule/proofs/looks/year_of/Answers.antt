@@ -1,4 +1,4 @@
-use Rattle.std.proofs.Common.{◌≡◌, ◌∙◌, ◌≤◌, ℕ, ℤ, pos, sym, subst, rules, w32}
+use Rattle.std.proofs.Common.{◌∙◌, ◌≤◌, ℕ, ℤ, sym, subst, rules, w32}
 use Rattle.std.proofs.lemmas.Int.{to_z-of_z}
 use Rattle.cal_types.specs.CalendarList.{IsOn, start_of_year}
 use Rattle.cal_types.proofs.ListLemmas.{date-in_year, year_length-most}

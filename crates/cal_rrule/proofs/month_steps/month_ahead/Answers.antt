@@ -1,4 +1,4 @@
-use Rattle.std.proofs.Common.{◌≡◌, ◌∙◌, ◌-◌, ℤ, pos, neg_ℤ, ap, subst, sym}
+use Rattle.std.proofs.Common.{◌∙◌, ◌-◌, ℤ, pos, neg_ℤ, ap, subst, sym}
 use Rattle.cal_days.specs.Day.{IsValidDay, is_valid_day}
 use Rattle.cal_days.proofs.RangeLemmas.{is_between-true}
 use Rattle.cal_rrule.specs.Looks.{look_stretch}

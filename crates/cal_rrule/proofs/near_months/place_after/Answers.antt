@@ -1,4 +1,4 @@
-use Rattle.std.proofs.Common.{◌≡◌, ◌∙◌, ◌<◌, ◌≤◌, ℕ, ℤ, refl, sym, ap, subst, to_z, of_z, w32}
+use Rattle.std.proofs.Common.{◌∙◌, ◌<◌, ◌≤◌, ℕ, refl, sym, ap, subst, to_z, of_z, w32}
 use Rattle.cal_days.specs.Day.{IsFieldYear}
 use Rattle.cal_types.specs.CalendarList.{month_count}
 use Rattle.cal_rrule.proofs.NearMonthLemmas.{after-last, after-within, look-field, next-field}

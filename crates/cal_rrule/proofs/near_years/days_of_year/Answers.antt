@@ -1,5 +1,4 @@
-use Rattle.std.proofs.Common.{◌≡◌, ◌+◌, ap, sym, arith, ℤ, w32, to_z, of_z}
-use Rattle.cal_days.proofs.Signed.{signed}
+use Rattle.std.proofs.Common.{◌+◌, ap, sym, arith, ℤ, w32, to_z, of_z}
 use Rattle.cal_types.specs.CalendarList.{HasPlace, year_length}
 use Rattle.cal_types.proofs.ListLemmas.{days_before-end, days_before-first, days_before-next}
 use Rattle.cal_rrule.proofs.WordLemmas.{field-word}

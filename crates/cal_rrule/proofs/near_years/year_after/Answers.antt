@@ -1,4 +1,4 @@
-use Rattle.std.proofs.Common.{◌≡◌, ◌∙◌, ◌≤◌, ℕ, ℤ, pos, ◌+ℤ◌, sym, subst, to_z, of_z, w32}
+use Rattle.std.proofs.Common.{◌∙◌, ◌≤◌, ℕ, ℤ, pos, ◌+ℤ◌, sym, subst, to_z, of_z, w32}
 use Rattle.cal_types.proofs.ListLemmas.{year_length-most}
 use Rattle.cal_rrule.specs.Looks.{look_year}
 use Rattle.cal_rrule.specs.Stretches.{InStretch}

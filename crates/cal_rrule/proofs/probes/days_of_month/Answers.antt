@@ -1,5 +1,4 @@
-use Rattle.std.proofs.Common.{◌≡◌, ◌∙◌, ◌-◌, rules, ap, sym, arith, ℤ, FitsSigned, w32, to_z, of_z}
-use Rattle.cal_days.proofs.Signed.{signed}
+use Rattle.std.proofs.Common.{◌≡◌, ◌∙◌, ◌-◌, ap, sym, arith, ℤ, w32, to_z, of_z}
 use Rattle.cal_types.specs.CalendarList.{date, is_date, month_length}
 use Rattle.cal_rrule.proofs.ProbeLemmas.{length-found, length-less}
 use Rattle.cal_rrule.proofs.WordLemmas.{field-word}

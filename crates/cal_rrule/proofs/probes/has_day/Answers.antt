@@ -1,5 +1,4 @@
-use Rattle.std.proofs.Common.{◌≡◌, ◌∙◌, rules, ap, arith, ℤ, FitsSigned, w32, to_z, of_z}
-use Rattle.cal_days.proofs.Signed.{signed}
+use Rattle.std.proofs.Common.{◌∙◌, ap, ℤ}
 use Rattle.cal_types.specs.Resolving.{resolve}
 use Rattle.cal_types.specs.declared.options.MissingFieldsStrategy.TheVariants as missing
 use Rattle.cal_types.specs.declared.options.Overflow.TheVariants.{Reject}

@@ -1,5 +1,4 @@
-use Rattle.std.proofs.Common.{◌≡◌, ◌∙◌, ◌↔◌, rules, ap, sym, arith, Bool, IsTrue, ℤ, subst, FitsSigned, w32, to_z, of_z}
-use Rattle.cal_days.proofs.Signed.{signed}
+use Rattle.std.proofs.Common.{◌≡◌, ◌∙◌, ◌↔◌, ap, sym, Bool, IsTrue, ℤ, subst}
 use Rattle.cal_types.specs.CalendarList.{month_at}
 use Rattle.cal_types.specs.MonthParts.{month_parts}
 use Rattle.cal_types.specs.Resolving.{resolve}

@@ -1,5 +1,4 @@
-use Rattle.std.proofs.Common.{◌≡◌, ◌∙◌, ◌≤◌, rules, sym, ap, arith, ℤ, FitsSigned, w32, to_z, of_z}
-use Rattle.cal_days.proofs.Signed.{signed}
+use Rattle.std.proofs.Common.{◌≡◌, ◌∙◌, ◌≤◌, sym, ap, arith, ℤ, w32, to_z, of_z}
 use Rattle.cal_types.specs.CalendarList.{month_at}
 use Rattle.cal_types.specs.Month.{month_rank}
 use Rattle.cal_types.specs.MonthParts.{month_parts}

@@ -1,4 +1,4 @@
-use Rattle.std.proofs.Common.{◌≡◌, ◌*◌, arith, pos, ◌+ℤ◌, to_z, of_z, w64, ◌∙◌}
+use Rattle.std.proofs.Common.{◌≡◌, ◌*◌, pos, ◌+ℤ◌, ◌∙◌}
 use Rattle.cal_rrule.specs.Blocks.{start_of, weekly_periods}
 use Rattle.cal_rrule.proofs.WeeklyLemmas.{block-kept}
 use Rattle.cal_rrule.proofs.WordLemmas.{from-end-word, from-word}

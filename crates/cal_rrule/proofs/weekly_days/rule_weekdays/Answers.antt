@@ -1,4 +1,4 @@
-use Rattle.std.proofs.Common.{◌≡◌, false, Some, subst, subst₂, arith, to_z, of_z, w64}
+use Rattle.std.proofs.Common.{◌≡◌, false, Some, subst, subst₂}
 use Rattle.cal_rule.specs.Sets.{has_weekday}
 use Rattle.cal_rule.specs.declared.weekday_places.WeekdayPlaces.{WeekdayPlaces}
 use Rattle.cal_rrule.specs.Masks.{Marks}

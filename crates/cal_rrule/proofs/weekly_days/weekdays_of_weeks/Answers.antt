@@ -1,4 +1,4 @@
-use Rattle.std.proofs.Common.{◌≡◌, ◌+ℤ◌, ◌*◌, pos, true, false, rules, arith, to_z, of_z, w64}
+use Rattle.std.proofs.Common.{◌≡◌, ◌+ℤ◌, ◌*◌, pos, true, false, rules}
 use Rattle.cal_rrule.specs.Periods.{NoWeekdays}
 use Rattle.cal_rrule.proofs.AskedLemmas.{there-by}
 use Rattle.cal_rrule.proofs.WeeklyDayLemmas.{weekday-rule, weekday-start}

@@ -1,4 +1,4 @@
-use Rattle.std.proofs.Common.{◌≡◌, ◌∙◌, ◌+ℤ◌, ◌*◌, pos, sym, arith, to_z, of_z, w64}
+use Rattle.std.proofs.Common.{◌∙◌, ◌+ℤ◌, ◌*◌, pos, sym}
 use Rattle.cal_rrule.proofs.WeeklyDayLemmas.{weekly-kept}
 use Rattle.cal_rrule.proofs.WordLemmas.{from-word}
 use Rattle.cal_rrule.proofs.weekly_days.weekly_days.Goals as goal

@@ -1,9 +1,8 @@
 use Rattle.std.proofs.Common.{◌≡◌, ◌∙◌, ◌*◌, ◌+ℤ◌, pos, ℤ, sym, subst₂}
 use Rattle.cal_types.specs.CalendarList.{start_of_year}
-use Rattle.cal_types.specs.declared.weekday.Weekday.{Weekday}
 use Rattle.cal_rrule.specs.Blocks.{start_of}
 use Rattle.cal_rrule.specs.Masks.{Marks}
-use Rattle.cal_rrule.specs.YearWeeks.{AreWeeksOf, IsNamedAbout}
+use Rattle.cal_rrule.specs.YearWeeks.{IsNamedAbout}
 use Rattle.cal_rrule.proofs.WeeksBlockLemmas.{weeks-named}
 use Rattle.cal_rrule.proofs.WordLemmas.{about-week, span-from, span-to, week-word, weeks-fit, weeks-low}
 use Rattle.cal_rrule.proofs.weeks_block.days_of_weeks.Goals as goal

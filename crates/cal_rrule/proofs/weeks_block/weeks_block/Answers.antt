@@ -1,9 +1,5 @@
-use Rattle.std.proofs.Common.{◌≡◌, ◌∙◌, ◌*◌, ◌+ℤ◌, ◌<ℤ◌, ℤ, pos, length, subst, sym, rules, arith}
-use Rattle.cal_days.proofs.Signed.{signed}
-use Rattle.cal_types.specs.CalendarList.{start_of_year}
-use Rattle.cal_types.proofs.ListLemmas.{on-finds}
+use Rattle.std.proofs.Common.{subst, sym, arith}
 use Rattle.cal_rule.specs.declared.frequency.Frequency.{Frequency}
-use Rattle.cal_rule.specs.declared.frequency.Frequency.TheVariants.{Yearly}
 use Rattle.cal_rrule.specs.Blocks.{IsOfBlocks, start_of}
 use Rattle.cal_rrule.proofs.WeeklyStartLemmas.{week-finds}
 use Rattle.cal_rrule.proofs.WeeksBlockLemmas.{first-field, week-field, weeks-ended, weeks-period, year-finds, years-few}

@@ -1,4 +1,4 @@
-use Rattle.std.proofs.Common.{◌≡◌, ◌∙◌, ◌+ℤ◌, pos, sym}
+use Rattle.std.proofs.Common.{◌∙◌, ◌+ℤ◌, pos, sym}
 use Rattle.cal_rrule.proofs.WeeksBlockLemmas.{behind-all, behind-far, behind-least}
 use Rattle.cal_rrule.proofs.WordLemmas.{first-near, held-valid, never-same, next-more, next-most, next-near, next-own, not-less}
 use Rattle.cal_rrule.proofs.YearStepLemmas.{last-year}

@@ -1,4 +1,4 @@
-use Rattle.std.proofs.Common.{◌≡◌, ◌∙◌, ◌+◌, ◌-◌, ◌+ℤ◌, pos, refl, sym, ap, ℤ}
+use Rattle.std.proofs.Common.{◌+◌, ◌-◌, ◌+ℤ◌, pos, refl, sym, ap, ℤ}
 use Rattle.cal_rrule.proofs.WeeksBlockLemmas.{week-before, week-behind, week-own, within-same}
 use Rattle.cal_rrule.proofs.WordLemmas.{before-near, before-none, before-same, behind-same, first-near, fourth-early, fourth-far, fourth-from, fourth-within, held-valid}
 use Rattle.cal_rrule.proofs.YearStepLemmas.{last-year}

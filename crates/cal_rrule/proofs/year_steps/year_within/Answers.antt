@@ -1,4 +1,4 @@
-use Rattle.std.proofs.Common.{◌≡◌, ◌∙◌, ℤ, pos, ◌+ℤ◌, ◌≤ℤ◌, ◌<ℤ◌, sym, subst}
+use Rattle.std.proofs.Common.{◌∙◌, ℤ, pos, ◌+ℤ◌, ◌≤ℤ◌, ◌<ℤ◌, sym, subst}
 use Rattle.cal_days.specs.Day.{IsFieldYear}
 use Rattle.cal_rrule.proofs.WordLemmas.{few-years, field-between, first-near, next-year, not-later, not-less, number-word, own-order}
 use Rattle.cal_rrule.proofs.YearStepLemmas.{begins-next, found-numbered, found-own}
