@@ -4,14 +4,16 @@
 //! above 1. `--help` and `--version` are answered there, too.
 #![tactic(auto)]
 
+mod faults;
 mod usage;
 
 use byte_io::{StdSink, StdSource};
 use calspan_run::run_program;
+use faults::refuse_words;
 use std::env::Env;
 use std::process::ExitCode;
 use std::{env, io};
-use usage::{USAGE, fault, told, why, written};
+use usage::{told, why, written};
 
 /// Returns the first word of the command line. It is empty if there is none, or if it has more than 16 bytes.
 fn first_word<'b>(rt: &HostRuntime, buffer: &'b mut [u8; 16]) -> &'b [u8] {
@@ -24,8 +26,7 @@ fn first_word<'b>(rt: &HostRuntime, buffer: &'b mut [u8; 16]) -> &'b [u8] {
 /// Says on standard error why a run ended with an exit code above 1.
 fn explain(rt: &HostRuntime, code: u8, first: &[u8]) -> io::Result<()> {
     if code == 2 {
-        eprintln!(rt; "calspan: {}", fault(first))?;
-        return eprint!(rt; "{USAGE}");
+        return refuse_words(rt);
     }
     match why(code) {
         None => Ok(()),
