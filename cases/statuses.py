@@ -26,6 +26,7 @@ LIMIT = 16777216
 LITTLE_MEMORY = 24 << 20
 REQUEST = b"span iso iso days reject none from year=2024 month=M01 day=1 to year=2024 month=M02 day=%d\n"
 ROW = b"row china 2024\n"
+TOO_LONG = b"calspan: input longer than 16777216 bytes; %s; see the manual\n"
 
 
 class Run(NamedTuple):
@@ -49,8 +50,10 @@ RUNS = [
     Run(2, ["convert", "iso", "roc"], None, b"", b"calspan: word 4 is missing: constrain or reject; "),
     Run(2, ["rrule", "iso", "iso", "1", "9", "day=1", "day=2", "FREQ=DAILY"], None, b"", b"calspan: word 8 FREQ=DAILY: no more words, "),
     Run(6, ["span"], ROW, b"table line 1 syntax\n"),
-    Run(7, ["span"], b"#" * LIMIT + b"#\n", b""),
-    Run(7, ["explain"], b"row\n" + b"#" * LIMIT, b"line 1 word 2: china, "),
+    Run(7, ["span"], b"#" * LIMIT + b"#\n", b"", TOO_LONG % b"the first 0 lines were answered"),
+    Run(7, ["span"], b"#\n" * (LIMIT // 2) + b"#\n", b"", TOO_LONG % b"the first 8388608 lines were answered"),
+    Run(7, ["explain"], b"row\n" + b"#" * LIMIT, b"line 1 word 2: china, ", TOO_LONG % b"the first 1 lines were answered"),
+    Run(7, ["holidays", "1", "2"], b"#\n" * LIMIT, b"", TOO_LONG % b"nothing is written"),
 ]
 TOLD = {"--help": b"usage: calspan ", "-h": b"usage: calspan ", "--version": b"calspan, of icu_calendar proved in Rattle"}
 

@@ -45,12 +45,14 @@ pub fn why(code: u8) -> Option<&'static str> {
     }
 }
 
+/// Returns whether a command answers the lines among the first 16777216 bytes.
+pub fn is_limited(first: &[u8]) -> bool {
+    first == b"span".as_slice() || first == b"explain".as_slice()
+}
+
 /// Returns what is written of a run that ended before its input did, by the command.
 pub fn written(first: &[u8]) -> &'static str {
-    if first == b"span".as_slice()
-        || first == b"convert".as_slice()
-        || first == b"explain".as_slice()
-    {
+    if is_limited(first) || first == b"convert".as_slice() {
         "the answers to the lines before are written"
     } else {
         "nothing is written"
