@@ -45,7 +45,7 @@ pub fn why(code: u8) -> Option<&'static str> {
     }
 }
 
-/// Returns whether a command answers the lines among the first 16777216 bytes.
+/// Returns whether a command writes about the lines among the first 16777216 bytes of a longer input.
 pub fn is_limited(first: &[u8]) -> bool {
     first == b"span".as_slice() || first == b"explain".as_slice()
 }

@@ -36,7 +36,8 @@ impl LineCount {
 
     /// Counts the line feeds of the next bytes, as far as they are among the first 16777216.
     pub fn see(&mut self, bytes: &[u8])
-        ensures lines { lines_seen self.new ≡ lines_seen self.old + line_feeds_of (take (bytes_left self.old) bytes.now) }
+        ensures lines { let seen = take (bytes_left self.old) bytes.now in
+            lines_seen self.new ≡ lines_seen self.old + line_feeds_of seen }
         ensures left { bytes_left self.new ≡ bytes_left self.old - length bytes.now }
     {
         let seen = bytes.len().min(self.left);

@@ -49,7 +49,8 @@ impl<S: Source> Source for CountedSource<S> {
 
     fn read(&mut self, buf: &mut [u8]) -> Result<usize, Failed>
         ensures bound { ReadsAtMost result buf.new }
-        ensures bytes { ReadConsumes (S.left (counted_inner self.old)) (S.left (counted_inner self.new)) result buf.new }
+        ensures bytes { ReadConsumes (S.left (counted_inner self.old)) (S.left (counted_inner self.new)) result
+            buf.new }
         ensures cause { HasCause (S.faults (counted_inner self.old)) (S.faults (counted_inner self.new)) result }
 
         // The line feeds among the first bytes are counted.
