@@ -1,6 +1,6 @@
 -- A run of any command: what it says lasts, so that all of its text is written.
 use Rattle.std.proofs.Common.{◌≡◌, ℕ, List, Option, Some, None, ◌↔◌, refl, subst, ◌∙◌}
-use Rattle.calspan_run.specs.Command.{Asked, Span, Generate, Anniversary, Recur, Rrule, Holidays, Convert, Explain}
+use Rattle.command_line.specs.Command.{Asked, Span, Generate, Anniversary, Recur, Rrule, Holidays, Convert, Explain}
 use Rattle.calspan_run.specs.CommandRuns.{Ends, Runs, RunsAs, ServesAs}
 use Rattle.calspan_run.specs.Laws.{AreLasting}
 use Rattle.calspan_run.specs.ListTexts.{ListsAnniversaries, ListsOccurrences}

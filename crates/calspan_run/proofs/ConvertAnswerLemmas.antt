@@ -12,7 +12,7 @@ use Rattle.cal_types.specs.CalendarSystem.{CalendarSystem}
 use Rattle.cal_types.specs.DayDates.{date_on}
 use Rattle.cal_types.proofs.DayDateLemmas.{date_on-on}
 use Rattle.cal_types.proofs.ListLemmas.{on-unique}
-use Rattle.calspan_run.specs.ConvertAsked.{ConvertAsked}
+use Rattle.command_line.specs.ConvertAsked.{ConvertAsked}
 use Rattle.calspan_run.specs.Converted.{Answer, date_answer, day_answer, line_answer, shown_date, tab_place, text_answer}
 use Rattle.calspan_run.specs.Converting.{AnsweredLine, IsPushed}
 use Rattle.calspan_run.specs.TextSoFar.{TextSoFar}

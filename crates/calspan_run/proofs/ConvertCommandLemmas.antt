@@ -8,7 +8,7 @@ use Rattle.table_rows.specs.RowLines.{RowOutcome, Kept, Faulty}
 use Rattle.table_rows.specs.TableRows.{TableRows, contents_of, no_rows}
 use Rattle.table_rows.proofs.InputLemmas.{lines_in-prefix}
 use Rattle.calspan_run.specs.BehindRows.{OverTables}
-use Rattle.calspan_run.specs.ConvertAsked.{ConvertAsked}
+use Rattle.command_line.specs.ConvertAsked.{ConvertAsked}
 use Rattle.calspan_run.specs.ConvertTexts.{AtLine, Behind, Comment, Converts, Dated, HeadLine, RowLine, SaysConvert, SaysFrom, any_bad, head_line}
 use Rattle.calspan_run.specs.Run.{NoFault, outside}
 use Rattle.calspan_run.specs.Serving.{IsAnswered}

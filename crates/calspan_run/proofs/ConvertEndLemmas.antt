@@ -8,7 +8,7 @@ use Rattle.table_rows.specs.RowLines.{Faulty, Kept, RowOutcome, TakesRow}
 use Rattle.table_rows.specs.TableRows.{AreAccepted, TableRows, contents_of, no_rows}
 use Rattle.table_rows.specs.declared.table.RowFault.{RowFault}
 use Rattle.calspan_run.specs.BehindRows.{OverTables, RefusesTables}
-use Rattle.calspan_run.specs.ConvertAsked.{ConvertAsked}
+use Rattle.command_line.specs.ConvertAsked.{ConvertAsked}
 use Rattle.calspan_run.specs.ConvertEnds.{AddHead, AllConverted, ConvertEnds, EndHead, HasHead, HeadRefused, KeepsHead, PartConverted, RowRefused}
 use Rattle.calspan_run.specs.ConvertTexts.{AtEnd, AtLine, Behind, Comment, Converts, Dated, HeadLine, RowLine, SaysConvert, SaysFrom, any_bad, head_line}
 use Rattle.calspan_run.specs.Converted.{line_text}

@@ -26,7 +26,7 @@ use Rattle.table_rows.specs.declared.errors.RowError.TheVariants as error
 use Rattle.table_rows.specs.declared.table.RowFault.{RowFault}
 use Rattle.table_rows.proofs.InputLemmas.{consumes_end}
 use Rattle.calspan_run.specs.BehindRows.{OverTables}
-use Rattle.calspan_run.specs.ConvertAsked.{ConvertAsked}
+use Rattle.command_line.specs.ConvertAsked.{ConvertAsked}
 use Rattle.calspan_run.specs.ConvertTexts.{AtLine, Comment, Converts, Dated, HeadLine, RowLine, SaysConvert, SaysFrom, head_line, said_line}
 use Rattle.calspan_run.specs.Converting.{open_lines}
 use Rattle.calspan_run.specs.Heading.{AreHead, HasHeaded, IsHeading, MetDate, MetHeadEnd, MetLastDate, Said, TakesLine, is_plain, taken_line}

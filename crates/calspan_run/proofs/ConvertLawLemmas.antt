@@ -15,7 +15,7 @@ use Rattle.table_rows.specs.TableRows.{TableRows, contents_of, eras_of_row, no_r
 use Rattle.table_rows.proofs.InputLemmas.{lines_in-prefix}
 use Rattle.table_rows.proofs.RowLineLemmas.{row_exists}
 use Rattle.calspan_run.specs.BehindRows.{OverTables, RefusesTables}
-use Rattle.calspan_run.specs.ConvertAsked.{ConvertAsked}
+use Rattle.command_line.specs.ConvertAsked.{ConvertAsked}
 use Rattle.calspan_run.specs.ConvertTexts.{AtEnd, AtLine, Behind, Comment, Converts, Dated, HeadLine, RowLine, SaysConvert, SaysFrom, any_bad, head_line}
 use Rattle.calspan_run.specs.Converted.{line_text}
 use Rattle.calspan_run.specs.Laws.{EveryInputHas, IsUnique, PrefixesHavePrefixes}

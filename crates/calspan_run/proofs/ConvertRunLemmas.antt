@@ -17,7 +17,7 @@ use Rattle.table_rows.specs.TableRows.{AreAccepted, IsFirstRefused, TableRows, c
 use Rattle.table_rows.specs.declared.table.Table.{Table}
 use Rattle.table_rows.proofs.InputLemmas.{consumes_end}
 use Rattle.calspan_run.specs.BehindRows.{OverTables, RefusesTables}
-use Rattle.calspan_run.specs.ConvertAsked.{ConvertAsked}
+use Rattle.command_line.specs.ConvertAsked.{ConvertAsked}
 use Rattle.calspan_run.specs.Converted.{is_bad, line_text}
 use Rattle.calspan_run.specs.ConvertTexts.{AtEnd, AtLine, Converts, Dated, HeadLine, SaysConvert, SaysFrom, any_bad, head_line}
 use Rattle.calspan_run.specs.Converting.{ConvertsChunk, ConvertsTo, HasConverted, IsConverting, open_lines}

@@ -20,7 +20,7 @@ use Rattle.cal_holidays.specs.declared.book.BookError.{BookError}
 use Rattle.cal_holidays.specs.declared.book.BookError.TheVariants as book
 use Rattle.cal_holidays.specs.declared.merged.Holiday.{Holiday}
 use Rattle.cal_tables.specs.Kinds.{TableContents}
-use Rattle.calspan_run.specs.Asked.{HolidaysAsked}
+use Rattle.command_line.specs.Asked.{HolidaysAsked}
 use Rattle.calspan_run.specs.DayLines.{is_refused, is_window, list_text}
 use Rattle.calspan_run.specs.Endings.{EndsWith, IsEnd, MayEnd}
 use Rattle.calspan_run.specs.HolidayEndings.{EndsHolidays, EndsInput, EndsOverRows, LacksMemory}

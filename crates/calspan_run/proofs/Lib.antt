@@ -27,6 +27,5 @@ mod RuleYieldLemmas
 mod SameDayLemmas
 mod ServingLemmas
 mod UnderwayLemmas
-mod WordLemmas
 mod WriterLemmas
 mod WritingLemmas

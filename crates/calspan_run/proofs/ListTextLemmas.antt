@@ -15,7 +15,7 @@ use Rattle.cal_recur.specs.declared.rule.Rule.{Rule}
 use Rattle.cal_types.specs.declared.duration.DateDurationUnit.{DateDurationUnit}
 use Rattle.cal_tables.specs.Kinds.{TableContents, kind_system}
 use Rattle.calspan_run.specs.Anniversaries.{anniversary_answer}
-use Rattle.calspan_run.specs.Asked.{AnniversaryAsked, RecurAsked}
+use Rattle.command_line.specs.Asked.{AnniversaryAsked, RecurAsked}
 use Rattle.calspan_run.specs.DayLines.{IsListText, is_refused, is_window, list_text, occurrence_line}
 use Rattle.calspan_run.specs.Laws.{IsList}
 use Rattle.calspan_run.specs.ListTexts.{ListsAnniversaries, ListsOccurrences}

@@ -18,7 +18,7 @@ use Rattle.cal_tables.specs.Kinds.{TableContents, kind_system}
 use Rattle.reply_texts.specs.DateTexts.{cause_text}
 use Rattle.calspan_run.specs.DayLines.{IsListEnd, is_window}
 use Rattle.calspan_run.specs.Endings.{EndsList}
-use Rattle.calspan_run.specs.RruleAsked.{OnDay, RruleAsked}
+use Rattle.command_line.specs.RruleAsked.{OnDay, RruleAsked}
 use Rattle.calspan_run.specs.RuleErrors.{rule_error_text}
 use Rattle.calspan_run.specs.RuleLists.{AreRuleLines, EndsFrom, EndsRule, IsAnswerFrom, IsAnswerToRule, IsRruleAnswer, rule_line, rule_start}
 use Rattle.calspan_run.specs.TextSoFar.{lines_text}

@@ -11,7 +11,7 @@ use Rattle.cal_recur.specs.Rule.{IsRule}
 use Rattle.cal_recur.specs.declared.rule.Rule.{Rule}
 use Rattle.cal_tables.specs.Kinds.{TableContents}
 use Rattle.calspan_run.specs.Anniversaries.{unless_fault}
-use Rattle.calspan_run.specs.Asked.{RecurAsked}
+use Rattle.command_line.specs.Asked.{RecurAsked}
 use Rattle.calspan_run.specs.DayLines.{IsListEnd, IsListText, is_window, occurrence_line}
 use Rattle.calspan_run.specs.Endings.{EndsList}
 use Rattle.calspan_run.specs.ListAnswers.{list_end}

@@ -6,7 +6,7 @@ use Rattle.cal_anniversary.specs.declared.errors.AnniversaryError.TheVariants.{M
 use Rattle.cal_types.specs.Anniversary.{anniversaries_between}
 use Rattle.cal_types.specs.CalendarSystem.{CalendarSystem}
 use Rattle.cal_tables.specs.Kinds.{TableContents, kind_system}
-use Rattle.calspan_run.specs.Asked.{AnniversaryAsked}
+use Rattle.command_line.specs.Asked.{AnniversaryAsked}
 use Rattle.calspan_run.specs.DayLines.{day_line, is_window}
 use Rattle.calspan_run.specs.TextSoFar.{lines_text}
 

@@ -1,6 +1,6 @@
 -- How a run of any command ends, and how the program does.
 use Rattle.std.specs.Prelude.{◌≡◌, ◌≢◌, ◌≤◌, ℕ, true, List, ◌⊎◌, Option, Some, None, IfSome, length}
-use Rattle.calspan_run.specs.Command.{Asked, Span, Generate, Anniversary, Recur, Rrule, Holidays, Convert, Explain, command_of}
+use Rattle.command_line.specs.Command.{Asked, Span, Generate, Anniversary, Recur, Rrule, Holidays, Convert, Explain, command_of}
 use Rattle.calspan_run.specs.ListTexts.{ListsAnniversaries, ListsOccurrences}
 use Rattle.calspan_run.specs.Rules.{end_rules, explain_rules, generator_rules, holiday_rules, list_rules, span_rules}
 use Rattle.calspan_run.specs.RuleLists.{EndsRule}

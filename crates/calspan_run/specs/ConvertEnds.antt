@@ -8,7 +8,7 @@ use Rattle.table_rows.specs.RowLines.{Faulty, Kept, TakesRow}
 use Rattle.table_rows.specs.TableRows.{AreAccepted, TableRows, contents_of, no_rows}
 use Rattle.table_rows.specs.declared.table.RowFault.{RowFault}
 use Rattle.calspan_run.specs.BehindRows.{RefusesTables}
-use Rattle.calspan_run.specs.ConvertAsked.{ConvertAsked}
+use Rattle.command_line.specs.ConvertAsked.{ConvertAsked}
 use Rattle.calspan_run.specs.ConvertTexts.{Comment, Dated, HeadLine, RowLine, any_bad, head_line}
 use Rattle.calspan_run.specs.Converted.{line_text}
 use Rattle.calspan_run.specs.Run.{Outside, Exchanged}

@@ -9,7 +9,7 @@ use Rattle.table_rows.specs.RowLines.{RowOutcome, Kept, Faulty, TakesRow}
 use Rattle.table_rows.specs.TableRows.{TableRows, no_rows}
 use Rattle.table_rows.specs.declared.table.RowFault.{RowFault}
 use Rattle.calspan_run.specs.BehindRows.{OverTables}
-use Rattle.calspan_run.specs.ConvertAsked.{ConvertAsked}
+use Rattle.command_line.specs.ConvertAsked.{ConvertAsked}
 use Rattle.calspan_run.specs.Converted.{is_bad, line_text}
 use Rattle.calspan_run.specs.Refusals.{status_of}
 use Rattle.calspan_run.specs.TableTexts.{row_refusal}

@@ -19,7 +19,7 @@ use Rattle.date_lines.specs.Dates.{DateText, Day, Fields, date_of}
 use Rattle.reply_texts.specs.DateTexts.{cause_text}
 use Rattle.reply_texts.specs.Texts.{two_digits}
 use Rattle.request_lines.specs.Words.{is_text}
-use Rattle.calspan_run.specs.ConvertAsked.{ConvertAsked}
+use Rattle.command_line.specs.ConvertAsked.{ConvertAsked}
 
 -- how the fields of a date are resolved
 abbrev pub options_with : options.Overflow → DateFromFieldsOptions

@@ -8,7 +8,7 @@ use Rattle.long_lines.specs.Reader.{IsAt, IsSpent}
 use Rattle.long_lines.specs.declared.buffer.LongLine.{LongLine}
 use Rattle.long_lines.specs.declared.reader.LineReader.{LineReader}
 use Rattle.table_rows.specs.TableRows.{TableRows, contents_of, no_rows}
-use Rattle.calspan_run.specs.ConvertAsked.{ConvertAsked}
+use Rattle.command_line.specs.ConvertAsked.{ConvertAsked}
 use Rattle.calspan_run.specs.Converted.{Answer, line_text}
 use Rattle.calspan_run.specs.ConvertTexts.{SaysFrom, any_bad}
 use Rattle.calspan_run.specs.Refusals.{status_of}

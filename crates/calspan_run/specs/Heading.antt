@@ -12,7 +12,7 @@ use Rattle.table_rows.specs.RowLines.{Kept, Faulty, TakesRow}
 use Rattle.table_rows.specs.TableRows.{TableRows, no_rows}
 use Rattle.table_rows.specs.declared.errors.RowError.{RowError}
 use Rattle.table_rows.specs.declared.errors.RowError.TheVariants as error
-use Rattle.calspan_run.specs.ConvertAsked.{ConvertAsked}
+use Rattle.command_line.specs.ConvertAsked.{ConvertAsked}
 use Rattle.calspan_run.specs.ConvertTexts as texts
 use Rattle.calspan_run.specs.ConvertTexts.{SaysFrom, head_line}
 use Rattle.calspan_run.specs.Streaming.{most_reads}

@@ -3,7 +3,7 @@ use Rattle.std.specs.Prelude.{◌≡◌, ℕ, ◌<◌, true, List, ◌⊎◌, Op
 use Rattle.std.specs.Io.KnownBytes.{Keeps}
 use Rattle.cal_tables.specs.Kinds.{TableContents}
 use Rattle.table_rows.specs.TableRows.{TableRows}
-use Rattle.calspan_run.specs.Asked.{HolidaysAsked}
+use Rattle.command_line.specs.Asked.{HolidaysAsked}
 use Rattle.calspan_run.specs.BehindRows.{OverTables}
 use Rattle.calspan_run.specs.DayLines.{is_refused, list_text}
 use Rattle.calspan_run.specs.Endings.{EndsWith}

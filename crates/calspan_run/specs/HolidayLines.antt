@@ -9,7 +9,7 @@ use Rattle.cal_holidays.specs.Rules.{NamedRule}
 use Rattle.cal_types.specs.DayDates.{date_on}
 use Rattle.cal_tables.specs.Kinds.{TableContents}
 use Rattle.reply_texts.specs.DateTexts.{date_text}
-use Rattle.calspan_run.specs.Asked.{HolidaysAsked}
+use Rattle.command_line.specs.Asked.{HolidaysAsked}
 use Rattle.calspan_run.specs.DayLines.{is_window}
 use Rattle.calspan_run.specs.TextSoFar.{lines_text}
 

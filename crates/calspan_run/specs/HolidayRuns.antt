@@ -3,7 +3,7 @@ use Rattle.std.specs.Prelude.{◌≡◌, ℕ, ◌<◌, ◌≤◌, Bool, true, fa
 use Rattle.std.specs.Io.KnownBytes.{IsAtEnd}
 use Rattle.byte_io.specs.Faults.{Rose}
 use Rattle.table_rows.specs.TableRows.{AreAccepted, TableRows, contents_of}
-use Rattle.calspan_run.specs.Asked.{HolidaysAsked}
+use Rattle.command_line.specs.Asked.{HolidaysAsked}
 use Rattle.calspan_run.specs.BookRows.{HasBook}
 use Rattle.calspan_run.specs.DayLines.{is_refused, list_text}
 use Rattle.calspan_run.specs.HolidayLines.{holidays_answer}

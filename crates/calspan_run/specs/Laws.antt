@@ -13,8 +13,8 @@ use Rattle.cal_types.specs.CalendarList.{Date}
 use Rattle.cal_types.specs.CalendarSystem.{resolve_fields}
 use Rattle.table_rows.specs.TableRows.{TableRows, AreAccepted, contents_of}
 use Rattle.calspan_run.specs.Generator.{IsGenerated}
-use Rattle.calspan_run.specs.Asked.{AnniversaryAsked, HolidaysAsked, RecurAsked}
-use Rattle.calspan_run.specs.ConvertAsked.{ConvertAsked}
+use Rattle.command_line.specs.Asked.{AnniversaryAsked, HolidaysAsked, RecurAsked}
+use Rattle.command_line.specs.ConvertAsked.{ConvertAsked}
 use Rattle.calspan_run.specs.ConvertEnds.{ConvertEnds}
 use Rattle.calspan_run.specs.HolidayRuns.{HolidayEnds}
 use Rattle.calspan_run.specs.ListEnds.{ListEnds}

@@ -2,7 +2,7 @@
 use Rattle.std.specs.Prelude.{ℕ, Bool, List, Result}
 use Rattle.cal_tables.specs.Kinds.{TableContents}
 use Rattle.calspan_run.specs.Anniversaries.{anniversary_answer}
-use Rattle.calspan_run.specs.Asked.{AnniversaryAsked, RecurAsked}
+use Rattle.command_line.specs.Asked.{AnniversaryAsked, RecurAsked}
 use Rattle.calspan_run.specs.DayLines.{IsListText}
 use Rattle.calspan_run.specs.Recurrences.{IsRecurAnswer}
 

@@ -9,7 +9,7 @@ use Rattle.cal_recur.specs.Rule.{IsRule}
 use Rattle.cal_recur.specs.declared.rule.Rule.{Rule}
 use Rattle.cal_tables.specs.Kinds.{TableContents, kind_system}
 use Rattle.reply_texts.specs.DateTexts.{cause_text}
-use Rattle.calspan_run.specs.Asked.{RecurAsked}
+use Rattle.command_line.specs.Asked.{RecurAsked}
 use Rattle.calspan_run.specs.DayLines.{is_window, occurrence_line}
 use Rattle.calspan_run.specs.TextSoFar.{lines_text}
 

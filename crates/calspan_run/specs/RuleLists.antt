@@ -18,7 +18,7 @@ use Rattle.std.specs.Prelude.{◌++◌, ◌∷◌}
 use Rattle.calspan_run.specs.DayLines.{IsListText, day_line, is_window}
 use Rattle.calspan_run.specs.Recurrences.{no_options}
 use Rattle.calspan_run.specs.Refusals.{status_of}
-use Rattle.calspan_run.specs.RruleAsked.{RruleAsked, RruleStart, OnDay, OfFields}
+use Rattle.command_line.specs.RruleAsked.{RruleAsked, RruleStart, OnDay, OfFields}
 use Rattle.calspan_run.specs.RuleErrors.{rule_error_text}
 use Rattle.calspan_run.specs.ListAnswers.{list_end}
 use Rattle.calspan_run.specs.TextSoFar.{lines_text}

@@ -2,7 +2,7 @@
 use Rattle.std.specs.Prelude.{◌≡◌, ℕ, ◌-◌, ◌<◌, Bool, true, false, List, [], ◌⊎◌, length}
 use Rattle.cal_tables.specs.Kinds.{TableContents}
 use Rattle.byte_io.specs.Lines.{lines_in}
-use Rattle.calspan_run.specs.Asked.{HolidaysAsked}
+use Rattle.command_line.specs.Asked.{HolidaysAsked}
 use Rattle.calspan_run.specs.BehindRows.{Behind, OverTables, SaysBehindRows}
 use Rattle.calspan_run.specs.BookRows.{behind_lines}
 use Rattle.calspan_run.specs.DayLines.{is_refused, list_text}

@@ -1,7 +1,7 @@
 -- How a run of a command ends that takes any number of bytes, and what it took and wrote.
 use Rattle.std.specs.Prelude.{◌≡◌, ℕ, ◌<◌, ◌≤◌, Bool, true, false, List, [], length, IfSome}
 use Rattle.std.specs.Io.KnownBytes.{IsAtEnd}
-use Rattle.calspan_run.specs.ConvertAsked.{ConvertAsked}
+use Rattle.command_line.specs.ConvertAsked.{ConvertAsked}
 use Rattle.calspan_run.specs.ConvertTexts.{SaysConvert}
 use Rattle.calspan_run.specs.Run.{Outside, Exchanged, NoFault}
 use Rattle.calspan_run.specs.Serving.{IsAnswered, Rules, StoppedReading, StoppedWriting}

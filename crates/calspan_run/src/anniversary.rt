@@ -1,4 +1,3 @@
 //! The command `anniversary`: the days in a window on which a month and a day fall, year after year.
 
 pub(crate) mod days;
-pub(crate) mod words;

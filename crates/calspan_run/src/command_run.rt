@@ -1,13 +1,12 @@
 //! Running a command.
 ghost use Rattle.std.specs.Prelude.{◌≡◌, ℕ, Option, Some, None, IfSome, ◌↔◌, map, string_bytes};
 ghost use Rattle.std.specs.Option.{option_map};
-ghost use Rattle.calspan_run.specs.Command.{Asked, Generate, command_of, is_command};
+ghost use Rattle.command_line.specs.Command.{Asked, Generate, command_of, is_command};
 ghost use Rattle.calspan_run.specs.CommandRuns.{Ends, ServesAs};
-ghost use Rattle.calspan_run.specs.CommandSaid.{command_said};
+ghost use Rattle.command_line.specs.CommandSaid.{command_said};
 ghost use Rattle.calspan_run.specs.Run.{outside};
-ghost use Rattle.calspan_run.specs.SpacedWords.{words_in};
+ghost use Rattle.command_line.specs.SpacedWords.{words_in};
 
-use crate::command::{Command, read_command, read_command_text};
 use crate::convert::serving::serve_convert;
 use crate::explain::serving::serve_explain;
 use crate::generated::generating::serve_totals;
@@ -16,6 +15,7 @@ use crate::lists::serve_list;
 use crate::span::serving::serve_span;
 use crate::status::Status;
 use byte_io::{Sink, Source};
+use command_line::{Command, read_command, read_command_text};
 use std::alloc::Global;
 
 /// Runs a command.

@@ -4,4 +4,3 @@ pub(crate) mod answers;
 pub(crate) mod days;
 pub(crate) mod head;
 pub(crate) mod serving;
-pub(crate) mod words;

@@ -3,4 +3,3 @@
 pub(crate) mod book_lines;
 pub(crate) mod book_rows;
 pub(crate) mod listing;
-pub(crate) mod words;

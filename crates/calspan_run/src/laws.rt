@@ -1,7 +1,7 @@
 //! Laws of the texts of the commands, each proved as the contract of a function that does nothing.
 ghost use Rattle.calspan_run.specs.Answers.{IsAnswers};
-ghost use Rattle.calspan_run.specs.Asked.{AnniversaryAsked, HolidaysAsked, RecurAsked};
-ghost use Rattle.calspan_run.specs.ConvertAsked.{ConvertAsked};
+ghost use Rattle.command_line.specs.Asked.{AnniversaryAsked, HolidaysAsked, RecurAsked};
+ghost use Rattle.command_line.specs.ConvertAsked.{ConvertAsked};
 ghost use Rattle.calspan_run.specs.Laws.{AnniversariesAreMeant, HolidaysAreMeant, OccurrencesAreMeant, EveryInputHas, IsUnique, PrefixesHavePrefixes, EveryNumberHasOneLine, EndsAsConvert, EndsAsHolidays, EndsAsList};
 ghost use Rattle.calspan_run.specs.ListTexts.{ListsAnniversaries, ListsOccurrences};
 ghost use Rattle.calspan_run.specs.Rules.{holiday_rules, list_rules};

@@ -10,9 +10,7 @@
 #![tactic(auto)]
 
 mod anniversary;
-mod command;
 mod command_run;
-mod command_words;
 mod convert;
 mod day_lines;
 mod endings;

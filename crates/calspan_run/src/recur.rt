@@ -2,4 +2,3 @@
 //! and again.
 
 pub(crate) mod occurrences;
-pub(crate) mod words;

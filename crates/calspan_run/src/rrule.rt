@@ -2,4 +2,3 @@
 
 pub(crate) mod errors;
 pub(crate) mod listing;
-pub(crate) mod words;

@@ -3,12 +3,11 @@ ghost use Rattle.std.specs.Prelude.{◌≡◌, ◌+◌, Err, ⊤};
 ghost use Rattle.cal_days.specs.Day.{IsValidDay};
 ghost use Rattle.cal_tables.specs.Kinds.{kind_system, table_contents};
 ghost use Rattle.calspan_run.specs.Anniversaries.{anniversary_error, anniversaries_in};
-ghost use Rattle.calspan_run.specs.CommandSaid.{anniversary_said};
+ghost use Rattle.command_line.specs.CommandSaid.{anniversary_said};
 ghost use Rattle.calspan_run.specs.DayLines.{day_line, IsListEnd};
 ghost use Rattle.calspan_run.specs.ListAnswers.{list_end};
 ghost use Rattle.calspan_run.specs.ListTexts.{ListsAnniversaries};
 
-use crate::anniversary::words::AnniversaryWords;
 use crate::day_lines::{DayForm, push_day_line, refuse_list, window_of};
 use crate::kinds::write_in_kind;
 use crate::lists::{CalendarListing, TableList};
@@ -19,6 +18,7 @@ use cal_base::Calendar;
 use cal_days::RataDie;
 use cal_tables::Tables;
 use cal_types::Window;
+use command_line::AnniversaryWords;
 use reply_texts::Pending;
 
 /// Writes each day as a line.

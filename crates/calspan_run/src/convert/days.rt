@@ -6,12 +6,12 @@ ghost use Rattle.cal_tables.specs.Kinds.{kind_system, table_contents};
 ghost use Rattle.date_lines.specs.DatesSaid.{date_said};
 ghost use Rattle.calspan_run.specs.Converted.{day_of, day_resolved, valid_day};
 
-use crate::convert::words::ConvertWords;
 use cal_base::Calendar;
 use cal_days::RataDie;
 use cal_days::ranges::is_valid_day;
 use cal_tables::Tables;
 use cal_types::{DateFields, DateFromFieldsError, DateFromFieldsOptions};
+use command_line::ConvertWords;
 use date_lines::DateText;
 use kind_calls::{CalendarTask, run_in_kind};
 

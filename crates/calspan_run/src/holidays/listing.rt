@@ -1,6 +1,6 @@
 //! Running `holidays`.
 ghost use Rattle.std.specs.Prelude.{◌≡◌, ◌<◌, ◌⊎◌, codes, length, true, Err};
-ghost use Rattle.calspan_run.specs.CommandSaid.{holidays_said};
+ghost use Rattle.command_line.specs.CommandSaid.{holidays_said};
 ghost use Rattle.calspan_run.specs.DayLines.{is_window, list_text};
 ghost use Rattle.calspan_run.specs.Endings.{EndsWith};
 ghost use Rattle.calspan_run.specs.HolidayEndings.{EndsHolidays, EndsInput, EndsOverRows, LacksMemory};
@@ -21,13 +21,13 @@ use crate::day_lines::window_of;
 use crate::endings::{end_with, refuse_row, refuse_table};
 use crate::holidays::book_lines::BookLines;
 use crate::holidays::book_rows::{RowsBefore, read_rows_before};
-use crate::holidays::words::HolidayWords;
 use crate::status::Status;
 use crate::writer::write_lines;
 use byte_io::{Failed, LIMIT, ReadAllError, Sink, Source, read_all};
 use cal_holidays::{Book, BookError, holidays};
 use cal_tables::Tables;
 use cal_types::Window;
+use command_line::HolidayWords;
 use reply_texts::{Pending, push_all, push_number};
 use std::alloc::Global;
 use table_rows::TableRows;

@@ -3,7 +3,7 @@ ghost use Rattle.std.specs.Prelude.{◌≡◌, Err, ⊤};
 ghost use Rattle.cal_days.specs.Day.{IsValidDay};
 ghost use Rattle.cal_types.specs.CalendarSystem.{resolve_fields};
 ghost use Rattle.cal_tables.specs.Kinds.{kind_system, table_contents};
-ghost use Rattle.calspan_run.specs.CommandSaid.{recur_said};
+ghost use Rattle.command_line.specs.CommandSaid.{recur_said};
 ghost use Rattle.calspan_run.specs.DayLines.{occurrence_line, IsListEnd};
 ghost use Rattle.calspan_run.specs.ListAnswers.{list_end};
 ghost use Rattle.calspan_run.specs.ListTexts.{ListsOccurrences};
@@ -12,13 +12,13 @@ ghost use Rattle.calspan_run.specs.Recurrences.{no_options, occurrence_lines};
 use crate::day_lines::{DayForm, push_day_line, refuse_list, window_of};
 use crate::kinds::write_in_kind;
 use crate::lists::{CalendarListing, TableList};
-use crate::recur::words::RecurWords;
 use crate::writer::{ItemLines, write_lines};
 use byte_io::{Failed, Sink};
 use cal_base::Calendar;
 use cal_recur::{Occurrence, Rule, recur};
 use cal_tables::Tables;
 use cal_types::{DateFromFieldsOptions, Window};
+use command_line::RecurWords;
 use reply_texts::{Pending, push_cause, push_number};
 
 /// Writes each occurrence as a line.

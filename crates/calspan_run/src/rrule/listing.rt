@@ -4,15 +4,14 @@ ghost use Rattle.cal_days.specs.Day.{IsValidDay, is_valid_day};
 ghost use Rattle.cal_rrule.specs.NearDays.{IsNearList};
 ghost use Rattle.cal_tables.specs.Kinds.{kind_system, table_contents};
 ghost use Rattle.cal_types.specs.Bag.{bag_of};
-ghost use Rattle.calspan_run.specs.RruleAsked.{OnDay, OfFields};
-ghost use Rattle.calspan_run.specs.RruleSaid.{rrule_said, start_said};
+ghost use Rattle.command_line.specs.RruleAsked.{OnDay, OfFields};
+ghost use Rattle.command_line.specs.RruleSaid.{rrule_said, start_said};
 ghost use Rattle.calspan_run.specs.RuleLists.{EndsFrom, EndsRule, rule_line, rule_start};
 
 use crate::day_lines::{DayForm, push_day_line, refuse_list, window_of};
 use crate::kinds::write_in_kind;
 use crate::lists::{CalendarListing, TableList};
 use crate::rrule::errors::push_rule_error;
-use crate::rrule::words::{RruleStart, RruleWords};
 use crate::writer::{ItemLines, write_lines};
 use byte_io::{Failed, Sink};
 use cal_base::Calendar;
@@ -22,6 +21,7 @@ use cal_rrule::{Occurrence, rule_occurrences};
 use cal_rule::RecurrenceRule;
 use cal_tables::Tables;
 use cal_types::{DateFields, DateFromFieldsError, DateFromFieldsOptions, Window};
+use command_line::{RruleStart, RruleWords};
 use reply_texts::{Pending, push_cause, push_number};
 
 /// Writes each occurrence as a line.

@@ -1,8 +1,8 @@
 use Rattle.std.proofs.Common.{sym, subst}
 use Rattle.calspan_run.specs.CommandRuns.{ServesAs}
-use Rattle.calspan_run.specs.CommandSaid.{command_said}
+use Rattle.command_line.specs.CommandSaid.{command_said}
 use Rattle.calspan_run.specs.Run.{outside}
-use Rattle.calspan_run.specs.declared.command.Command.{Command}
+use Rattle.command_line.specs.declared.command.Command.{Command}
 use Rattle.calspan_run.proofs.command_run.run_command.Goals as goal
 
 pub returns-in-Span-clause-ends : goal.returns-in-Span-clause-ends

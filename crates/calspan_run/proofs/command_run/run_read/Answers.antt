@@ -1,7 +1,7 @@
 use Rattle.std.proofs.Common.{Some, refl, sym, ap, ◌∙◌}
 use Rattle.std.specs.Option.{option_map}
-use Rattle.calspan_run.specs.Command.{Generate}
-use Rattle.calspan_run.specs.CommandSaid.{command_said}
+use Rattle.command_line.specs.Command.{Generate}
+use Rattle.command_line.specs.CommandSaid.{command_said}
 use Rattle.calspan_run.proofs.CommandLemmas.{command_ends, same_command, some_words, words_told}
 use Rattle.calspan_run.proofs.command_run.run_read.Goals as goal
 

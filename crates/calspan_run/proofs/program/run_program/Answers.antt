@@ -1,5 +1,5 @@
 use Rattle.std.proofs.Common.{ℕ, List, drop, map, string_bytes, inl, inr, refl, ap, subst, ◌∙◌}
-use Rattle.calspan_run.specs.Command.{command_of}
+use Rattle.command_line.specs.Command.{command_of}
 use Rattle.calspan_run.specs.CommandRuns.{Ends}
 use Rattle.calspan_run.specs.Run.{outside}
 use Rattle.calspan_run.specs.declared.status.Status.TheVariants.{NoMemory}

@@ -1,6 +1,6 @@
 use Rattle.std.proofs.Common.{◌++◌, ◌∷◌, [], true, false, codes, refl, sym, subst, ◌∙◌}
 use Rattle.cal_tables.specs.Kinds.{table_contents}
-use Rattle.calspan_run.specs.ConvertSaid.{convert_said}
+use Rattle.command_line.specs.ConvertSaid.{convert_said}
 use Rattle.calspan_run.specs.Converted.{Answer}
 use Rattle.calspan_run.specs.Converting.{AnsweredLine}
 use Rattle.calspan_run.proofs.ConvertAnswerLemmas.{answered_as, answered_err, empty_answer, long_answer, short_answer}

@@ -1,5 +1,5 @@
 use Rattle.cal_tables.specs.Kinds.{table_contents}
-use Rattle.calspan_run.specs.ConvertSaid.{convert_said}
+use Rattle.command_line.specs.ConvertSaid.{convert_said}
 use Rattle.calspan_run.proofs.ConvertAnswerLemmas.{answered, answered_err, dated, end_short, rest_short}
 use Rattle.calspan_run.proofs.convert.answers.answer_text.Goals as goal
 

@@ -1,6 +1,6 @@
 use Rattle.std.proofs.Common.{◌≡◌, ◌++◌, Bool, refl, subst, sym}
 use Rattle.cal_tables.specs.Kinds.{TableContents}
-use Rattle.calspan_run.specs.ConvertSaid.{convert_said}
+use Rattle.command_line.specs.ConvertSaid.{convert_said}
 use Rattle.calspan_run.specs.Converted.{line_answer}
 use Rattle.calspan_run.specs.Converting.{IsConverting}
 use Rattle.calspan_run.specs.Run.{outside}

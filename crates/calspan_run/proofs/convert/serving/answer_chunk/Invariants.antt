@@ -2,7 +2,7 @@ use Rattle.std.specs.Prelude.{◌≡◌, ℕ, List, Option}
 use Rattle.cal_tables.specs.Kinds.{table_contents}
 use Rattle.long_lines.specs.Reader.{bytes_left}
 use Rattle.table_rows.specs.TableRows.{TableRows, contents_of}
-use Rattle.calspan_run.specs.ConvertSaid.{convert_said}
+use Rattle.command_line.specs.ConvertSaid.{convert_said}
 use Rattle.calspan_run.specs.Converting.{IsConverting}
 use Rattle.calspan_run.specs.Run.{Outside, outside}
 use Rattle.calspan_run.proofs.convert.serving.answer_chunk.Given as goal

@@ -3,7 +3,7 @@ use Rattle.calspan_run.proofs.ConvertRunLemmas.{ends_none, ends_one, one_short}
 use Rattle.calspan_run.proofs.ConvertAnswerLemmas.{empty_of}
 use Rattle.calspan_run.proofs.ConvertHeadLemmas.{some_of}
 use Rattle.cal_tables.specs.Kinds.{table_contents}
-use Rattle.calspan_run.specs.ConvertSaid.{convert_said}
+use Rattle.command_line.specs.ConvertSaid.{convert_said}
 use Rattle.calspan_run.proofs.convert.serving.finish.Goals as goal
 
 pub returns-then-is_empty : goal.returns-then-is_empty

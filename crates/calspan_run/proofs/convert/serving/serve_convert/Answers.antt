@@ -1,6 +1,6 @@
 use Rattle.std.proofs.Common.{[], inr, refl, arith}
 use Rattle.std.proofs.KnownBytes.{Consumes-nil}
-use Rattle.calspan_run.specs.ConvertSaid.{convert_said}
+use Rattle.command_line.specs.ConvertSaid.{convert_said}
 use Rattle.calspan_run.specs.Streaming.{convert_rules}
 use Rattle.calspan_run.proofs.ConvertHeadLemmas.{heading_begins}
 use Rattle.calspan_run.proofs.ConvertRunLemmas.{ends_stream, said_fault, said_stream, said_too_long}

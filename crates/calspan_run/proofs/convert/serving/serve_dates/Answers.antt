@@ -1,7 +1,7 @@
 use Rattle.std.proofs.Common.{◌≡◌, ◌++◌, [], inr, refl, arith, subst}
 use Rattle.cal_tables.specs.Kinds.{TableContents}
 use Rattle.table_rows.specs.RowsSaid.{rows_said}
-use Rattle.calspan_run.specs.ConvertSaid.{convert_said}
+use Rattle.command_line.specs.ConvertSaid.{convert_said}
 use Rattle.calspan_run.specs.Converted.{line_answer}
 use Rattle.calspan_run.specs.Run.{outside}
 use Rattle.calspan_run.specs.TextSoFar.{TextSoFar}

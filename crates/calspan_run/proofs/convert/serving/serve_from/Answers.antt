@@ -1,6 +1,6 @@
 use Rattle.std.proofs.Common.{refl, arith, subst}
 use Rattle.cal_tables.specs.Kinds.{TableContents}
-use Rattle.calspan_run.specs.ConvertSaid.{convert_said}
+use Rattle.command_line.specs.ConvertSaid.{convert_said}
 use Rattle.calspan_run.specs.Streaming.{convert_rules}
 use Rattle.calspan_run.proofs.ConvertRunLemmas.{Ends, chunk_on, ends_stream, flush_stopped, input_ends, is_end, read_stopped, too_long}
 use Rattle.calspan_run.proofs.convert.serving.serve_from.Goals as goal

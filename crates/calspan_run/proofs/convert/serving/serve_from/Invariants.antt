@@ -1,7 +1,7 @@
 use Rattle.std.specs.Prelude.{◌≡◌, ◌-◌}
 use Rattle.cal_tables.specs.Kinds.{table_contents}
 use Rattle.table_rows.specs.TableRows.{TableRows, contents_of}
-use Rattle.calspan_run.specs.ConvertSaid.{convert_said}
+use Rattle.command_line.specs.ConvertSaid.{convert_said}
 use Rattle.calspan_run.specs.Converting.{IsConverting}
 use Rattle.calspan_run.specs.Run.{Outside, outside}
 use Rattle.calspan_run.proofs.convert.serving.serve_from.Given as goal

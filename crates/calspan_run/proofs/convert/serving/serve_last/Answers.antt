@@ -1,7 +1,7 @@
 use Rattle.std.proofs.Common.{[], false, inr, refl, arith, subst}
 use Rattle.cal_tables.specs.Kinds.{TableContents}
 use Rattle.table_rows.specs.RowsSaid.{rows_said}
-use Rattle.calspan_run.specs.ConvertSaid.{convert_said}
+use Rattle.command_line.specs.ConvertSaid.{convert_said}
 use Rattle.calspan_run.specs.Streaming.{convert_rules}
 use Rattle.calspan_run.proofs.ConvertRunLemmas.{Ends, ends_stream, is_end, last_answered, last_refused}
 use Rattle.calspan_run.proofs.WriterLemmas.{text_begins}

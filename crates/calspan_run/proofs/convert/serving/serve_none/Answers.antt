@@ -1,5 +1,5 @@
 use Rattle.std.proofs.Common.{inr, refl, arith}
-use Rattle.calspan_run.specs.ConvertSaid.{convert_said}
+use Rattle.command_line.specs.ConvertSaid.{convert_said}
 use Rattle.calspan_run.specs.Streaming.{convert_rules}
 use Rattle.table_rows.specs.RowsSaid.{rows_said}
 use Rattle.calspan_run.proofs.ConvertRunLemmas.{ends_stream, none_answered, none_refused}

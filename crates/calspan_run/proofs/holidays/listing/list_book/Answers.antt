@@ -1,7 +1,7 @@
 use Rattle.std.proofs.Common.{◌≡◌, FitsSigned, w32, to_z, of_z, [], Ok, inl, refl, sym, ap₂, ◌∙◌, rules, arith}
 use Rattle.cal_days.proofs.Signed.{signed}
 use Rattle.cal_tables.specs.Kinds.{table_contents}
-use Rattle.calspan_run.specs.CommandSaid.{holidays_said}
+use Rattle.command_line.specs.CommandSaid.{holidays_said}
 use Rattle.calspan_run.specs.DayLines.{is_window}
 use Rattle.calspan_run.specs.declared.status.Status.TheVariants.{Done}
 use Rattle.calspan_run.proofs.HolidayLemmas.{empty_answer, empty_bytes, ends_with_answer}

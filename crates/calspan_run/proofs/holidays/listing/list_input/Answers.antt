@@ -1,6 +1,6 @@
 use Rattle.std.proofs.Common.{inl}
 use Rattle.table_rows.specs.RowsSaid.{rows_said}
-use Rattle.calspan_run.specs.CommandSaid.{holidays_said}
+use Rattle.command_line.specs.CommandSaid.{holidays_said}
 use Rattle.calspan_run.proofs.HolidayLemmas.{book_read_ends, faulty_row_ends}
 use Rattle.calspan_run.proofs.holidays.listing.list_input.Goals as goal
 

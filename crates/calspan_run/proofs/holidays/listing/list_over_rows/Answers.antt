@@ -1,6 +1,6 @@
 use Rattle.std.proofs.Common.{inl, inr, refl}
 use Rattle.table_rows.specs.RowsSaid.{rows_said}
-use Rattle.calspan_run.specs.CommandSaid.{holidays_said}
+use Rattle.command_line.specs.CommandSaid.{holidays_said}
 use Rattle.calspan_run.specs.TableTexts.{table_refusal}
 use Rattle.calspan_run.specs.declared.status.Status.TheVariants.{TableRefused}
 use Rattle.calspan_run.proofs.HolidayLemmas.{over_rows}

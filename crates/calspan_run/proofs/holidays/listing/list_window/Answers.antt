@@ -2,7 +2,7 @@ use Rattle.std.proofs.Common.{Ok, inl, inr, refl}
 use Rattle.cal_holidays.specs.BookNames.{holidays_in}
 use Rattle.cal_holidays.specs.Books.{named_rules}
 use Rattle.cal_tables.specs.Kinds.{table_contents}
-use Rattle.calspan_run.specs.Asked.{HolidaysAsked}
+use Rattle.command_line.specs.Asked.{HolidaysAsked}
 use Rattle.calspan_run.specs.HolidayLines.{holiday_line}
 use Rattle.calspan_run.specs.TextSoFar.{lines_text}
 use Rattle.calspan_run.specs.declared.status.Status.TheVariants.{Done, WriteFault}

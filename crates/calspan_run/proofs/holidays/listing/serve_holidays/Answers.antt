@@ -1,7 +1,7 @@
 use Rattle.std.proofs.Common.{ℕ, List, ◌⊎◌, subst}
 use Rattle.byte_io.specs.Whole.{StopsEarly}
 use Rattle.byte_io.specs.declared.whole.ReadAllError.{ReadAllError}
-use Rattle.calspan_run.specs.CommandSaid.{holidays_said}
+use Rattle.command_line.specs.CommandSaid.{holidays_said}
 use Rattle.calspan_run.specs.HolidayEndings.{EndsInput, LacksMemory}
 use Rattle.calspan_run.specs.Run.{limit}
 use Rattle.calspan_run.proofs.HolidayLemmas.{input_serves, memory_serves}

@@ -2,7 +2,7 @@ use Rattle.std.proofs.Common.{◌≡◌, FitsSigned, w32, to_z, of_z, sym, ap₂
 use Rattle.cal_days.proofs.Signed.{signed}
 use Rattle.cal_tables.specs.Kinds.{kind_system, table_contents}
 use Rattle.calspan_run.specs.Anniversaries.{anniversaries_in}
-use Rattle.calspan_run.specs.CommandSaid.{anniversary_said}
+use Rattle.command_line.specs.CommandSaid.{anniversary_said}
 use Rattle.calspan_run.specs.DayLines.{is_window}
 use Rattle.calspan_run.proofs.WritingLemmas.{window_refused}
 use Rattle.calspan_run.proofs.anniversary.days.AnniversaryWordsTableList.write.Goals as goal

@@ -4,7 +4,7 @@ use Rattle.cal_types.specs.Anniversary.{anniversaries_between}
 use Rattle.cal_recur.proofs.IteratorLemmas.{YieldsList-from_more}
 use Rattle.cal_tables.specs.Kinds.{kind_system, table_contents}
 use Rattle.calspan_run.specs.Anniversaries.{anniversaries_in}
-use Rattle.calspan_run.specs.CommandSaid.{anniversary_said}
+use Rattle.command_line.specs.CommandSaid.{anniversary_said}
 use Rattle.calspan_run.specs.DayLines.{IsListEnd, day_line}
 use Rattle.calspan_run.specs.TextSoFar.{lines_text}
 use Rattle.calspan_run.specs.declared.status.Status.TheVariants.{Done}

@@ -3,7 +3,7 @@ use Rattle.cal_types.specs.CalendarSystem.{resolve_fields}
 use Rattle.cal_recur.specs.Listing.{GoesOn, occurrences, occurrences_left}
 use Rattle.cal_recur.proofs.IteratorLemmas.{YieldsList-from_more}
 use Rattle.cal_tables.specs.Kinds.{kind_system, table_contents}
-use Rattle.calspan_run.specs.CommandSaid.{recur_said}
+use Rattle.command_line.specs.CommandSaid.{recur_said}
 use Rattle.calspan_run.specs.DayLines.{IsListEnd, occurrence_line}
 use Rattle.calspan_run.specs.Recurrences.{no_options, occurrence_lines}
 use Rattle.calspan_run.specs.TextSoFar.{lines_text}

@@ -1,7 +1,7 @@
 use Rattle.std.proofs.Common.{◌≡◌, FitsSigned, w32, to_z, of_z, sym, ap₂, ◌∙◌, rules, arith}
 use Rattle.cal_days.proofs.Signed.{signed}
 use Rattle.cal_tables.specs.Kinds.{table_contents}
-use Rattle.calspan_run.specs.CommandSaid.{recur_said}
+use Rattle.command_line.specs.CommandSaid.{recur_said}
 use Rattle.calspan_run.specs.DayLines.{is_window}
 use Rattle.calspan_run.proofs.WritingLemmas.{recur_window_refused, every_refused, rule_listed}
 use Rattle.calspan_run.proofs.recur.occurrences.RecurWordsTableList.write.Goals as goal

@@ -8,7 +8,7 @@ use Rattle.cal_tables.specs.Kinds.{kind_system, table_contents}
 use Rattle.reply_texts.specs.DateTexts.{cause_text}
 use Rattle.calspan_run.specs.DayLines.{IsListEnd}
 use Rattle.calspan_run.specs.Endings.{EndsList}
-use Rattle.calspan_run.specs.RruleSaid.{rrule_said}
+use Rattle.command_line.specs.RruleSaid.{rrule_said}
 use Rattle.calspan_run.specs.RuleLists.{EndsFrom, rule_line}
 use Rattle.calspan_run.specs.TextSoFar.{lines_text}
 use Rattle.calspan_run.specs.declared.status.Status.TheVariants.{WriteFault}

@@ -1,7 +1,7 @@
 use Rattle.std.proofs.Common.{◌≡◌, ◌++◌, ℕ, List, Err, FitsSigned, w32, to_z, of_z, sym, ap, ap₂, subst, ◌∙◌, rules, arith}
 use Rattle.cal_days.proofs.Signed.{signed}
 use Rattle.cal_tables.specs.Kinds.{table_contents}
-use Rattle.calspan_run.specs.RruleSaid.{rrule_said}
+use Rattle.command_line.specs.RruleSaid.{rrule_said}
 use Rattle.calspan_run.specs.DayLines.{IsListEnd, is_window}
 use Rattle.calspan_run.specs.Endings.{EndsList}
 use Rattle.calspan_run.specs.RuleErrors.{rule_error_text}

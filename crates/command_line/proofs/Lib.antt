@@ -1,0 +1,4 @@
+mod WordLemmas
+mod PassLemmas
+mod AskedLemmas
+mod FirstFaultLemmas

@@ -1,0 +1,14 @@
+pub mod Asked
+pub mod Command
+pub mod CommandSaid
+pub mod CommandWordsLeft
+pub mod ConvertAsked
+pub mod ConvertSaid
+pub mod RruleAsked
+pub mod RruleSaid
+pub mod SpacedWords
+pub mod Forms
+pub mod Places
+pub mod PlaceSaid
+pub mod Faults
+pub mod FirstFaults
