@@ -3,8 +3,8 @@
 use icu_calendar::anniversary::Anniversaries;
 use icu_calendar::holidays::{Book, holidays};
 use icu_calendar::{
-    AnyCalendar, Calendar, DateDurationUnit, Hebrew, Iso, Leaping, Missing, Month, RataDie,
-    Recurrence, Rule, Tables, Window, anniversaries, recur,
+    AnyCalendar, Calendar, DateDurationUnit, Hebrew, Leaping, Missing, Month, RataDie, Rule,
+    Tables, Window, anniversaries,
 };
 use std::alloc::Global;
 use std::process::Abort;
@@ -29,31 +29,6 @@ fn show_birthdays(rt: &impl Abort) -> Option<()> {
 #[test]
 fn birthdays(rt: HostRuntime) {
     assert!(rt; show_birthdays(&rt).is_some());
-}
-
-/// The last days of the first two months of a list.
-pub(super) fn show_last_days<C: Calendar + Copy>(
-    rt: &impl Abort,
-    mut items: Recurrence<C>,
-) -> Option<()> {
-    assert!(rt; items.next()?.day.to_i64_date() == 737821); // 2021-01-31
-    assert!(rt; items.next()?.day.to_i64_date() == 737849); // 2021-02-28
-    assert!(rt; items.rest()?.first().to_i64_date() == 737850);
-    Some(())
-}
-
-/// The examples of [`last_days_of_months`].
-fn show_last_days_of_months(rt: &impl Abort) -> Option<()> {
-    let window = Window::try_new(RataDie::new(737821), RataDie::new(737910))?;
-    let rule = Rule::try_new(DateDurationUnit::Months, 1, Missing::Constrain)?;
-    let start = Iso.from_rata_die(RataDie::new(737821));
-    let mut items = recur(Iso, start, rule, window);
-    show_last_days(rt, items)
-}
-
-#[test]
-fn last_days_of_months(rt: HostRuntime) {
-    assert!(rt; show_last_days_of_months(&rt).is_some());
 }
 
 /// The examples of [`holidays_of_a_book`].
