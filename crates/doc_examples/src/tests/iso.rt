@@ -1,7 +1,7 @@
 //! The examples of the docs: dates of the ISO calendar.
 
 use super::over_any::iso::{show, show_days_and_sums, show_differences};
-use icu_calendar::{AnyCalendar, Calendar, Date, Hebrew, Iso, RataDie};
+use icu_calendar::{Calendar, Date, Iso, RataDie};
 use std::test::Fail;
 
 #[test]
@@ -15,7 +15,6 @@ fn dates_and_lists(rt: HostRuntime) -> Result<(), Fail> {
 fn days_and_sums(rt: HostRuntime) -> Result<(), Fail> {
     let inner = Iso::new().from_rata_die(RataDie::new(738946));
     let date = Date::from_raw(inner, Iso::new());
-    assert!(rt; *date.inner() == inner);
     let of_inner = date;
 
     let mut date = Date::try_new_iso(2024, 1, 31)?;
@@ -23,7 +22,7 @@ fn days_and_sums(rt: HostRuntime) -> Result<(), Fail> {
     let date = Date::try_new_iso(2024, 1, 31)?;
     let again = date;
     let date = Date::try_new_iso(1992, 9, 2)?;
-    show_days_and_sums(&rt, date, of_inner, start, again)?;
+    show_days_and_sums(&rt, date, of_inner, inner, start, again)?;
     Ok(())
 }
 
@@ -43,14 +42,5 @@ fn differences(rt: HostRuntime) -> Result<(), Fail> {
 fn weeks(rt: HostRuntime) -> Result<(), Fail> {
     let week = Date::try_new_iso(2024, 12, 30)?.week_of_year();
     assert!(rt; week.week_number == 1 && week.iso_year == 2025);
-    Ok(())
-}
-
-#[test]
-fn dates_of_any_calendar(rt: HostRuntime) -> Result<(), Fail> {
-    let date = Date::try_new_iso(2024, 3, 1)?.to_any();
-    let hebrew = AnyCalendar::Hebrew(Hebrew);
-    let converted = date.convert_any(&hebrew);
-    assert!(rt; converted.day_of_month().0 == 21); // of Adar I
     Ok(())
 }

@@ -1,35 +1,9 @@
 //! The examples of the docs: lists of days.
 
-use icu_calendar::anniversary::Anniversaries;
 use icu_calendar::holidays::{Book, holidays};
-use icu_calendar::{
-    AnyCalendar, Calendar, DateDurationUnit, Hebrew, Leaping, Missing, Month, RataDie, Rule,
-    Tables, Window, anniversaries,
-};
+use icu_calendar::{DateDurationUnit, Missing, RataDie, Rule, Tables, Window};
 use std::alloc::Global;
 use std::process::Abort;
-
-/// The birthdays of a list.
-fn show_three_birthdays<C: Calendar>(rt: &impl Abort, mut days: Anniversaries<C>) -> Option<()> {
-    assert!(rt; days.next()?.to_i64_date() == 738582); // 2023-03-03
-    assert!(rt; days.next()?.to_i64_date() == 738935); // 2024-02-19
-    assert!(rt; days.next()?.to_i64_date() == 739320); // 2025-03-10
-    assert!(rt; days.rest()?.first().to_i64_date() == 739321);
-    Some(())
-}
-
-/// The examples of [`birthdays`].
-fn show_birthdays(rt: &impl Abort) -> Option<()> {
-    let window = Window::try_new(RataDie::new(738521), RataDie::new(739616))?;
-    let hebrew = AnyCalendar::Hebrew(Hebrew);
-    let mut days = anniversaries(hebrew, Month::leap(5), 10, Leaping::Constrain, window).ok()?;
-    show_three_birthdays(rt, days)
-}
-
-#[test]
-fn birthdays(rt: HostRuntime) {
-    assert!(rt; show_birthdays(&rt).is_some());
-}
 
 /// The examples of [`holidays_of_a_book`].
 fn show_holidays_of_a_book(rt: &impl Abort, alloc: Global) -> Option<()> {

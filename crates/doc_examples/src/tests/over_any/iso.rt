@@ -117,6 +117,7 @@ pub(in crate::tests) fn show_days_and_sums<A: AsCalendar>(
     rt: &impl Abort,
     of_fields: Date<A>,
     of_inner: Date<A>,
+    inner: <A::Calendar as Calendar>::DateInner,
     start: Date<A>,
     again: Date<A>,
 ) -> Result<(), DateAddError>
@@ -127,6 +128,7 @@ where
     assert!(rt; date.to_rata_die().to_i64_date() == 727443);
 
     let date = of_inner;
+    assert!(rt; *date.inner() == inner);
     assert!(rt; date.to_rata_die().to_i64_date() == 738946); // 2024-03-01
 
     let mut date = start;
