@@ -17,6 +17,7 @@ enum Example {
     Korean,
     Row,
     Computed,
+    Kept,
 }
 
 /// The example of a year in the cycle.
@@ -25,13 +26,13 @@ fn show_cycle(rt: &impl Abort, year: YearInfo) -> Option<()> {
     Some(())
 }
 
-/// The examples of a calendar, and of a date.
+/// The examples of a calendar, and of a date. Returns a date of the example.
 fn show<A: AsCalendar + Copy>(
     rt: &impl Abort,
     calendar: A,
     date: &Date<A>,
     example: Example,
-) -> Result<(), DateNewError>
+) -> Result<Date<A>, DateNewError>
 where
     A::Calendar: Calendar<Year = CyclicYear>,
 {
@@ -48,6 +49,7 @@ where
             let date = Date::from_rata_die(RataDie::new(738946), chinese);
             assert!(rt; date.cyclic_year().year == 41); // of 2024
             assert!(rt; show_cycle(rt, date.year()).is_some());
+            Ok(date)
         }
         Example::Korean => {
             assert!(rt; date.to_rata_die().to_i64_date() == 740019); // 2027-02-07
@@ -57,6 +59,7 @@ where
 
             let date = Date::from_rata_die(RataDie::new(740019), korean);
             assert!(rt; date.day_of_year().0 == 1); // 2027-02-07
+            Ok(date)
         }
         Example::Row => {
             let chinese = calendar;
@@ -65,14 +68,21 @@ where
 
             let date = Date::from_rata_die(RataDie::new(698055), chinese);
             assert!(rt; date.day_of_month().0 == 30); // 1912-03-18
+            Ok(date)
         }
         Example::Computed => {
             let computed = calendar;
             let date = Date::from_rata_die(RataDie::new(738946), computed);
             assert!(rt; date.year().extended_year() == 2024);
+            Ok(date)
+        }
+        Example::Kept => {
+            let before = calendar;
+            let stored = Date::try_new(1911.into(), Month::new(9), 1, before)?;
+            assert!(rt; stored.to_rata_die() == date.to_rata_die());
+            Ok(stored)
         }
     }
-    Ok(())
 }
 
 /// The same over any rules, which costs a tenth of naming them.
@@ -81,7 +91,7 @@ fn show_in<R: Rules + Copy>(
     calendar: EastAsianTraditional<R>,
     date: &Date<EastAsianTraditional<R>>,
     example: Example,
-) -> Result<(), DateNewError> {
+) -> Result<Date<EastAsianTraditional<R>>, DateNewError> {
     show(rt, calendar, date, example)
 }
 
@@ -146,19 +156,12 @@ fn calendars_of_a_kind(rt: HostRuntime) {
     let published = AnyCalendar::new(AnyCalendarKind::Chinese, published::tables());
 }
 
-/// A date in a year before the table's.
-fn stored_in<R: Rules>(
-    before: EastAsianTraditional<R>,
-) -> Result<Date<EastAsianTraditional<R>>, DateNewError> {
-    let stored = Date::try_new(1911.into(), Month::new(9), 1, before)?;
-    Ok(stored)
-}
-
 #[test]
 fn stored_dates(rt: HostRuntime) -> Result<(), Fail> {
     let none = EastAsianTable::none(Side::China);
     let before = ChineseTraditional::new(none);
-    let stored = stored_in(before)?;
+    let date = Date::try_new_chinese_traditional(1911, Month::new(9), 1, before)?;
+    let stored = show_in(&rt, before, &date, Example::Kept)?;
     let longer = ChineseTraditional::new(none.lengthened(published::china_table().rows())?);
     assert!(rt; !laws::east_asian_date_kept(&stored, longer).moved);
     Ok(())

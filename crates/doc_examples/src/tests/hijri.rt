@@ -62,17 +62,19 @@ fn tabular_years(rt: HostRuntime) -> Result<(), Fail> {
 enum Example {
     Computed,
     Published,
-    Stored,
+    Rebased,
+    Kept,
 }
 
-/// The examples of a calendar, with a date in it, and with the same calendar with a longer table.
+/// The examples of a calendar, with a date in it, and with the same calendar with a longer table. Returns a date of the
+/// example.
 fn show<A: AsCalendar + Copy>(
     rt: &impl Abort,
     calendar: A,
     date: &Date<A>,
     longer: A,
     example: Example,
-) -> Result<(), DateNewError>
+) -> Result<Date<A>, DateNewError>
 where
     A::Calendar: Calendar,
 {
@@ -82,6 +84,7 @@ where
             let computed = calendar;
             let date = Date::from_rata_die(RataDie::new(738946), computed);
             assert!(rt; date.year().extended_year() == 1445);
+            Ok(date)
         }
         Example::Published => {
             let umm_al_qura = calendar;
@@ -90,15 +93,21 @@ where
 
             let date = Date::from_rata_die(RataDie::new(739311), umm_al_qura);
             assert!(rt; date.month().number() == 9); // 2025-03-01, the first day of Ramadan
+            Ok(date)
         }
-        Example::Stored => {
+        Example::Rebased => {
             let before = calendar;
             let stored = Date::try_new(1446.into(), Month::new(2), 1, before)?;
             let rebased = stored.rebase(longer);
             assert!(rt; rebased.moved && rebased.date.day_of_month().0 == 2);
+            Ok(stored)
+        }
+        Example::Kept => {
+            let before = calendar;
+            let stored = Date::try_new(1445.into(), Month::new(9), 1, before)?;
+            Ok(stored)
         }
     }
-    Ok(())
 }
 
 /// The same over any rules.
@@ -107,10 +116,10 @@ fn show_in<R: Rules>(
     computed: Hijri<R>,
     longer: Hijri<R>,
     example: Example,
-) -> Result<(), Fail> {
+) -> Result<Date<Hijri<R>>, Fail> {
     let date = Date::try_new_hijri_with_calendar(1445, 8, 20, computed)?;
-    show(rt, computed, &date, longer, example)?;
-    Ok(())
+    let shown = show(rt, computed, &date, longer, example)?;
+    Ok(shown)
 }
 
 #[test]
@@ -125,7 +134,8 @@ fn years_of_computed_rules(rt: HostRuntime) -> Result<(), Fail> {
     let computed = Hijri(AstronomicalSimulation::new(HijriTable::none()));
     show_in(&rt, computed, computed, Example::Computed)?;
     let computed = Tables::none().simulated_mecca();
-    show_in(&rt, computed, computed, Example::Computed)
+    show_in(&rt, computed, computed, Example::Computed)?;
+    Ok(())
 }
 
 #[test]
@@ -159,30 +169,24 @@ fn stored_dates(rt: HostRuntime) -> Result<(), Fail> {
     let before = Hijri::new_umm_al_qura(table);
     let rows = [YEAR_1445, YEAR_1446];
     let longer = Hijri::new_umm_al_qura(table.lengthened(&rows)?);
-    show_in(&rt, before, longer, Example::Stored)?;
+    show_in(&rt, before, longer, Example::Rebased)?;
 
     let alloc = rt.alloc();
     let text = b"row hijri 1445 738720 sllslslslsll\nrow hijri 1446 739075 sllslslslsls\n";
     let rows = TableRows::try_read(alloc, text)?; // the rows of 1445 and of 1446
     let longer = Hijri::new_umm_al_qura(table.lengthened(rows.umm_al_qura())?);
-    show_in(&rt, before, longer, Example::Stored)?;
+    show_in(&rt, before, longer, Example::Rebased)?;
 
     let rows = TableRows::try_read(alloc, b"row hijri 1445 738720 sllslslslsll\n")?;
     assert!(rt; rows.umm_al_qura().len() == 1);
     Ok(())
 }
 
-/// A date of the year before the one that is added to a table, over any rules.
-fn stored_in<R: Rules>(before: Hijri<R>) -> Result<Date<Hijri<R>>, DateNewError> {
-    let stored = Date::try_new(1445.into(), Month::new(9), 1, before)?;
-    Ok(stored)
-}
-
 #[test]
 fn stored_dates_of_other_years(rt: HostRuntime) -> Result<(), Fail> {
     let computed = HijriTable::none();
     let before = Hijri::new_umm_al_qura(computed);
-    let stored = stored_in(before)?;
+    let stored = show_in(&rt, before, before, Example::Kept)?;
     let rows = [YEAR_1446];
     let longer = Hijri::new_umm_al_qura(computed.lengthened(&rows)?);
     assert!(rt; !laws::hijri_date_kept(&stored, longer).moved);
