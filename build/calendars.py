@@ -162,6 +162,13 @@ def launcher_words() -> str:
     return "".join(f"calendar{'+' if place else ''}='{it}'\n" for place, it in enumerate(lines))
 
 
+def program_words() -> str:
+    """Writes the names in one sentence, as a constant of the program."""
+    words = [f"{it.name}," for it in NAMED[:-2]] + [f"{NAMED[-2].name} or", f'{NAMED[-1].name}";']
+    lines = wrapped(words, "    ", "    ", " ").splitlines()
+    return 'const CALENDAR: &str = "a calendar: \\\n' + " \\\n".join(lines) + "\n"
+
+
 def case_eras() -> str:
     eras = [", ".join(f'"{era}"' for era in it.plain_eras or [""]) for it in CODED]
     return "".join(f'    "{it.name}": [{words}],\n' for it, words in zip(CODED, eras))
@@ -218,6 +225,7 @@ LISTS = [
     List("calspan", "words", launcher_words),
     List("cases/calendars.py", "eras", case_eras),
     List("README.md", "calendars", readme_table),
+    List("crates/calspan/src/faults.rt", "names", program_words),
     List("docs/MANUAL.md", "calendars", manual_table),
 ]
 

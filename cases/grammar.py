@@ -119,3 +119,22 @@ def is_end(command: bytes, words: list[bytes]) -> bool:
 
 def is_day(words: list[bytes]) -> bool:
     return len(words) == 1 and bool(re.fullmatch(INT, words[0]))
+
+
+def begins_command(words: list[bytes]) -> bool:
+    """Whether some words of a command begin with these."""
+    if not words:
+        return True
+    if words[0] not in FORMS:
+        return False
+    form, given = FORMS[words[0]], words[1:]
+    fixed, others = given[: len(form)], given[len(form) :]
+    if not all(map(re.fullmatch, form, fixed)):
+        return False
+    # Behind the form, words that others may follow are an end, too: the last one may be the rule.
+    return not others or is_end(words[0], others)
+
+
+def first_bad_word(words: list[bytes]) -> int:
+    """The number of the first word, from 1, with which no command goes on. It is one more than the words if they end too early."""
+    return next((n for n in range(1, len(words) + 1) if not begins_command(words[:n])), len(words) + 1)

@@ -10,7 +10,7 @@ from dataclasses import dataclass, replace
 from itertools import zip_longest
 from pathlib import Path
 
-from grammar import ANYWHERE, NEAR, RULES, is_command
+from grammar import ANYWHERE, NEAR, RULES, first_bad_word, is_command, is_text
 
 TOP = Path(__file__).resolve().parent.parent
 # The script refuses words by itself, so that the program's own answer is asked of the program.
@@ -115,11 +115,21 @@ def fault_of_words(case: Case) -> str | None:
         ran = run(program, case.words, case.source)
         if ran.returncode not in wanted or (ran.stdout and wanted == {WORDS_REFUSED}):
             return f"{program}, {case}: status {ran.returncode}, not of {wanted}, and {ran.stdout[:80]!r}"
+        if program == PROGRAM and wanted == {WORDS_REFUSED} and not ran.stderr.startswith(begin_of_refusal(case.words)):
+            return f"{case}: {ran.stderr[:80]!r} in place of {begin_of_refusal(case.words)!r}"
     return None
 
 
+def begin_of_refusal(words: list[bytes]) -> bytes:
+    """What the program's line about words that are no command begins with: it names the first bad word."""
+    if not all(map(is_text, words)):
+        return b"calspan: a word isn't UTF-8; "
+    bad = first_bad_word(words)
+    return b"calspan: word %d %s: " % (bad, words[bad - 1] if bad <= len(words) else b"is missing")
+
+
 def compare_words(chance: random.Random, cases: list[Case], count: int) -> None:
-    """Words that are no form of a command are refused with nothing written, and all others are taken."""
+    """Words that are no form of a command are refused with nothing written and the first bad one named, and all others are taken."""
     tries = []
     for _ in range(count):
         case = chance.choice(cases)

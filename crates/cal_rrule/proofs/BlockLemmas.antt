@@ -1,10 +1,10 @@
 -- The days of a rule's blocks are those of its periods.
-use Rattle.std.proofs.Common.{◌≡◌, ◌∙◌, ◌↔◌, List, MatchOption, Option, ℕ, ◌+◌, ◌*◌, ◌/◌, ◌%◌, ◌<◌, ◌≤◌, ◌⊎◌, ℤ, pos, negsuc, ◌+ℤ◌, ◌-ℤ◌, ◌≤ℤ◌, ◌<ℤ◌, refl, sym, ap, subst, arith, unsigned_abs}
+use Rattle.std.proofs.Common.{◌≡◌, ◌∙◌, ◌↔◌, List, MatchOption, Option, ℕ, ◌+◌, ◌*◌, ◌/◌, ◌%◌, ◌<◌, ◌⊎◌, ℤ, pos, negsuc, ◌-ℤ◌, ◌≤ℤ◌, ◌<ℤ◌, refl, sym, ap, subst, arith}
 use mathlib.Core.Logic.{inl, inr, ∥∥₁_map}
 use Rattle.std.proofs.lemmas.Nat.{div-add-mod'}
 use Rattle.cal_days.specs.Day.{IsValidDay}
 use Rattle.cal_days.proofs.Signed.{signed}
-use Rattle.cal_types.specs.CalendarList.{CalendarList, Date, IsBefore, IsDate, IsLawful, IsMonthsAfter, IsOn, IsValidDate, date, day_number, month_length, month_number}
+use Rattle.cal_types.specs.CalendarList.{CalendarList, Date, IsBefore, IsDate, IsLawful, IsMonthsAfter, IsOn, IsValidDate, date, day_number, month_number}
 use Rattle.cal_types.specs.declared.window.Window.{Window}
 use Rattle.cal_types.proofs.ListLemmas.{by_place_order, day_number-rises, month_number-order, on-finds, on-rest}
 use Rattle.cal_rule.specs.declared.frequency.Frequency.{Frequency}
@@ -15,7 +15,7 @@ use Rattle.cal_rrule.specs.Blocks.{IsOfBlock, IsOfBlocks, start_of, weekly_perio
 use Rattle.cal_rrule.specs.Listing.{AreLeftOf, HasBefore, HasBeforeOf}
 use Rattle.cal_rrule.specs.NearDays.{IsNearList}
 use Rattle.cal_rrule.specs.Occurrences.{AreOccurrences, IsKept, bounds_of}
-use Rattle.cal_rrule.specs.Periods.{IsOfPeriod, IsOfPeriods}
+use Rattle.cal_rrule.specs.Periods.{IsOfPeriods}
 use Rattle.cal_rrule.specs.Stretches.{InStretch, month_stretch}
 use Rattle.cal_rrule.specs.declared.asked.Asked.{Asked}
 use Rattle.cal_rrule.proofs.ApartLemmas.{periods-some}

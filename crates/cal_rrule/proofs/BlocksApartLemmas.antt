@@ -1,6 +1,5 @@
 -- Blocks of periods that aren't next to each other have their days in order.
-use Rattle.std.proofs.Common.{◌≡◌, ℕ, ◌+◌, ◌≤◌, ℤ, ◌<ℤ◌, refl}
-use Rattle.cal_days.specs.Day.{IsValidDay}
+use Rattle.std.proofs.Common.{◌≡◌, ◌<ℤ◌, refl}
 use Rattle.cal_days.proofs.Signed.{by_bool}
 use Rattle.cal_types.specs.CalendarList.{CalendarList, Date, IsLawful}
 use Rattle.cal_rule.specs.declared.frequency.Frequency.{Frequency}

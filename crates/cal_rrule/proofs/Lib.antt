@@ -31,6 +31,7 @@ mod WeeklyDayLemmas
 mod WeeklyLemmas
 mod WeeklyStartLemmas
 mod WeeksBlockLemmas
+mod WordLemmas
 mod YearDayLemmas
 mod YearLookLemmas
 mod YearMonthLemmas

@@ -1,16 +1,15 @@
 -- The day that a rule keeps of a year, where it says nothing but how often it recurs.
-use Rattle.std.proofs.Common.{◌≡◌, ◌∙◌, ℕ, ◌*◌, ◌≤◌, ◌↔◌, ◌&&◌, Bool, IsTrue, false, true, Option, Some, MatchOption, length, ℤ, pos, ◌+ℤ◌, ◌-ℤ◌, refl, sym, ap, subst, arith}
+use Rattle.std.proofs.Common.{◌≡◌, ◌∙◌, ℕ, ◌*◌, ◌≤◌, ◌↔◌, ◌&&◌, Bool, IsTrue, false, Option, Some, MatchOption, length, ℤ, pos, ◌+ℤ◌, ◌-ℤ◌, refl, sym, ap, subst, arith}
 use Rattle.std.specs.Prelude.{◌⊎◌}
 use mathlib.Core.Bool.{true≢false}
 use mathlib.Core.Logic.{inl, inr}
 use Rattle.cal_anniversary.specs.Asking as anniversary
 use Rattle.cal_anniversary.specs.YearlyDays.{IsOfYear}
 use Rattle.cal_days.proofs.Signed.{signed}
-use Rattle.cal_types.specs.CalendarList.{CalendarList, Date, IsDate, IsLawful, IsOn, date, day_number, month_at, month_length, place_of}
+use Rattle.cal_types.specs.CalendarList.{CalendarList, Date, IsDate, IsLawful, date, day_number, month_at, month_length, place_of}
 use Rattle.cal_types.specs.Month.{MonthParts}
 use Rattle.cal_types.specs.declared.leaping.Leaping.TheVariants.{Exact}
 use Rattle.cal_types.proofs.ListLemmas.{place_of-own}
-use Rattle.cal_rule.specs.Sets.{has_place}
 use Rattle.cal_rule.specs.declared.frequency.Frequency.TheVariants.{Yearly}
 use Rattle.cal_rule.specs.declared.place_set.Place.{Place}
 use Rattle.cal_rule.specs.declared.place_set.Place.TheVariants.{FromFront}

@@ -1,6 +1,5 @@
 -- Sets whose days are all among some days.
-use Rattle.std.proofs.Common.{◌↔◌, IsTrue, ℤ, pos, ◌+ℤ◌, ◌≤ℤ◌, ◌<ℤ◌, arith}
-use Rattle.cal_days.proofs.Signed.{signed}
+use Rattle.std.proofs.Common.{◌↔◌, IsTrue, ℤ, pos, ◌+ℤ◌, ◌≤ℤ◌, ◌<ℤ◌}
 use Rattle.cal_rrule.specs.Masks.{Marks}
 use Rattle.recurrence_sets.specs.PeriodBits.{has_day}
 use Rattle.recurrence_sets.specs.declared.period_days.PeriodDays.{PeriodDays}

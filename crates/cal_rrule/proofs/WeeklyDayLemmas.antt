@@ -1,7 +1,7 @@
 -- The days that WEEKLY names in weeks in a row.
-use Rattle.std.proofs.Common.{◌≡◌, ◌∙◌, ℕ, ◌+◌, ◌*◌, ◌/◌, ◌%◌, ◌<◌, ◌≤◌, ◌↔◌, ◌&&◌, IsTrue, Bool, false, true, Option, Some, None, ℤ, pos, negsuc, ◌+ℤ◌, ◌-ℤ◌, ◌≤ℤ◌, ◌<ℤ◌, refl, sym, ap, subst, arith}
+use Rattle.std.proofs.Common.{◌≡◌, ◌∙◌, ℕ, ◌*◌, ◌/◌, ◌≤◌, ◌↔◌, IsTrue, false, Option, Some, None, ℤ, pos, negsuc, ◌+ℤ◌, ◌-ℤ◌, ◌≤ℤ◌, ◌<ℤ◌, refl, sym, ap, subst, arith}
 use mathlib.Core.Bool.{true≢false}
-use mathlib.Core.Logic.{◌⊎◌, inl, inr, ⊎_elim}
+use mathlib.Core.Logic.{inl, ⊎_elim}
 use Rattle.cal_days.specs.Division.{floor_mod}
 use Rattle.cal_days.proofs.DivisionLemmas.{floor_parts}
 use Rattle.cal_days.proofs.Signed.{signed}
@@ -16,11 +16,10 @@ use Rattle.cal_rule.specs.declared.weekday_places.WeekdayPlace.{WeekdayPlace}
 use Rattle.cal_rrule.specs.Looks.{CountsInMonths}
 use Rattle.cal_rrule.specs.Masks.{Adds, InRow, IsStep, IsWeekdayIn, Marks}
 use Rattle.cal_rrule.specs.Periods.{IsOfMonths, IsOfWeekdays, NoMonths, NoWeekdays}
-use Rattle.cal_rrule.specs.Stretches.{InStretch, Stretch, end_of, month_stretch}
+use Rattle.cal_rrule.specs.Stretches.{Stretch, end_of, month_stretch}
 use Rattle.cal_rrule.specs.Weekly.{IsPlain, IsWeeklyDay, IsWeeklyWeekday}
-use Rattle.cal_rrule.specs.Weeks.{HasOrdinal, IsAmongWeekdays, IsWeekday}
-use Rattle.cal_rrule.proofs.MaskLemmas.{adds-as}
-use Rattle.cal_rrule.proofs.MonthDayLemmas.{marks-added, marks-as}
+use Rattle.cal_rrule.specs.Weeks.{HasOrdinal, IsAmongWeekdays}
+use Rattle.cal_rrule.proofs.MonthDayLemmas.{marks-as}
 use Rattle.recurrence_sets.specs.PeriodBits.{has_day}
 use Rattle.recurrence_sets.specs.declared.period_days.PeriodDays.{PeriodDays}
 

@@ -16,7 +16,7 @@ use Rattle.cal_rrule.specs.Masks.{InRow, Marks}
 use Rattle.cal_rrule.specs.Occurrences.{IsKept}
 use Rattle.cal_rrule.specs.PeriodSets.{IsKeptSet, IsPeriodSet}
 use Rattle.cal_rrule.specs.Periods.{IsNamedInWeek, IsOfPeriod, IsOfPeriods}
-use Rattle.cal_rrule.specs.Weekly.{ArePeriodWeeks, IsInWeek, IsPeriodWeek, IsWeeklyDay, block_start, week_from}
+use Rattle.cal_rrule.specs.Weekly.{ArePeriodWeeks, IsPeriodWeek, IsWeeklyDay, block_start, week_from}
 use Rattle.cal_rrule.specs.Weeks.{IsWeekOf, weeks_behind}
 use Rattle.cal_rrule.proofs.ApartLemmas.{week-unique}
 use Rattle.cal_rrule.proofs.MaskLemmas.{le_test, lt_test}

@@ -1,5 +1,5 @@
 -- The days that YEARLY keeps by weeks of years.
-use Rattle.std.proofs.Common.{◌≡◌, ◌∙◌, ℕ, ◌+◌, ◌*◌, ◌<◌, ◌≤◌, ◌⊎◌, ◌↔◌, ◌&&◌, ◌||◌, IsTrue, Bool, true, false, int_le, int_lt, Option, ℤ, neg_ℤ, negsuc, pos, ◌+ℤ◌, ◌-ℤ◌, ◌≤ℤ◌, ◌<ℤ◌, refl, sym, ap, subst, arith, to_z, of_z, w64}
+use Rattle.std.proofs.Common.{◌≡◌, ◌∙◌, ℕ, ◌+◌, ◌*◌, ◌<◌, ◌≤◌, ◌↔◌, ◌&&◌, ◌||◌, IsTrue, Bool, false, int_le, int_lt, Option, ℤ, neg_ℤ, negsuc, pos, ◌+ℤ◌, ◌-ℤ◌, ◌≤ℤ◌, ◌<ℤ◌, refl, sym, ap, subst, arith}
 use mathlib.Core.Bool.{true≢false}
 use mathlib.Core.Logic.{inl, inr, ⊎_elim}
 use Rattle.std.proofs.lemmas.Bool.Decides.{Decides-and, Decides-at, Decides-or}
@@ -386,18 +386,3 @@ behind-least c high y last is within behind = by_lt_z {P = (high.year +ℤ pos 1
     (λ less. let order = starts-order c y high.year (omega (arith, signed, less)) in
     absurd (omega (arith, signed, order, is.is_start, within.0, behind)))
     (λ ge. ge)
-
--- so many years from one that fields can name to the one after another
-pub next-own : (r look high : ℤ) → r ≡ high +ℤ pos 1 -ℤ look → IsFieldYear look → IsFieldYear high → to_z w64 (of_z w64 r) ≡ r
-next-own r look high is a b = omega (arith, signed, is, a, b)
-
-pub next-more : (z r look high : ℤ) (years : ℕ) → z ≡ r → r ≡ high +ℤ pos 1 -ℤ look → z <ℤ pos years →
-    (high +ℤ pos 1) <ℤ (look +ℤ pos years)
-next-more z r look high years same is more = omega (arith, signed, same, is, more)
-
-pub next-most : (z r look high : ℤ) (years : ℕ) → z ≡ r → r ≡ high +ℤ pos 1 -ℤ look → pos years ≤ℤ z →
-    (high +ℤ pos 1) ≤ℤ (look +ℤ pos years) → look +ℤ pos years ≡ high +ℤ pos 1
-next-most z r look high years same is most least = omega (arith, signed, same, is, most, least)
-
-pub never-same : (y z : ℤ) → z <ℤ y → y ≡ z → ⊥
-never-same y z less same = omega (arith, signed, less, same)

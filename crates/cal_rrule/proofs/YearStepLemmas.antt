@@ -1,5 +1,5 @@
 -- The year that lies so many years after a year.
-use Rattle.std.proofs.Common.{◌≡◌, ◌∙◌, ℕ, ◌≤◌, ◌<◌, ◌&&◌, ◌↔◌, nat_le, int_lt, IsTrue, Bool, true, false, cond, Option, Some, None, MatchOption, Ok, Err, ℤ, pos, negsuc, ◌+ℤ◌, ◌≤ℤ◌, ◌<ℤ◌, refl, sym, ap, subst, arith}
+use Rattle.std.proofs.Common.{◌≡◌, ◌∙◌, ℕ, ◌&&◌, nat_le, int_lt, Bool, true, false, cond, Option, Some, None, MatchOption, Ok, Err, ℤ, pos, negsuc, ◌+ℤ◌, ◌≤ℤ◌, ◌<ℤ◌, refl, sym, ap, subst, to_z, of_z, w64, arith}
 use mathlib.Core.Bool.{true≢false}
 use Rattle.std.proofs.lemmas.Bool.Decides.{nat_tests}
 use Rattle.cal_days.specs.Day.{IsFieldYear, IsValidDay}
@@ -18,6 +18,7 @@ use Rattle.cal_rrule.specs.Stretches.{InStretch, end_of}
 use Rattle.cal_rrule.specs.declared.year_look.YearLook.{YearLook}
 use Rattle.cal_rrule.proofs.MonthStepLemmas.{first-on}
 use Rattle.cal_rrule.proofs.ProbeLemmas.{day_bag, resolve-day}
+use Rattle.cal_rrule.proofs.WordLemmas.{from_to, held-word, later, none_later, up_next}
 use Rattle.cal_rrule.proofs.YearLookLemmas.{year-on}
 
 -- a year's first day, from fields
@@ -123,37 +124,37 @@ abbrev pub IsFound : CalendarList → ℤ → ℤ → YearLook → Type 0
 IsFound c z last found = IsYearLook c found × (found.year ≡ z) × (found.first ≤ℤ (last +ℤ pos 1))
 
 -- a year up to that of a last day, by its number
-pub found-numbered : (c : CalendarList) (look high : YearLook) (years n last : ℤ) → IsYearLook c look → IsYearLook c high →
-    InStretch (look_year high) last → negsuc 365242498 ≤ℤ end_of (look_year look) → IsValidDay last → pos 1 ≤ℤ years →
-    (look.year +ℤ years) ≤ℤ high.year → n ≡ look.year +ℤ years → (r : Option YearLook) →
+pub found-numbered : (c : CalendarList) (look high : YearLook) (years : ℕ) (n last : ℤ) → IsYearLook c look → IsYearLook c high →
+    InStretch (look_year high) last → negsuc 365242498 ≤ℤ end_of (look_year look) → IsValidDay last → (years ≡ 0 → ⊥) →
+    (look.year +ℤ pos years) ≤ℤ high.year → n ≡ look.year +ℤ pos years → (r : Option YearLook) →
     MatchOption r (¬ (IsValidDay (start_of_year c n))) (λ f. IsYearLook c f × (f.year ≡ n)) →
-    MatchOption r ((last +ℤ pos 1) <ℤ start_of_year c (look.year +ℤ years)) (IsFound c (look.year +ℤ years) last)
+    MatchOption r ((last +ℤ pos 1) <ℤ start_of_year c (look.year +ℤ pos years)) (IsFound c (look.year +ℤ pos years) last)
 found-numbered c look high years n last one two within low valid some order number None none =
-    absurd (none (omega (arith, signed, starts, begins, low), omega (arith, signed, starts, before, valid.1)))
+    absurd (none (subst IsValidDay (sym starts) (from_to low begins, from_to before valid.1)))
   where
-    starts : start_of_year c n ≡ start_of_year c (look.year +ℤ years)
+    starts : start_of_year c n ≡ start_of_year c (look.year +ℤ pos years)
     starts = ap (start_of_year c) number
 
-    begins : end_of (look_year look) ≤ℤ start_of_year c (look.year +ℤ years)
-    begins = begins-from c look (look.year +ℤ years) one (omega (arith, signed, some))
+    begins : end_of (look_year look) ≤ℤ start_of_year c (look.year +ℤ pos years)
+    begins = begins-from c look (look.year +ℤ pos years) one (later look.year years some)
 
-    before : start_of_year c (look.year +ℤ years) ≤ℤ last
-    before = begins-before c high last (look.year +ℤ years) two within order
+    before : start_of_year c (look.year +ℤ pos years) ≤ℤ last
+    before = begins-before c high last (look.year +ℤ pos years) two within order
 found-numbered c look high years n last one two within low valid some order number (Some f) found =
-    (found.0, found.1 ∙ number, omega (arith, signed, found.0.is_start, own, before))
+    (found.0, found.1 ∙ number, up_next f.first (start_of_year c (look.year +ℤ pos years)) last (found.0.is_start ∙ own) before)
   where
-    own : start_of_year c f.year ≡ start_of_year c (look.year +ℤ years)
+    own : start_of_year c f.year ≡ start_of_year c (look.year +ℤ pos years)
     own = ap (start_of_year c) (found.1 ∙ number)
 
-    before : start_of_year c (look.year +ℤ years) ≤ℤ last
-    before = begins-before c high last (look.year +ℤ years) two within order
+    before : start_of_year c (look.year +ℤ pos years) ≤ℤ last
+    before = begins-before c high last (look.year +ℤ pos years) two within order
 
 -- the year itself
-pub found-own : (c : CalendarList) (look high : YearLook) (years last : ℤ) → IsYearLook c look → IsYearLook c high →
-    InStretch (look_year high) last → years ≡ pos 0 → look.year ≤ℤ high.year → IsFound c (look.year +ℤ years) last look
+pub found-own : (c : CalendarList) (look high : YearLook) (years : ℕ) (last : ℤ) → IsYearLook c look → IsYearLook c high →
+    InStretch (look_year high) last → years ≡ 0 → look.year ≤ℤ high.year → IsFound c (look.year +ℤ pos years) last look
 found-own c look high years last one two within zero order =
     let before = begins-before c high last look.year two within order in
-    (one, omega (arith, signed, zero), omega (arith, signed, before, one.is_start))
+    (one, none_later look.year years zero, up_next look.first (start_of_year c look.year) last one.is_start before)
 
 -- a year with a valid day can be named by fields
 pub year-least : (c : CalendarList) → IsLawful c → ((u : Date) → IsValidDate c u → IsFieldYear u.year) → (year : YearLook) (day : ℤ) →
@@ -164,14 +165,11 @@ year-least c law ranged year day is within valid =
     subst IsFieldYear own.2
     (ranged own.0 (record { date = on.date; valid = (omega (arith, signed, on.day, valid.0), omega (arith, signed, on.day, valid.1)) }))
 
--- a number of years that isn't more than another number
-pub not-more : (most : ℤ) (years : ℕ) (test : Bool) → IsTrue test ↔ (most <ℤ pos years) → test ≡ false → pos years ≤ℤ most
-not-more most years test same fails = by_bool (int_lt most (pos years))
-    (λ e. absurd (true≢false (sym (same.1 (omega (arith, signed, e))) ∙ fails)))
-    (λ e. omega (arith, signed, e))
-
--- and one that isn't zero is at least one
-pub not-zero : (years : ℤ) → pos 0 ≤ℤ years → (years ≡ pos 0 → ⊥) → pos 1 ≤ℤ years
-not-zero years some other = by_bool (int_lt (pos 0) years)
-    (λ e. omega (arith, signed, e))
-    (λ e. absurd (other (omega (arith, signed, e, some))))
+-- the year of a last day
+pub last-year : (c : CalendarList) → IsLawful c → ((u : Date) → IsValidDate c u → IsFieldYear u.year) → (high : YearLook) (n last : ℤ) →
+    n ≡ last → IsValidDay last → IsYearLook c high → InStretch (look_year high) (to_z w64 (of_z w64 n)) →
+    InStretch (look_year high) last × IsFieldYear high.year
+last-year c law ranged high n last same valid is within = (in_high, year-least c law ranged high last is in_high valid)
+  where
+    in_high : InStretch (look_year high) last
+    in_high = subst (λ (d : ℤ). InStretch (look_year high) d) (held-word n last same valid) within

@@ -6,7 +6,7 @@ use Rattle.std.proofs.lemmas.Int.{by_lt_z}
 use Rattle.cal_days.specs.Division.{floor_mod}
 use Rattle.cal_days.proofs.DivisionLemmas.{floor_parts}
 use Rattle.cal_days.proofs.Signed.{signed}
-use Rattle.cal_types.specs.CalendarList.{CalendarList, start_of_year, year_length}
+use Rattle.cal_types.specs.CalendarList.{CalendarList}
 use Rattle.cal_types.specs.declared.weekday.Weekday.{Weekday}
 use Rattle.cal_rule.specs.Sets.{has_place}
 use Rattle.cal_rule.specs.declared.place_set.Place.{Place}
@@ -18,7 +18,6 @@ use Rattle.cal_rrule.specs.Masks.{Adds}
 use Rattle.cal_rrule.specs.Weeks.{BelongsTo, IsWeekNumber, IsWeekOf, IsWeekday, weeks_before, weeks_behind}
 use Rattle.cal_rrule.specs.YearWeeks.{AreWeeksOf, IsInNumbered, IsInWeekAt, IsNumbered, IsOfWeekNumbers}
 use Rattle.cal_rrule.specs.declared.year_look.YearLook.{YearLook}
-use Rattle.cal_rrule.proofs.ApartLemmas.{week-unique}
 use Rattle.cal_rrule.proofs.MaskLemmas.{adds-as, adds-then}
 use Rattle.recurrence_sets.specs.declared.period_days.PeriodDays.{PeriodDays}
 

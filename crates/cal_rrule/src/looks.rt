@@ -1,7 +1,7 @@
 //! Looks at months and years: their first days, their lengths and their names.
 
-ghost use Rattle.std.specs.Prelude.{◌≡◌};
-ghost use Rattle.cal_days.specs.Day.{IsValidDay, is_valid_day};
+ghost use Rattle.std.specs.Prelude.{◌≡◌, neg_ℤ, pos, ◌≤ℤ◌};
+ghost use Rattle.cal_days.specs.Day.{is_valid_day};
 ghost use Rattle.cal_rrule.specs.Looks.{IsMonthLook, IsYearLook, look_stretch, look_year};
 ghost use Rattle.cal_rrule.specs.Stretches.{InStretch, end_of};
 
@@ -29,7 +29,8 @@ impl MonthLook {
 
 /// Returns the month of a valid day.
 pub(crate) fn month_of<C: Calendar>(calendar: &C, day: i64) -> MonthLook
-    requires { IsValidDay day }
+    requires low { neg_ℤ (pos 365242499) ≤ℤ day }
+    requires high { day ≤ℤ pos 365242134 }
     ensures look { IsMonthLook (C.system calendar.now).list result }
     ensures within { InStretch (look_stretch result) day }
 {
@@ -55,7 +56,8 @@ impl YearLook {
 
 /// Returns the year of a valid day.
 pub(crate) fn year_of<C: Calendar>(calendar: &C, day: i64) -> YearLook
-    requires { IsValidDay day }
+    requires low { neg_ℤ (pos 365242499) ≤ℤ day }
+    requires high { day ≤ℤ pos 365242134 }
     ensures look { IsYearLook (C.system calendar.now).list result }
     ensures within { InStretch (look_year result) day }
 {

@@ -1,7 +1,6 @@
 //! Years of days near the valid days: the year before a year and the one after it.
 
-ghost use Rattle.std.specs.Prelude.{◌≡◌, ◌+ℤ◌, ◌-ℤ◌, ◌<ℤ◌, neg_ℤ, pos};
-ghost use Rattle.cal_days.specs.Day.{IsFieldYear};
+ghost use Rattle.std.specs.Prelude.{◌≡◌, ◌+ℤ◌, ◌-ℤ◌, ◌≤ℤ◌, ◌<ℤ◌, neg_ℤ, pos};
 ghost use Rattle.cal_types.specs.CalendarList.{year_length};
 ghost use Rattle.cal_rrule.specs.Looks.{IsYearLook, look_year};
 ghost use Rattle.cal_rrule.specs.NearDays.{IsNearDay, IsNearList};
@@ -15,7 +14,8 @@ use cal_days::ranges::{FIRST_VALID_DAY, LAST_VALID_DAY};
 
 /// Returns the length of a year.
 fn days_of_year<C: Calendar>(calendar: &C, year: i32) -> u16
-    requires { IsFieldYear year }
+    requires low { neg_ℤ (pos 1040000) ≤ℤ year }
+    requires high { year ≤ℤ pos 1040000 }
     ensures { result ≡ year_length (C.system calendar.now).list year }
 {
     let mut days = 0;

@@ -1,6 +1,6 @@
 //! Months of years whose days needn't be valid, by asking which dates exist.
 
-ghost use Rattle.std.specs.Prelude.{◌≡◌, ◌↔◌, ◌≤◌, IsTrue};
+ghost use Rattle.std.specs.Prelude.{◌≡◌, ◌↔◌, ◌≤◌, IsTrue, neg_ℤ, pos, ◌≤ℤ◌};
 ghost use Rattle.cal_days.specs.Day.{IsFieldYear};
 ghost use Rattle.cal_types.specs.CalendarList.{HasPlace, date, is_date, month_at, month_count, month_length};
 ghost use Rattle.cal_types.specs.Month.{month_rank};
@@ -47,7 +47,8 @@ fn has_day<C: Calendar>(calendar: &C, year: i32, place: u8, day: u8) -> bool
 
 /// Returns the number of months of a year.
 pub(crate) fn months_of_year<C: Calendar>(calendar: &C, year: i32) -> u8
-    requires { IsFieldYear year }
+    requires low { neg_ℤ (pos 1040000) ≤ℤ year }
+    requires high { year ≤ℤ pos 1040000 }
     ensures { result ≡ month_count (C.system calendar.now).list year }
 {
     if has_day(calendar, year, 13, 1) {

@@ -26,7 +26,7 @@ use crate::week_start::week_of;
 use crate::weekly_days::{same_weekdays, span_of_weeks};
 use crate::year_days::named_in_year;
 use crate::year_look::YearLook;
-use crate::year_steps::{is_more, years_after};
+use crate::year_steps::{ends_behind, is_more, years_after, years_to_next};
 use crate::year_weeks::{WeekRow, add_numbered, weeks_of_year};
 use crate::yearly::years_between;
 use cal_base::Calendar;
@@ -103,15 +103,6 @@ fn days_of_weeks<C: Calendar>(calendar: &C, asked: &Asked, year: &YearLook) -> P
     days
 }
 
-/// Returns how many years lie from a year to the one after another.
-fn years_to_next(look: &YearLook, high: &YearLook) -> i64
-    requires look { IsFieldYear look.now.year }
-    requires high { IsFieldYear high.now.year }
-    ensures { result ≡ high.now.year +ℤ pos 1 -ℤ look.now.year }
-{
-    i64::from(high.year) + 1 - i64::from(look.year)
-}
-
 /// Returns the year behind a last day's, if it lies so many years after another one, and begins at most three days
 /// behind the last day.
 fn year_behind<C: Calendar>(
@@ -128,7 +119,7 @@ fn year_behind<C: Calendar>(
     ensures { let list = (C.system calendar.now).list in IsYearWithin list (look.now.year +ℤ pos years) last result }
 {
     let high = year_of(calendar, last.to_i64_date());
-    if high.end() > last.to_i64_date() + 3 {
+    if ends_behind(&high, last, 3) {
         return None;
     }
     if is_more(years, years_to_next(look, &high)) {

@@ -1,6 +1,7 @@
 //! The year so many years after a year.
 
-ghost use Rattle.std.specs.Prelude.{◌≡◌, ◌↔◌, MatchOption, IsTrue, pos, negsuc, ◌+ℤ◌, ◌≤ℤ◌, ◌<ℤ◌};
+ghost use Rattle.std.specs.Prelude.{◌≡◌, ◌↔◌, ◌≤◌, MatchOption, IsTrue, neg_ℤ, pos, negsuc};
+ghost use Rattle.std.specs.Prelude.{◌+ℤ◌, ◌-ℤ◌, ◌≤ℤ◌, ◌<ℤ◌};
 ghost use Rattle.cal_days.specs.Day.{IsFieldYear, IsValidDay};
 ghost use Rattle.cal_types.specs.CalendarList.{start_of_year};
 ghost use Rattle.cal_rrule.specs.Looks.{IsYearLook, look_year};
@@ -46,9 +47,37 @@ pub(crate) fn is_more(years: u64, most: i64) -> bool
     most < 0 || years > most as u64
 }
 
+/// Returns how many years lie from a year to the one after another.
+pub(crate) fn years_to_next(look: &YearLook, high: &YearLook) -> i64
+    requires look { IsFieldYear look.now.year }
+    requires high { IsFieldYear high.now.year }
+    ensures { result ≡ high.now.year +ℤ pos 1 -ℤ look.now.year }
+{
+    i64::from(high.year) + 1 - i64::from(look.year)
+}
+
+/// Returns whether a year ends more than some days, three at most, behind a day.
+pub(crate) fn ends_behind(year: &YearLook, last: RataDie, days: u8) -> bool
+    requires last { IsValidDay last }
+    requires few { days ≤ 3 }
+    ensures { IsTrue result ↔ ((last +ℤ pos days) <ℤ end_of (look_year year.now)) }
+{
+    year.end() > last.to_i64_date() + i64::from(days)
+}
+
+/// Returns the number of the year so many years after a year.
+fn number_after(look: &YearLook, years: u64) -> i64
+    requires look { IsFieldYear look.now.year }
+    requires few { years ≤ 2080001 }
+    ensures { result ≡ look.now.year +ℤ pos years }
+{
+    i64::from(look.year) + years as i64
+}
+
 /// Returns the year with a number, whose first day is valid.
 fn year_numbered<C: Calendar>(calendar: &C, number: i32) -> Option<YearLook>
-    requires { IsFieldYear number }
+    requires low { neg_ℤ (pos 1040000) ≤ℤ number }
+    requires high { number ≤ℤ pos 1040000 }
     ensures { let list = (C.system calendar.now).list in
         MatchOption result (¬ (IsValidDay (start_of_year list number)))
         (λ found. IsYearLook list found × (found.year ≡ number)) }
@@ -62,7 +91,7 @@ fn year_numbered<C: Calendar>(calendar: &C, number: i32) -> Option<YearLook>
 fn year_within<C: Calendar>(
     calendar: &C,
     look: &YearLook,
-    years: i64,
+    years: u64,
     high: &YearLook,
     last: RataDie,
 ) -> Option<YearLook>
@@ -73,17 +102,16 @@ fn year_within<C: Calendar>(
     requires high_field { IsFieldYear high.now.year }
     requires last { IsValidDay last }
     requires within { InStretch (look_year high.now) last }
-    requires some { pos 0 ≤ℤ years }
     requires nearby { IsNearList (C.system calendar.now).list }
-    requires most { (look.now.year +ℤ years) ≤ℤ (high.now.year +ℤ pos 1) }
+    requires most { (look.now.year +ℤ pos years) ≤ℤ (high.now.year +ℤ pos 1) }
     ensures { let list = (C.system calendar.now).list in
-        MatchOption result ((last +ℤ pos 1) <ℤ start_of_year list (look.now.year +ℤ years))
-        (λ found. IsYearLook list found × (found.year ≡ look.now.year +ℤ years)
+        MatchOption result ((last +ℤ pos 1) <ℤ start_of_year list (look.now.year +ℤ pos years))
+        (λ found. IsYearLook list found × (found.year ≡ look.now.year +ℤ pos years)
         × (found.first ≤ℤ (last +ℤ pos 1))) }
 {
-    let number = i64::from(look.year) + years;
+    let number = number_after(look, years);
     if number > i64::from(high.year) {
-        if high.end() > last.to_i64_date() + 1 {
+        if ends_behind(high, last, 1) {
             return None;
         }
         return Some(year_after(calendar, high));
@@ -112,9 +140,8 @@ pub(crate) fn years_after<C: Calendar>(
         × (found.first ≤ℤ (last +ℤ pos 1))) }
 {
     let high = year_of(calendar, last.to_i64_date());
-    let ahead = i64::from(high.year) + 1 - i64::from(look.year);
-    if is_more(years, ahead) {
+    if is_more(years, years_to_next(look, &high)) {
         return None;
     }
-    year_within(calendar, look, years as i64, &high, last)
+    year_within(calendar, look, years, &high, last)
 }

@@ -4,14 +4,17 @@
 //! above 1. `--help` and `--version` are answered there, too.
 #![tactic(auto)]
 
+mod faults;
 mod usage;
 
 use byte_io::{StdSink, StdSource};
 use calspan_run::run_program;
+use faults::refuse_words;
+use line_counts::CountedSource;
 use std::env::Env;
 use std::process::ExitCode;
 use std::{env, io};
-use usage::{USAGE, fault, told, why, written};
+use usage::{is_limited, told, why, written};
 
 /// Returns the first word of the command line. It is empty if there is none, or if it has more than 16 bytes.
 fn first_word<'b>(rt: &HostRuntime, buffer: &'b mut [u8; 16]) -> &'b [u8] {
@@ -21,14 +24,17 @@ fn first_word<'b>(rt: &HostRuntime, buffer: &'b mut [u8; 16]) -> &'b [u8] {
     }
 }
 
-/// Says on standard error why a run ended with an exit code above 1.
-fn explain(rt: &HostRuntime, code: u8, first: &[u8]) -> io::Result<()> {
+/// Says on standard error why a run ended with an exit code above 1. `lines` is the number of lines that were answered if
+/// the input was too long for a command that answers lines.
+fn explain(rt: &HostRuntime, code: u8, first: &[u8], lines: u64) -> io::Result<()> {
     if code == 2 {
-        eprintln!(rt; "calspan: {}", fault(first))?;
-        return eprint!(rt; "{USAGE}");
+        return refuse_words(rt);
     }
     match why(code) {
         None => Ok(()),
+        Some(why) if code == 7 && is_limited(first) => {
+            eprintln!(rt; "calspan: {why}; the first {lines} lines were answered; see the manual")
+        }
         Some(why) if code == 3 || code == 7 => {
             eprintln!(rt; "calspan: {why}; {}; see the manual", written(first))
         }
@@ -45,10 +51,10 @@ fn main(rt: HostRuntime) -> ExitCode {
             Err(_) => ExitCode::FAILURE,
         };
     }
-    let mut source = StdSource::new(rt.stdin());
+    let mut source = CountedSource::new(StdSource::new(rt.stdin()));
     let mut sink = StdSink::new(rt.stdout());
     let code = run_program(rt.alloc(), env::args(&rt), &mut source, &mut sink);
-    match explain(&rt, code, first) {
+    match explain(&rt, code, first, source.lines()) {
         Ok(()) => ExitCode::from(code),
         Err(_) => ExitCode::from(code), // standard error can't be written
     }

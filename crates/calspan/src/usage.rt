@@ -22,18 +22,6 @@ usage: calspan convert CALENDAR SHOWN constrain|reject < FILE
 pub const VERSION: &str =
     "calspan, of icu_calendar proved in Rattle (a port of icu_calendar 2.4.0)\n";
 
-/// The names of the commands.
-const COMMANDS: [&[u8]; 8] = [
-    b"convert",
-    b"span",
-    b"explain",
-    b"gen",
-    b"anniversary",
-    b"recur",
-    b"rrule",
-    b"holidays",
-];
-
 /// Returns the text that a first word asks for, if it asks for one.
 pub fn told(first: &[u8]) -> Option<&'static str> {
     if first == b"--help".as_slice() || first == b"-h".as_slice() {
@@ -43,25 +31,6 @@ pub fn told(first: &[u8]) -> Option<&'static str> {
         return Some(VERSION);
     }
     None
-}
-
-/// Returns whether a word is the name of a command.
-fn is_command(first: &[u8]) -> bool {
-    for name in COMMANDS {
-        if first == name {
-            return true;
-        }
-    }
-    false
-}
-
-/// Returns why words are no command, by their first one.
-pub fn fault(first: &[u8]) -> &'static str {
-    if is_command(first) {
-        "these words don't fit the command; nothing was read"
-    } else {
-        "the first word is no command; nothing was read"
-    }
 }
 
 /// Returns why a run ended with an exit code above 2, or `None` for any other.
@@ -76,12 +45,14 @@ pub fn why(code: u8) -> Option<&'static str> {
     }
 }
 
+/// Returns whether a command writes about the lines among the first 16777216 bytes of a longer input.
+pub fn is_limited(first: &[u8]) -> bool {
+    first == b"span".as_slice() || first == b"explain".as_slice()
+}
+
 /// Returns what is written of a run that ended before its input did, by the command.
 pub fn written(first: &[u8]) -> &'static str {
-    if first == b"span".as_slice()
-        || first == b"convert".as_slice()
-        || first == b"explain".as_slice()
-    {
+    if is_limited(first) || first == b"convert".as_slice() {
         "the answers to the lines before are written"
     } else {
         "nothing is written"

@@ -9,13 +9,13 @@ use Rattle.word_values.specs.Numbers.{byte_of, int_of}
 use Rattle.request_lines.specs.Words.{is_text}
 use Rattle.request_lines.specs.Reading.{Read, and_then, next_word}
 use Rattle.request_lines.specs.Bags.{no_fields, with_whole_word}
-use Rattle.command_line.specs.Asked.{anniversary_read, every_of, fields_of, holidays_read, leaping_named, missing_named, recur_header_read, recur_of, recur_with, unit_named}
-use Rattle.command_line.specs.Command.{Asked, Anniversary, Convert, Explain, ExplainHolidays, Generate, Holidays, Recur, Rrule, Span, anniversary_of, at_end, command_of, convert_of, count_of, explain_of, generate_of, holidays_of, named_of}
+use Rattle.command_line.specs.Asked.{anniversary_read, every_of, fields_of, holidays_read, leaping_named, missing_named, recur_header_read, recur_of, unit_named}
+use Rattle.command_line.specs.Command.{Asked, Explain, ExplainHolidays, Generate, Recur, Rrule, Span, anniversary_of, at_end, command_of, convert_of, count_of, explain_of, generate_of, holidays_of}
 use Rattle.command_line.specs.ConvertAsked.{convert_read, overflow_named}
-use Rattle.command_line.specs.RruleAsked.{day_before, fields_before, of_fields, on_day, or_else, rrule_header_read, rrule_of, rrule_with, start_and_rule}
+use Rattle.command_line.specs.RruleAsked.{fields_before, of_fields, on_day, or_else, rrule_header_read, rrule_of, start_and_rule}
 use Rattle.command_line.specs.FirstFaults.{NameCommand}
-use Rattle.command_line.specs.Forms.{form_of, is_argument}
-use Rattle.command_line.specs.Places.{First, Before, InFields, AtStart, BehindStart, BehindField, AtHolidays, AtEnd, Place, behind_start, form_place, place_of, step}
+use Rattle.command_line.specs.Forms.{is_argument}
+use Rattle.command_line.specs.Places.{First, Before, InFields, AtStart, BehindField, AtHolidays, AtEnd, behind_start, form_place, place_of}
 use Rattle.command_line.specs.declared.part.Argument.{Argument}
 use Rattle.command_line.specs.declared.part.Argument.TheVariants as argument
 use Rattle.command_line.specs.declared.part.Behind.{Behind}

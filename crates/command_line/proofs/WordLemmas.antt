@@ -38,7 +38,7 @@ words-some (b ∷ rest) e = either-some (nat_eq b 32) (words_in rest) b e
 
 -- a text has at most one word more than bytes
 few_either : (c : Bool) (words : List (List ℕ)) (b : ℕ) (n : ℕ) → length words ≤ n + 1
-    → length (if c then [] ∷ words else with_first b words) ≤ (n + 1) + 1
+    → length (if c then [] ∷ words else with_first b words) ≤ suc n + 1
 few_either true words b n few = omega (arith, few)
 few_either false [] b n few = omega arith
 few_either false (word ∷ words) b n few = omega (arith, few)

@@ -29,4 +29,5 @@ pub record IsFirstFault (words : List (List ℕ)) (fault : CommandFault) : Type 
 
 -- there is no fault exactly where the words name a command, and a fault is the first one
 abbrev pub FaultsAreFirst : Type 0
-FaultsAreFirst = (words : List (List ℕ)) → MatchOption (first_fault words) (NameCommand words) (λ fault. IsFirstFault words fault)
+FaultsAreFirst = (words : List (List ℕ))
+    → MatchOption (first_fault words) (NameCommand words) (λ fault. IsFirstFault words fault)

@@ -39,6 +39,10 @@ place_of (argument ∷ arguments) rest = Before argument arguments rest
 abbrev pub form_place : List Argument × Behind → Place
 form_place form = place_of form.0 form.1
 
+-- behind fields and a word that is the rule if it is the last one
+abbrev pub behind_field : List ℕ → Bag → Place
+behind_field word bag = BehindField bag word
+
 -- behind a start and a word more: the start is a field, or a day and the word the rule
 abbrev pub behind_start : Option Bag → Bool → List ℕ → Option Place
 behind_start None is_day word = if is_day then Some AtEnd else None
@@ -51,7 +55,7 @@ step (Before argument arguments rest) word = if is_argument argument word then S
 step (InFields bag) word = option_map InFields (with_whole_word bag word)
 step AtStart word = Some (BehindStart word)
 step (BehindStart start) word = behind_start (with_whole_word no_fields start) (is_some (int_of start)) word
-step (BehindField bag last) word = option_map (λ fields. BehindField fields word) (with_whole_word bag last)
+step (BehindField bag last) word = option_map (behind_field word) (with_whole_word bag last)
 step AtHolidays word = if is_text word (codes "holidays") then Some AtEnd else None
 step AtEnd word = None
 

@@ -1,5 +1,4 @@
 -- What the program's values of `rrule` say.
-use Rattle.std.specs.Prelude.{ℕ, List}
 use Rattle.cal_types.specs.Bag.{bag_of}
 use Rattle.command_line.specs.RruleAsked as asked
 use Rattle.command_line.specs.declared.rrule.RruleHeader.{RruleHeader}

@@ -6,7 +6,7 @@ ghost use Rattle.cal_types.specs.Month.{month_read};
 ghost use Rattle.request_lines.specs.Bags.{no_fields, with_whole_word};
 ghost use Rattle.word_values.specs.Numbers.{int_of};
 ghost use Rattle.command_line.specs.Forms.{form_of, is_argument as is_argument_by};
-ghost use Rattle.command_line.specs.Places.{AtHolidays, BehindField, InFields, behind_start, form_place, may_end as may_end_at, part_of, place_of, step as step_by};
+ghost use Rattle.command_line.specs.Places.{AtEnd, AtHolidays, InFields, behind_field, behind_start, form_place, may_end as may_end_at, part_of, place_of, step as step_by};
 
 use crate::anniversary::read_leaping;
 use crate::command::read_count;
@@ -141,7 +141,7 @@ fn before<'a>(arguments: &'static [Argument], behind: Behind) -> Place<'a>
         Some((argument, rest)) => Place::Before(*argument, rest, behind),
         None => match behind {
             Behind::End => Place::End,
-            Behind::Fields => Place::Fields(DateFields::default()),
+            Behind::Fields => Place::Fields(none_yet()),
             Behind::StartAndRule => Place::Start,
             Behind::Holidays => Place::Holidays,
         },
@@ -189,27 +189,46 @@ fn after_field<'a>(fields: &DateFields<'a>, word: &'a [u8]) -> Option<Place<'a>>
     Some(Place::Fields(with_field(fields, word)?))
 }
 
+/// Returns no fields.
+fn none_yet<'a>() -> DateFields<'a>
+    ensures { bag_of result ≡ no_fields }
+{
+    DateFields::default()
+}
+
+/// Returns the field of a word.
+fn first_field<'a>(word: &'a [u8]) -> Option<DateFields<'a>>
+    ensures { option_map bag_of result ≡ with_whole_word no_fields word.now }
+{
+    with_field(&none_yet(), word)
+}
+
+/// Returns the place behind a start and a rule, if the start is a day number.
+fn after_day<'a>(start: &'a [u8]) -> Option<Place<'a>>
+    ensures { option_map place_said result ≡ (if is_some (int_of start.now) then Some AtEnd else None) }
+{
+    if read_int(start).is_some() {
+        Some(Place::End)
+    } else {
+        None
+    }
+}
+
 /// Returns the place behind the second word from a start on.
 fn after_start<'a>(start: &'a [u8], word: &'a [u8]) -> Option<Place<'a>>
     ensures { let start_field = with_whole_word no_fields start.now in
         option_map place_said result ≡ behind_start start_field (is_some (int_of start.now)) word.now }
 {
-    match with_field(&DateFields::default(), start) {
+    match first_field(start) {
         Some(fields) => Some(Place::BehindField(fields, word)),
-        None => {
-            if read_int(start).is_some() {
-                Some(Place::End)
-            } else {
-                None
-            }
-        }
+        None => after_day(start),
     }
 }
 
 /// Returns the place behind a word that follows a field of a start.
 fn after_last<'a>(fields: &DateFields<'a>, last: &'a [u8], word: &'a [u8]) -> Option<Place<'a>>
     ensures { option_map place_said result
-        ≡ option_map (λ bag. BehindField bag word.now) (with_whole_word (bag_of fields.now) last.now) }
+        ≡ option_map (behind_field word.now) (with_whole_word (bag_of fields.now) last.now) }
 {
     Some(Place::BehindField(with_field(fields, last)?, word))
 }

@@ -10,6 +10,7 @@ mod over_any;
 mod rows;
 mod rule_days;
 mod rules;
+mod run_time;
 mod solar;
 mod spans;
 mod units;

@@ -1,6 +1,7 @@
 //! Lines of all kinds, requests and rows of tables, and what is written for them; what words spell; and sources and sinks.
 
 mod conversions;
+mod counts;
 mod equalities;
 mod explanations;
 mod faults;

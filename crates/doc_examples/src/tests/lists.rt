@@ -1,60 +1,9 @@
 //! The examples of the docs: lists of days.
 
-use icu_calendar::anniversary::Anniversaries;
 use icu_calendar::holidays::{Book, holidays};
-use icu_calendar::{
-    AnyCalendar, Calendar, DateDurationUnit, Hebrew, Iso, Leaping, Missing, Month, RataDie,
-    Recurrence, Rule, Tables, Window, anniversaries, recur,
-};
+use icu_calendar::{DateDurationUnit, Missing, RataDie, Rule, Tables, Window};
 use std::alloc::Global;
 use std::process::Abort;
-
-/// The birthdays of a list.
-fn show_three_birthdays<C: Calendar>(rt: &impl Abort, mut days: Anniversaries<C>) -> Option<()> {
-    assert!(rt; days.next()?.to_i64_date() == 738582); // 2023-03-03
-    assert!(rt; days.next()?.to_i64_date() == 738935); // 2024-02-19
-    assert!(rt; days.next()?.to_i64_date() == 739320); // 2025-03-10
-    assert!(rt; days.rest()?.first().to_i64_date() == 739321);
-    Some(())
-}
-
-/// The examples of [`birthdays`].
-fn show_birthdays(rt: &impl Abort) -> Option<()> {
-    let window = Window::try_new(RataDie::new(738521), RataDie::new(739616))?;
-    let hebrew = AnyCalendar::Hebrew(Hebrew);
-    let mut days = anniversaries(hebrew, Month::leap(5), 10, Leaping::Constrain, window).ok()?;
-    show_three_birthdays(rt, days)
-}
-
-#[test]
-fn birthdays(rt: HostRuntime) {
-    assert!(rt; show_birthdays(&rt).is_some());
-}
-
-/// The last days of the first two months of a list.
-pub(super) fn show_last_days<C: Calendar + Copy>(
-    rt: &impl Abort,
-    mut items: Recurrence<C>,
-) -> Option<()> {
-    assert!(rt; items.next()?.day.to_i64_date() == 737821); // 2021-01-31
-    assert!(rt; items.next()?.day.to_i64_date() == 737849); // 2021-02-28
-    assert!(rt; items.rest()?.first().to_i64_date() == 737850);
-    Some(())
-}
-
-/// The examples of [`last_days_of_months`].
-fn show_last_days_of_months(rt: &impl Abort) -> Option<()> {
-    let window = Window::try_new(RataDie::new(737821), RataDie::new(737910))?;
-    let rule = Rule::try_new(DateDurationUnit::Months, 1, Missing::Constrain)?;
-    let start = Iso.from_rata_die(RataDie::new(737821));
-    let mut items = recur(Iso, start, rule, window);
-    show_last_days(rt, items)
-}
-
-#[test]
-fn last_days_of_months(rt: HostRuntime) {
-    assert!(rt; show_last_days_of_months(&rt).is_some());
-}
 
 /// The examples of [`holidays_of_a_book`].
 fn show_holidays_of_a_book(rt: &impl Abort, alloc: Global) -> Option<()> {

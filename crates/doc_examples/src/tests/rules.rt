@@ -3,7 +3,6 @@
 use cal_days::RataDie;
 use cal_rule::{Frequency, RecurrenceRule, RulePart, Skip};
 use icu_calendar::AnyCalendarKind;
-use std::process::Abort;
 use std::test::Fail;
 
 #[test]

@@ -1,28 +1,12 @@
 //! The examples of the docs: differences of two bags of fields.
 
 use icu_calendar::{
-    AnyCalendar, AsCalendar, Calendar, DateDifferenceOptions, DateFields, DateFromFieldsOptions,
-    Hebrew, Iso, Month, NamedDates, named_dates, span,
+    AnyCalendar, DateDifferenceOptions, DateFields, DateFromFieldsOptions, Hebrew, Iso, Month, span,
 };
-use std::process::Abort;
 use std::test::Fail;
-
-/// The examples of two dates of fields.
-fn show_named<A: AsCalendar>(rt: &impl Abort, dates: NamedDates<A>)
-where
-    A::Calendar: Calendar,
-{
-    assert!(rt; dates.from().month().number() == 9 && dates.to().month().number() == 10);
-    assert!(rt; dates.duration(DateDifferenceOptions::default()).days == 31);
-}
 
 #[test]
 fn bags_of_fields(rt: HostRuntime) -> Result<(), Fail> {
-    let from = DateFields::from_year_month_day(2024, Month::new(9), 30);
-    let to = DateFields::from_year_month_day(2024, Month::new(10), 31);
-    let dates = named_dates(from, to, DateFromFieldsOptions::default(), Iso)?;
-    show_named(&rt, dates);
-
     let from = DateFields::from_year_month_day(2024, Month::new(9), 30);
     let to = DateFields::from_year_month_day(2024, Month::new(10), 31);
     let in_days = DateDifferenceOptions::default();

@@ -1,11 +1,11 @@
-use Rattle.std.proofs.Common.{◌≡◌, pos, ◌+ℤ◌, ◌-ℤ◌, arith}
-use Rattle.cal_days.proofs.Signed.{signed}
+use Rattle.std.proofs.Common.{◌≡◌, pos, ◌+ℤ◌, ◌-ℤ◌, ◌∙◌, sym}
 use Rattle.cal_rrule.specs.Looks.{look_stretch}
 use Rattle.cal_rrule.specs.Periods.{IsNamedInMonth}
 use Rattle.cal_rrule.specs.Stretches.{end_of}
 use Rattle.cal_rrule.proofs.DailyBlockLemmas.{kept-marks}
 use Rattle.cal_rrule.proofs.MonthBlockLemmas.{month-set}
 use Rattle.cal_rrule.proofs.MonthDayLemmas.{monthly-months}
+use Rattle.cal_rrule.proofs.WordLemmas.{before-word, end-next-word, month-short}
 use Rattle.cal_rrule.proofs.monthly.days_of_period.Goals as goal
 
 pub named_in_month-days-requires-clause-counts : goal.named_in_month-days-requires-clause-counts
@@ -16,13 +16,11 @@ returns g c = λ t k same after.
     let list = (g.C.Calendar.system c.args.calendar.now).list in
     let a = c.args.asked.now in
     let look = c.args.look.now in
-    let first : c.new.result ≡ look.first -ℤ pos 1 = omega (arith, signed) in
-    let to : c.new-2.result ≡ end_of (look_stretch look) +ℤ pos 1 = omega (arith, signed, c.end.ensures) in
+    let first : c.new.result ≡ look.first -ℤ pos 1 = c.new.ensures ∙ before-word look.first look.near in
+    let to : c.new-2.result ≡ end_of (look_stretch look) +ℤ pos 1 =
+    c.new-2.ensures ∙ end-next-word c.end.result look.first look.days c.end.ensures look.near (month-short look.days look.short) in
     let kept = rw (first, to) at c.keep_days.ensures.days in
     let marks = kept-marks c.named_in_month-days.result c.keep_days.new.self (look.first -ℤ pos 1) (end_of (look_stretch look) +ℤ pos 1)
     (IsNamedInMonth list a.rule t (look.year, look.place)) (c.named_in_month-days.ensures t same) c.keep_days.ensures.first kept in
     month-set list a.rule t k look a.missing c.keep_days.new.self c.requires.look c.requires.missing c.requires.monthly look.short after marks
-    (λ n has. let row = c.keep_days.ensures.row n has in (
-      omega (arith, signed, row.0, c.keep_days.ensures.first),
-      omega (arith, signed, row.1, c.keep_days.ensures.first),
-    ))
+    (λ n has. rw (sym c.keep_days.ensures.first) at (c.keep_days.ensures.row n has))

@@ -1,11 +1,13 @@
-use Rattle.std.proofs.Common.{◌≡◌, ◌∙◌, ◌⊎◌, ◌≤◌, ◌≤ℤ◌, ◌<ℤ◌, pos, ◌+ℤ◌, arith}
-use Rattle.cal_days.proofs.Signed.{signed}
-use Rattle.cal_types.specs.CalendarList.{start_of_year, year_length}
+use Rattle.std.proofs.Common.{◌≡◌, ◌∙◌, ◌⊎◌, ℤ, ◌≤ℤ◌, ◌<ℤ◌, refl, subst, to_z, of_z, w64}
 use Rattle.cal_types.specs.MonthParts.{month_parts}
+use Rattle.cal_rrule.specs.Looks.{look_stretch}
+use Rattle.cal_rrule.specs.Stretches.{InStretch}
 use Rattle.cal_rrule.specs.YearMonths.{IsNamedBefore, IsNamedByMonth, IsOfYearMonths}
+use Rattle.cal_rrule.proofs.LookLemmas.{some}
 use Rattle.cal_rrule.proofs.MaskLemmas.{adds-as, adds-none, adds-then}
 use Rattle.cal_rrule.proofs.MonthDayLemmas.{marks-added}
 use Rattle.cal_rrule.proofs.NamedMonthLemmas.{before-all, before-next, before-none, look-in_year, look-starts}
+use Rattle.cal_rrule.proofs.WordLemmas.{begins-past, begins-within, less-left, lt-holds, near-word, same-least, span-from, walk-on}
 use Rattle.cal_rrule.proofs.named_months.days_in_months.Goals as goal
 
 pub months-init : goal.months-init
@@ -20,11 +22,11 @@ months-init g c =
     let within = c.month_near-look.ensures.within in
     let begins = c.requires.year.is_start in
     let starts = look-starts list law year.year look is
-    (omega (arith, signed, begins, within.0, c.requires.near), omega (arith, signed, begins, within.1, c.requires.near)) in (
+    (subst (λ (n : ℤ). InStretch (look_stretch look) n) (near-word year.first year.near ∙ begins) within) in (
       is,
-      omega (arith, signed, starts, begins),
+      same-least year.first look.first _ begins starts,
       adds-none c.new-days.result (IsNamedBefore list a.rule start a.day_of_month year.year look.first)
-          (before-none list law a.rule start a.day_of_month year.year look.first (omega (arith, signed, starts))),
+          (before-none list law a.rule start a.day_of_month year.year look.first (same-least look.first _ _ starts refl)),
     )
 
 pub months-preserved : goal.months-preserved
@@ -39,12 +41,12 @@ months-preserved g c =
     let next = c.month_after-next.result in
     let next_is = c.month_after-next.ensures.look in
     let joins = c.month_after-next.ensures.joins in
-    let low : start_of_year list year.year ≤ℤ look.first = omega (arith, signed, c.requires.year.is_start, inv.1) in
-    let high : look.first <ℤ (start_of_year list year.year +ℤ pos (year_length list year.year)) =
-    omega (arith, signed, c.requires.year.is_start, c.requires.year.is_whole, c.end-end.ensures, c.months-test.true, look.near, year.near, year.short) in
+    let low = subst (λ (d : ℤ). d ≤ℤ look.first) c.requires.year.is_start inv.1 in
+    let high = begins-within look.first year.first c.end-end.result _ year.days _ look.near year.near year.short c.end-end.ensures
+    c.requires.year.is_start c.requires.year.is_whole c.months-test.true in
     let same = look-in_year list law year.year look inv.0 low high in (
       next_is,
-      omega (arith, signed, inv.1, joins),
+      walk-on year.first look.first next.first look.days inv.1 joins,
       adds-as c.new-days.result c.add_by_month.new.days
           (λ n. IsNamedBefore list a.rule start a.day_of_month year.year look.first n
           ⊎ IsNamedByMonth list a.rule start a.day_of_month look.year look.place n)
@@ -58,10 +60,14 @@ months-preserved g c =
 
 pub months-smaller : goal.months-smaller
 months-smaller g c =
-    let inv = c.months.invariant in
     let look = c.months.look in
-    let some : 1 ≤ look.days = omega (arith, inv.0.is_length, ((g.met.C.Calendar.lawful c.args.calendar.now).lengths look.year look.place inv.0.is_place).0) in
-    omega (arith, signed, c.months-test.true, c.month_after-next.ensures.joins, some, look.near, look.short, c.end-end.ensures, c.args.year.now.near, c.args.year.now.short)
+    let end = to_z w64 (of_z w64 c.end-end.result) in
+    let has = some (g.C.Calendar.system c.args.calendar.now).list (g.met.C.Calendar.lawful c.args.calendar.now) look c.months.invariant.0 in
+    let before = subst (λ (d : ℤ). d <ℤ end) (near-word look.first look.near) (lt-holds _ _ c.months-test.true) in
+    less-left end look.first c.month_after-next.result.first look.days before c.month_after-next.ensures.joins has
+
+pub month_after-next-requires-clause-nearby : goal.month_after-next-requires-clause-nearby
+month_after-next-requires-clause-nearby g c = c.requires.nearby
 
 pub returns : goal.returns
 returns g c =
@@ -73,9 +79,9 @@ returns g c =
     let span = c.args.span.now in
     let inv = c.months.invariant in
     let look = c.months.look in
-    let from : c.new.result ≡ span.from = omega (arith, signed) in
-    let past : (start_of_year list year.year +ℤ pos (year_length list year.year)) ≤ℤ look.first =
-    omega (arith, signed, c.requires.year.is_start, c.requires.year.is_whole, c.end-end.ensures, c.months-test.false, look.near, year.near, year.short) in
+    let from : c.new.result ≡ span.from = c.new.ensures ∙ span-from span.from span.to span.low span.order span.high in
+    let past = begins-past look.first year.first c.end-end.result _ year.days _ look.near year.near year.short c.end-end.ensures
+    c.requires.year.is_start c.requires.year.is_whole c.months-test.false in
     marks-added c.new-days.result c.months.days span.from span.to (IsOfYearMonths list a.rule start a.day_of_month year.year)
     (c.new-days.ensures.first ∙ from) c.new-days.ensures.none
     (adds-as c.new-days.result c.months.days (IsNamedBefore list a.rule start a.day_of_month year.year look.first)

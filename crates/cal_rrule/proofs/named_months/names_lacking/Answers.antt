@@ -1,4 +1,4 @@
-use Rattle.std.proofs.Common.{◌≡◌, ◌∙◌, false, true, min, sym, ap, subst, arith}
+use Rattle.std.proofs.Common.{◌≡◌, ◌∙◌, min, sym, ap, subst, arith}
 use mathlib.Core.Bool.{true≢false}
 use Rattle.cal_types.specs.Month.{MonthParts}
 use Rattle.cal_types.specs.MonthParts.{month_parts}

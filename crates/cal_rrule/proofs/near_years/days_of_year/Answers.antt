@@ -1,7 +1,7 @@
-use Rattle.std.proofs.Common.{◌≡◌, ◌+◌, ap, sym, arith, ℤ, w32, to_z, of_z}
-use Rattle.cal_days.proofs.Signed.{signed}
+use Rattle.std.proofs.Common.{◌+◌, ap, sym, arith, ℤ, w32, to_z, of_z}
 use Rattle.cal_types.specs.CalendarList.{HasPlace, year_length}
 use Rattle.cal_types.proofs.ListLemmas.{days_before-end, days_before-first, days_before-next}
+use Rattle.cal_rrule.proofs.WordLemmas.{field-word}
 use Rattle.cal_rrule.proofs.near_years.days_of_year.Goals as goal
 
 pub loop-before-init : goal.loop-before-init
@@ -26,7 +26,7 @@ pub returns : goal.returns
 returns g c =
     let list = (g.C.Calendar.system c.args.calendar.now).list in
     let y = to_z w32 (of_z w32 c.args.year) in
-    let same : to_z w32 (of_z w32 c.args.year) ≡ c.args.year = omega (arith, signed, c.requires.0, c.requires.1) in
+    let same = field-word c.args.year (c.requires.low, c.requires.high) in
     let length = ap (λ (z : ℤ). year_length list z) same in
     let whole = days_before-end list y (c.loop-before.before + 1) (omega (arith, c.loop-before-test.false, c.months_of_year-before-end.ensures)) in
     omega (arith, c.loop-before.invariant.0, whole, length)

@@ -1,4 +1,4 @@
-use Rattle.std.proofs.Common.{◌≡◌, ◌∙◌, ◌↔◌, ℤ, subst, sym, refl}
+use Rattle.std.proofs.Common.{◌≡◌, ◌∙◌, ◌↔◌, ℤ, subst, sym}
 use Rattle.cal_days.specs.Day.{IsValidDay}
 use Rattle.cal_types.specs.CalendarList.{IsOn, day_number}
 use Rattle.cal_rrule.specs.Blocks.{IsOfBlock, start_of}

@@ -1,14 +1,13 @@
-use Rattle.std.proofs.Common.{◌≡◌, ◌∙◌, ◌-◌, rules, ap, sym, arith, ℤ, FitsSigned, w32, to_z, of_z}
-use Rattle.cal_days.proofs.Signed.{signed}
+use Rattle.std.proofs.Common.{◌≡◌, ◌∙◌, ◌-◌, ap, sym, arith, ℤ, w32, to_z, of_z}
 use Rattle.cal_types.specs.CalendarList.{date, is_date, month_length}
 use Rattle.cal_rrule.proofs.ProbeLemmas.{length-found, length-less}
+use Rattle.cal_rrule.proofs.WordLemmas.{field-word}
 use Rattle.cal_rrule.proofs.probes.days_of_month.Goals as goal
 
 pub loop-fewer-init : goal.loop-fewer-init
 loop-fewer-init g c =
     let list = (g.C.Calendar.system c.args.calendar.now).list in
-    let fits : FitsSigned w32 c.args.year = search rules in
-    let same : to_z w32 (of_z w32 c.args.year) ≡ c.args.year = omega (arith, signed) in
+    let same = field-word c.args.year c.requires.year in
     let length : month_length list (to_z w32 (of_z w32 c.args.year)) c.args.place ≡ month_length list c.args.year c.args.place =
     ap (λ (y : ℤ). month_length list y c.args.place) same in
     omega (arith, length, ((g.met.C.Calendar.lawful c.args.calendar.now).lengths c.args.year c.args.place c.requires.place).1)
@@ -16,8 +15,7 @@ loop-fewer-init g c =
 pub returns-then-has_day : goal.returns-then-has_day
 returns-then-has_day g c =
     let list = (g.C.Calendar.system c.args.calendar.now).list in
-    let fits : FitsSigned w32 c.args.year = search rules in
-    let same : to_z w32 (of_z w32 c.args.year) ≡ c.args.year = omega (arith, signed) in
+    let same = field-word c.args.year c.requires.year in
     let length : month_length list (to_z w32 (of_z w32 c.args.year)) c.args.place ≡ month_length list c.args.year c.args.place =
     ap (λ (y : ℤ). month_length list y c.args.place) same in
     length-found list c.args.year c.args.place (31 - c.loop-fewer.fewer) (omega (arith, length, c.loop-fewer.invariant))
@@ -26,8 +24,7 @@ returns-then-has_day g c =
 pub loop-fewer-preserved : goal.loop-fewer-preserved
 loop-fewer-preserved g c =
     let list = (g.C.Calendar.system c.args.calendar.now).list in
-    let fits : FitsSigned w32 c.args.year = search rules in
-    let same : to_z w32 (of_z w32 c.args.year) ≡ c.args.year = omega (arith, signed) in
+    let same = field-word c.args.year c.requires.year in
     let length : month_length list (to_z w32 (of_z w32 c.args.year)) c.args.place ≡ month_length list c.args.year c.args.place =
     ap (λ (y : ℤ). month_length list y c.args.place) same in
     let less = length-less list c.args.year c.args.place (31 - c.loop-fewer.fewer) c.requires.place
@@ -38,8 +35,7 @@ loop-fewer-preserved g c =
 pub returns : goal.returns
 returns g c =
     let list = (g.C.Calendar.system c.args.calendar.now).list in
-    let fits : FitsSigned w32 c.args.year = search rules in
-    let same : to_z w32 (of_z w32 c.args.year) ≡ c.args.year = omega (arith, signed) in
+    let same = field-word c.args.year c.requires.year in
     let length : month_length list (to_z w32 (of_z w32 c.args.year)) c.args.place ≡ month_length list c.args.year c.args.place =
     ap (λ (y : ℤ). month_length list y c.args.place) same in
     omega (

@@ -1,19 +1,18 @@
-use Rattle.std.proofs.Common.{◌≡◌, ◌∙◌, ◌↔◌, rules, ap, sym, arith, Bool, IsTrue, ℤ, subst, FitsSigned, w32, to_z, of_z}
-use Rattle.cal_days.proofs.Signed.{signed}
+use Rattle.std.proofs.Common.{◌≡◌, ◌∙◌, ◌↔◌, ap, sym, Bool, IsTrue, ℤ, subst}
 use Rattle.cal_types.specs.CalendarList.{month_at}
 use Rattle.cal_types.specs.MonthParts.{month_parts}
 use Rattle.cal_types.specs.Resolving.{resolve}
 use Rattle.cal_types.specs.declared.options.MissingFieldsStrategy.TheVariants as missing
 use Rattle.cal_types.specs.declared.options.Overflow.TheVariants.{Reject}
 use Rattle.cal_rrule.proofs.ProbeLemmas.{in-place, is_found, month-found, month_bag}
+use Rattle.cal_rrule.proofs.WordLemmas.{field-word}
 use Rattle.cal_rrule.proofs.probes.is_in_place.Goals as goal
 
 pub returns-in-Ok : goal.returns-in-Ok
 returns-in-Ok g c =
     let s = g.C.Calendar.system c.args.calendar.now in
     let m = month_parts c.args.month in
-    let fits : FitsSigned w32 c.args.year = search rules in
-    let same : to_z w32 (of_z w32 c.args.year) ≡ c.args.year = omega (arith, signed) in
+    let same = field-word c.args.year c.requires.year in
     let found =
     ap is_found c.in-Ok.ensures.resolved
     ∙ ap (λ (y : ℤ). is_found (resolve s.list s.year_names (month_bag y c.args.place m) Reject missing.Reject)) same
@@ -25,8 +24,7 @@ pub returns-in-Err : goal.returns-in-Err
 returns-in-Err g c =
     let s = g.C.Calendar.system c.args.calendar.now in
     let m = month_parts c.args.month in
-    let fits : FitsSigned w32 c.args.year = search rules in
-    let same : to_z w32 (of_z w32 c.args.year) ≡ c.args.year = omega (arith, signed) in
+    let same = field-word c.args.year c.requires.year in
     let found =
     c.is_overflow.ensures
     ∙ ap is_found c.in-Err.ensures.resolved

@@ -1,16 +1,15 @@
-use Rattle.std.proofs.Common.{◌≡◌, ◌∙◌, ◌≤◌, rules, sym, ap, arith, ℤ, FitsSigned, w32, to_z, of_z}
-use Rattle.cal_days.proofs.Signed.{signed}
+use Rattle.std.proofs.Common.{◌≡◌, ◌∙◌, ◌≤◌, sym, ap, arith, ℤ, w32, to_z, of_z}
 use Rattle.cal_types.specs.CalendarList.{month_at}
 use Rattle.cal_types.specs.Month.{month_rank}
 use Rattle.cal_types.specs.MonthParts.{month_parts}
 use Rattle.cal_rrule.proofs.ProbeLemmas.{rank-last, rank-less}
+use Rattle.cal_rrule.proofs.WordLemmas.{field-word}
 use Rattle.cal_rrule.proofs.probes.month_in_place.Goals as goal
 
 pub returns-then-is_in_place : goal.returns-then-is_in_place
 returns-then-is_in_place g c =
     let list = (g.C.Calendar.system c.args.calendar.now).list in
-    let fits : FitsSigned w32 c.args.year = search rules in
-    let same : to_z w32 (of_z w32 c.args.year) ≡ c.args.year = omega (arith, signed) in
+    let same = field-word c.args.year c.requires.year in
     sym (c.is_in_place.ensures.0 c.if-is_in_place.true) ∙ ap (λ (y : ℤ). month_at list y c.args.place) same
 
 pub loop-rank-preserved : goal.loop-rank-preserved
@@ -23,8 +22,7 @@ loop-rank-preserved g c =
 pub returns : goal.returns
 returns g c =
     let list = (g.C.Calendar.system c.args.calendar.now).list in
-    let fits : FitsSigned w32 c.args.year = search rules in
-    let same : to_z w32 (of_z w32 c.args.year) ≡ c.args.year = omega (arith, signed) in
+    let same = field-word c.args.year c.requires.year in
     let rank : month_rank (month_at list (to_z w32 (of_z w32 c.args.year)) c.args.place) ≡ month_rank (month_at list c.args.year c.args.place) =
     ap (λ (y : ℤ). month_rank (month_at list y c.args.place)) same in
     let low : 27 ≤ month_rank (month_at list c.args.year c.args.place) =

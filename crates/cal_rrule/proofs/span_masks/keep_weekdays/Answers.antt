@@ -1,9 +1,9 @@
-use Rattle.std.proofs.Common.{◌≡◌, ◌<ℤ◌, ◌+ℤ◌, pos, true, false, rules, arith}
-use Rattle.cal_days.proofs.Signed.{signed}
+use Rattle.std.proofs.Common.{◌≡◌, ◌<ℤ◌, ◌+ℤ◌, pos, true, false, rules}
 use Rattle.cal_rrule.specs.Periods.{IsOfWeekdays, NoWeekdays}
 use Rattle.cal_rrule.proofs.AskedLemmas.{there-by}
 use Rattle.cal_rrule.proofs.DayBlockLemmas.{keep-all, keep-some}
 use Rattle.recurrence_sets.specs.PeriodBits.{has_day}
+use Rattle.cal_rrule.proofs.WordLemmas.{span-row}
 use Rattle.cal_rrule.proofs.span_masks.keep_weekdays.Goals as goal
 
 pub returns-then-asked-clause-days : goal.returns-then-asked-clause-days
@@ -19,7 +19,7 @@ returns-clause-days g c = λ n above below.
     let a = c.args.asked.now in
     let fails : a.missing.weekdays ≡ false = search rules in
     let marks = c.days_of_weekdays-named.ensures in
-    let few : n <ℤ (c.args.days.now.first +ℤ pos 448) = omega (arith, signed, below, c.requires.first, c.args.span.now.few) in
+    let few : n <ℤ (c.args.days.now.first +ℤ pos 448) = span-row n c.args.days.now.first c.args.span.now.from c.args.span.now.to below c.requires.first c.args.span.now.few in
     keep-some (has_day c.args.days.now n) (has_day c.days_of_weekdays-named.result n) (has_day c.keep_common.new.self n)
     (NoWeekdays a.rule) (IsOfWeekdays list a.rule n)
     (there-by (NoWeekdays a.rule) a.missing.weekdays c.requires.missing.no_weekdays fails)

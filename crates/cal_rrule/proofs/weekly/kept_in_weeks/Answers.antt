@@ -1,8 +1,8 @@
-use Rattle.std.proofs.Common.{◌≡◌, ◌∙◌, ℕ, ◌+◌, ◌*◌, ◌<◌, ◌≤◌, ◌↔◌, IsTrue, pos, ◌+ℤ◌, sym, ap, subst, rules, arith, to_z, of_z, w64}
+use Rattle.std.proofs.Common.{◌≡◌, ◌∙◌, ℕ, ◌+◌, ◌↔◌, IsTrue, ◌+ℤ◌, sym, subst, arith, to_z, of_z, w64}
 use mathlib.Core.Bool.{true≢false}
 use Rattle.cal_days.proofs.Signed.{signed}
 use Rattle.cal_rrule.specs.Blocks.{IsOfPeriodsFrom}
-use Rattle.cal_rrule.specs.Weekly.{ArePeriodWeeks, IsPeriodWeek, week_from}
+use Rattle.cal_rrule.specs.Weekly.{IsPeriodWeek, week_from}
 use Rattle.recurrence_sets.specs.PeriodBits.{has_day}
 use Rattle.cal_rrule.proofs.WeeklyLemmas.{week-few, weeks-more}
 use Rattle.cal_rrule.proofs.weekly.kept_in_weeks.Goals as goal

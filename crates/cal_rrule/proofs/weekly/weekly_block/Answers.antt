@@ -41,3 +41,6 @@ returns-in-Some-clause-few g c =
     let a = c.args.asked.now in
     let week = week-finds a.rule.week_start a.day in
     omega (arith, (c.in-Some.ensures week.0 week.1).2)
+
+pub kept_in_block-requires-clause-nearby : goal.kept_in_block-requires-clause-nearby
+kept_in_block-requires-clause-nearby g c = c.requires.nearby

@@ -1,4 +1,4 @@
-use Rattle.std.proofs.Common.{◌≡◌, ◌∙◌, ◌+ℤ◌, pos, subst, sym, arith, ℤ, to_z, of_z, w64}
+use Rattle.std.proofs.Common.{◌≡◌, ◌∙◌, ◌+ℤ◌, subst, sym, arith, ℤ, to_z, of_z, w64}
 use Rattle.cal_days.specs.Division.{floor_mod}
 use Rattle.cal_days.proofs.Signed.{signed}
 use Rattle.cal_rrule.proofs.WeeklyDayLemmas.{same-marks}

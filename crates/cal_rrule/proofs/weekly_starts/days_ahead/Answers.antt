@@ -1,4 +1,4 @@
-use Rattle.std.proofs.Common.{◌≡◌, ◌/◌, ◌*◌, ◌≤◌, pos, arith}
+use Rattle.std.proofs.Common.{arith}
 use Rattle.cal_days.proofs.Signed.{signed_casts}
 use Rattle.cal_rrule.proofs.WeeklyStartLemmas.{ahead-none, ahead-some, quotient-few}
 use Rattle.cal_rrule.proofs.weekly_starts.days_ahead.Goals as goal

@@ -1,6 +1,6 @@
-use Rattle.std.proofs.Common.{◌≡◌, ◌∙◌, ◌+ℤ◌, subst, sym, arith, to_z, of_z, w64}
+use Rattle.std.proofs.Common.{◌≡◌, ◌+ℤ◌, arith, to_z, of_z, w64}
 use Rattle.cal_days.proofs.Signed.{signed}
-use Rattle.cal_rrule.specs.Weekly.{AreDaysAhead, block_start}
+use Rattle.cal_rrule.specs.Weekly.{block_start}
 use Rattle.cal_rrule.proofs.ApartLemmas.{week-unique}
 use Rattle.cal_rrule.proofs.WeeklyStartLemmas.{start-found, start-none}
 use Rattle.cal_rrule.proofs.weekly_starts.start_of_block.Goals as goal

@@ -1,9 +1,9 @@
-use Rattle.std.proofs.Common.{◌≡◌, ◌∙◌, ◌<ℤ◌, ◌+ℤ◌, ◌*◌, ◌&&◌, pos, true, false, sym, rules, arith, to_z, of_z, w64}
+use Rattle.std.proofs.Common.{◌≡◌, ◌∙◌, ◌<ℤ◌, ◌+ℤ◌, ◌&&◌, pos, true, false, sym, rules}
 use Rattle.std.proofs.lemmas.Bool.{and_parts}
 use Rattle.std.proofs.lemmas.Bool.Decides.{Decides-and, Decides-at}
-use Rattle.cal_days.proofs.Signed.{signed}
 use Rattle.recurrence_sets.specs.PeriodBits.{has_day}
 use Rattle.cal_rrule.proofs.WeeksBlockLemmas.{silent-fails, weekday-all}
+use Rattle.cal_rrule.proofs.WordLemmas.{week-word, weeks-row}
 use Rattle.cal_rrule.proofs.weeks_block.keep_start_weekday.Goals as goal
 
 pub returns-then-not-missing-clause-days : goal.returns-then-not-missing-clause-days
@@ -16,16 +16,16 @@ returns-then-not-missing-clause-days c = λ n above below.
 pub keep_common-requires : goal.keep_common-requires
 keep_common-requires c =
     let w = c.args.weeks.now in
-    let own : to_z w64 (of_z w64 w.first) ≡ w.first = omega (arith, signed, w.near) in
+    let own = week-word w.first w.near in
     c.same_weekdays-same.ensures.first ∙ own ∙ sym c.requires.first
 
 pub returns-clause-days : goal.returns-clause-days
 returns-clause-days c = λ n above below.
     let a = c.args.asked.now in
     let w = c.args.weeks.now in
-    let own : to_z w64 (of_z w64 w.first) ≡ w.first = omega (arith, signed, w.near) in
+    let own = week-word w.first w.near in
     let marks = rw own at c.same_weekdays-same.ensures in
-    let few : n <ℤ (c.args.days.now.first +ℤ pos 448) = omega (arith, signed, c.requires.first, below, w.few) in
+    let few : n <ℤ (c.args.days.now.first +ℤ pos 448) = weeks-row n w.first c.args.days.now.first w.count below c.requires.first w.few in
     let holds : (a.missing.year_days && (a.missing.month_days && a.missing.weekdays)) ≡ true = search rules in
     let outer = and_parts a.missing.year_days (a.missing.month_days && a.missing.weekdays) holds in
     let inner = and_parts a.missing.month_days a.missing.weekdays outer.1 in

@@ -1,6 +1,7 @@
 use Rattle.std.proofs.Common.{◌∙◌, sym}
 use Rattle.cal_rrule.specs.Blocks.{start_of}
 use Rattle.cal_rrule.proofs.WeeksBlockLemmas.{about-marks}
+use Rattle.cal_rrule.proofs.WordLemmas.{about-day, about-own, about-before, about-behind}
 use Rattle.cal_rrule.proofs.weeks_block.named_about.Goals as goal
 
 pub returns : goal.returns
@@ -23,3 +24,22 @@ insert_all-requires-2 g c =
     let t = start_of c.args.asked.now in
     (c.named_in_year-2.ensures t c.requires.is_asked).first ∙ sym (c.named_in_year-days.ensures t c.requires.is_asked).first
     ∙ sym c.insert_all.ensures.first
+
+pub year_before-before-requires-clause-near : goal.year_before-before-requires-clause-near
+year_before-before-requires-clause-near g c = about-day c.args.year.now.first c.requires.near
+
+pub year_after-behind-requires-clause-near : goal.year_after-behind-requires-clause-near
+year_after-behind-requires-clause-near g c = about-day c.args.year.now.first c.requires.near
+
+pub named_in_year-days-requires-clause-near : goal.named_in_year-days-requires-clause-near
+named_in_year-days-requires-clause-near g c = about-own c.args.year.now.first c.requires.near
+
+pub named_in_year-requires-clause-near : goal.named_in_year-requires-clause-near
+named_in_year-requires-clause-near g c =
+    let before = c.year_before-before.result in
+    about-before before.first c.args.year.now.first before.days c.year_before-before.ensures.joins before.short c.requires.near
+
+pub named_in_year-requires-2-clause-near : goal.named_in_year-requires-2-clause-near
+named_in_year-requires-2-clause-near g c =
+    let year = c.args.year.now in
+    about-behind c.year_after-behind.result.first year.first year.days c.year_after-behind.ensures.joins year.short c.requires.near

@@ -1,12 +1,9 @@
-use Rattle.std.proofs.Common.{◌≡◌, ◌∙◌, ◌*◌, ◌+ℤ◌, ◌<ℤ◌, ℤ, pos, length, subst, sym, rules, arith}
-use Rattle.cal_days.proofs.Signed.{signed}
-use Rattle.cal_types.specs.CalendarList.{start_of_year}
-use Rattle.cal_types.proofs.ListLemmas.{on-finds}
+use Rattle.std.proofs.Common.{subst, sym, arith}
 use Rattle.cal_rule.specs.declared.frequency.Frequency.{Frequency}
-use Rattle.cal_rule.specs.declared.frequency.Frequency.TheVariants.{Yearly}
 use Rattle.cal_rrule.specs.Blocks.{IsOfBlocks, start_of}
 use Rattle.cal_rrule.proofs.WeeklyStartLemmas.{week-finds}
 use Rattle.cal_rrule.proofs.WeeksBlockLemmas.{first-field, week-field, weeks-ended, weeks-period, year-finds, years-few}
+use Rattle.cal_rrule.proofs.WordLemmas.{field-most, nearer, week-near}
 use Rattle.cal_rrule.proofs.YearlyLemmas.{few-periods}
 use Rattle.cal_rrule.proofs.weeks_block.weeks_block.Goals as goal
 
@@ -30,7 +27,7 @@ days_of_weeks-days-requires-clause-near g c =
     let week = week-finds a.rule.week_start a.day in
     let own = year-finds list law week.0 in
     let found = c.in-Some.ensures week.0 own.0 week.1 own.1 in
-    (omega (arith, signed, found.2.0), omega (arith, signed, found.2.1))
+    nearer c.in-Some.year.first found.2
 
 pub year_of_period-requires-clause-few : goal.year_of_period-requires-clause-few
 year_of_period-requires-clause-few g c =
@@ -47,10 +44,10 @@ returns-in-Some-clause-few g c =
     let found = c.in-Some.ensures week.0 own.0 week.1 own.1 in
     let valid = c.requires.is_asked.is_valid in
     let least = week-field list law near week.0
-    (omega (arith, signed, week.1.2, valid), omega (arith, signed, week.1.1, valid)) in
+    (week-near week.0 a.day week.1.1 week.1.2 valid) in
     let most = first-field list law near c.in-Some.year found.0 found.2 in
     few-periods c.args.period a.rule.interval c.years_between-years.result own.0 c.in-Some.year.year a.rule.every
-    (rw c.interval.ensures at c.years_between-years.ensures) found.1 least (omega (arith, signed, most.1))
+    (rw c.interval.ensures at c.years_between-years.ensures) found.1 least (field-most c.in-Some.year.year most)
 
 pub returns-in-Some-clause-days : goal.returns-in-Some-clause-days
 returns-in-Some-clause-days g c = λ n valid.

@@ -1,10 +1,10 @@
-use Rattle.std.proofs.Common.{◌≡◌, ◌∙◌, sym, arith}
+use Rattle.std.proofs.Common.{◌≡◌, ◌∙◌, sym}
 use mathlib.Core.Bool.{true≢false}
-use Rattle.cal_days.proofs.Signed.{signed}
 use Rattle.cal_types.specs.MonthParts.{month_parts}
 use Rattle.cal_rrule.specs.YearMonths.{IsOfYearMonths, IsYearMonthDayOf}
 use Rattle.cal_rrule.proofs.MaskLemmas.{adds-run}
 use Rattle.cal_rrule.proofs.MonthDayLemmas.{marks-as}
+use Rattle.cal_rrule.proofs.WordLemmas.{span-from, span-to}
 use Rattle.cal_rrule.proofs.YearDayLemmas.{all-marks, free-test, month-days, month-free}
 use Rattle.cal_rrule.proofs.year_days.days_by_month.Goals as goal
 
@@ -15,9 +15,10 @@ returns-then-missing g c =
     let start = month_parts a.month.month in
     let year = c.args.year.now in
     let span = c.args.span.now in
-    let first : c.new.result ≡ span.from = omega (arith, signed) in
-    let from : c.new-then-missing.result ≡ span.from = omega (arith, signed) in
-    let to : c.new-then-missing-2.result ≡ span.to = omega (arith, signed, span.order, span.few) in
+    let same = span-from span.from span.to span.low span.order span.high in
+    let first : c.new.result ≡ span.from = c.new.ensures ∙ same in
+    let from : c.new-then-missing.result ≡ span.from = c.new-then-missing.ensures ∙ same in
+    let to : c.new-then-missing-2.result ≡ span.to = c.new-then-missing-2.ensures ∙ span-to span.from span.to span.low span.order span.high in
     let free = (free-test a.rule a.missing c.requires.missing).0 c.if-missing.true in
     all-marks c.new-days.result c.insert_days.new.self span.from span.to
     (IsYearMonthDayOf list a.rule start a.day_of_month year.year)

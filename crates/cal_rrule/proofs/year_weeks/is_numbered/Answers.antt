@@ -1,4 +1,3 @@
-use Rattle.std.proofs.Common.{◌≡◌, refl}
 use Rattle.std.proofs.lemmas.Bool.Decides.{Decides-or}
 use Rattle.cal_rrule.proofs.year_weeks.is_numbered.Goals as goal
 

@@ -1,4 +1,4 @@
-use Rattle.std.proofs.Common.{◌≤◌, arith}
+use Rattle.std.proofs.Common.{arith}
 use Rattle.cal_rrule.proofs.YearWeekLemmas.{until, until-few}
 use Rattle.cal_rrule.proofs.year_weeks.weeks_until.Goals as goal
 

@@ -1,6 +1,6 @@
-use Rattle.std.proofs.Common.{◌∙◌, ℕ, ◌*◌, ℤ, pos, ◌+ℤ◌, ◌≤ℤ◌, sym, ap, arith}
-use Rattle.cal_days.proofs.Signed.{signed}
+use Rattle.std.proofs.Common.{◌∙◌, ℕ, ◌*◌, ℤ, pos, ◌+ℤ◌, ◌≤ℤ◌, sym, ap, subst}
 use Rattle.cal_types.specs.CalendarList.{IsOn, start_of_year}
+use Rattle.cal_rrule.proofs.WordLemmas.{ends-low, found-most, found-near, year-order}
 use Rattle.cal_rrule.proofs.YearStepLemmas.{starts-order, year-least}
 use Rattle.cal_rrule.proofs.YearlyLemmas.{asked-year, few-periods, year-most, yearly-ended, yearly-set}
 use Rattle.cal_rrule.proofs.yearly.year_block.Goals as goal
@@ -13,7 +13,7 @@ years_after-requires-clause-field g c =
     c.requires.year c.requires.within c.requires.valid
 
 pub years_after-requires-clause-low : goal.years_after-requires-clause-low
-years_after-requires-clause-low g c = omega (arith, signed, c.requires.valid.0, c.requires.within.1)
+years_after-requires-clause-low g c = ends-low _ c.args.asked.now.day c.requires.within.1 c.requires.valid.0
 
 pub returns-in-None-clause-days : goal.returns-in-None-clause-days
 returns-in-None-clause-days g c = λ t is.
@@ -32,11 +32,11 @@ days_of_year-days-requires-clause-near g c =
     let list = (g.C.Calendar.system c.args.calendar.now).list in
     let year = c.args.year.now in
     let found = c.in-Some.ensures in
-    let order : year.year ≤ℤ c.in-Some.found.year = omega (arith, signed, found.1) in
-    let starts = starts-order list year.year c.in-Some.found.year order in (
-      omega (arith, signed, starts, found.0.is_start, c.requires.year.is_start, c.requires.within.1, c.requires.valid.0, year.short),
-      omega (arith, signed, found.2, c.requires.last.1),
-    )
+    let order = year-order year.year c.in-Some.found.year c.years_between-years.result found.1 in
+    let starts = subst (λ (d : ℤ). d ≤ℤ start_of_year list c.in-Some.found.year) (sym c.requires.year.is_start)
+    (starts-order list year.year c.in-Some.found.year order) in
+    found-near c.in-Some.found.first _ year.first c.args.asked.now.day c.args.last year.days starts found.0.is_start c.requires.within.1
+    year.short c.requires.valid found.2 c.requires.last
 
 pub returns-in-Some-clause-days : goal.returns-in-Some-clause-days
 returns-in-Some-clause-days g c = λ t is.
@@ -63,7 +63,6 @@ returns-in-Some-clause-few g c =
     let found = c.in-Some.ensures in
     let years = c.years_between-years.ensures ∙ ap (λ (e : ℕ). c.args.period * e) c.interval.ensures in
     let least = year-least list law ranged year a.day c.requires.year c.requires.within c.requires.valid in
-    let low : start_of_year list c.in-Some.found.year ≤ℤ pos 365242135 =
-    omega (arith, signed, found.2, found.0.is_start, c.requires.last.1) in
+    let low = found-most _ c.in-Some.found.first c.args.last found.0.is_start found.2 c.requires.last in
     few-periods c.args.period a.rule.interval c.years_between-years.result year.year c.in-Some.found.year c.requires.every
     years found.1 least (year-most list law ranged c.in-Some.found.year low)

@@ -1,5 +1,5 @@
 use Rattle.std.proofs.Common.{◌∙◌, sym}
-use Rattle.doc_examples.proofs.tests.rule_days.show_items.Goals as goal
+use Rattle.doc_examples.proofs.tests.over_any.iso.show_last_fridays.Goals as goal
 
 pub resume_rrule-others-requires : goal.resume_rrule-others-requires
 resume_rrule-others-requires g c =

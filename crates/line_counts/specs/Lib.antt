@@ -1,0 +1,3 @@
+pub mod LineFeeds
+pub mod LineCounts
+pub mod Counted
