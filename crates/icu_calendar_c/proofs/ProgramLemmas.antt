@@ -1,6 +1,6 @@
 -- A run over an input in memory: what it leaves, and the codes that a call may return.
 use Rattle.std.proofs.Common.{◌≡◌, ◌≢◌, ◌≤◌, ◌<◌, ℕ, Bool, true, false, List, [], ◌++◌, ◌⊎◌, inl, inr, length, drop, Option, Some, None, refl, arith, ap, subst, sym, ◌∙◌}
-use Rattle.calspan_run.specs.Command.{Asked, Span, Generate, Anniversary, Recur, Rrule, Holidays, Convert, Explain}
+use Rattle.command_line.specs.Command.{Asked, Span, Generate, Anniversary, Recur, Rrule, Holidays, Convert, Explain}
 use Rattle.calspan_run.specs.CommandRuns.{Ends}
 use Rattle.calspan_run.specs.Run.{outside}
 use Rattle.calspan_run.specs.Status.{code_of}

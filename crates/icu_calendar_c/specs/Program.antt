@@ -1,6 +1,6 @@
 -- What the program as a call answers.
 use Rattle.std.specs.Prelude.{◌≡◌, ℕ, ◌<◌, Bool, true, false, List, [], ◌⊎◌, Option, Some, length}
-use Rattle.calspan_run.specs.Command.{Asked}
+use Rattle.command_line.specs.Command.{Asked}
 use Rattle.calspan_run.specs.CommandRuns.{Ends}
 use Rattle.calspan_run.specs.Run.{outside}
 use Rattle.calspan_run.specs.Status.{code_of}

@@ -2,8 +2,8 @@
 
 ghost use Rattle.std.specs.Prelude.{◌≡◌, ◌≢◌, ◌≤◌, None};
 ghost use Rattle.std.specs.Str.{IsUtf8};
-ghost use Rattle.calspan_run.specs.Command.{command_of};
-ghost use Rattle.calspan_run.specs.SpacedWords.{words_in};
+ghost use Rattle.command_line.specs.Command.{command_of};
+ghost use Rattle.command_line.specs.SpacedWords.{words_in};
 ghost use Rattle.icu_calendar_c.specs.Program.{IsAnswered, IsHandedOver};
 
 use crate::kept::Kept;
