@@ -45,6 +45,7 @@ fn expected(part: CommandPart) -> &'static str {
         CommandPart::BehindRule => {
             "no more words, since the word before is no day number and no new field, but the rule"
         }
+        CommandPart::Holidays => "holidays, or no more words",
         CommandPart::End => "no more words",
     }
 }
