@@ -19,6 +19,7 @@ from explain import compare_explanations
 from grammar import FIELDS, REQUEST, WORDS, has_each_key_once
 import lists
 from lists import cases_of, compare_lists, compare_words
+from records import compare_records
 
 HERE = Path(__file__).resolve().parent
 TABLES = HERE / "tables"
@@ -197,7 +198,7 @@ def compare_all() -> None:
     inputs = [(TABLES / f"{name}.in").read_bytes() for name in STATUSES]
     for _ in range(BROKEN_ROWS):
         check_broken_rows(chance, inputs)
-    compared += f", {compare_with_span()}, {compare_explanations()}"
+    compared += f", {compare_with_span()}, {compare_explanations()}, {compare_records()}"
     compare_words(chance, [case for path in LISTS for case in cases_of(path)], BROKEN_WORDS)
     print(f"cases: {compared}; {BROKEN_INPUTS + BROKEN_ROWS} broken inputs and {BROKEN_WORDS} broken command lines are answered")
 

@@ -78,6 +78,7 @@ NEAR = {
     b"rrule": [SHOWN, SHOWN, DAYS, DAYS, [*DAYS, *FIELDS], [*FIELDS, *RULES]],
     b"holidays": [DAYS, DAYS],
     b"convert": [SHOWN, SHOWN, [*OVERFLOWS, b"skip", b""]],
+    b"explain": [[b"holidays", b"holiday", b""]],
 }
 ANYWHERE = [
     *[b"span", b"explain", b"gen", b"anniversary", b"recur", b"rrule", b"holidays", b"convert", b"iso", b"exact", b"constrain", b"M02", b"1", b"-1", b"", b" "],
@@ -114,7 +115,7 @@ def is_end(command: bytes, words: list[bytes]) -> bool:
         return are_fields(words)
     if command == b"rrule":
         return bool(words) and (are_fields(words[:-1]) or is_day(words[:-1]))
-    return not words
+    return not words or (command == b"explain" and words == [b"holidays"])
 
 
 def is_day(words: list[bytes]) -> bool:

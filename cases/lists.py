@@ -21,7 +21,7 @@ ENDS = {0, 1, 6}
 MOST_DAYS = 4000
 # The place of the last day among the words of a list; the first day stands before it.
 LAST_DAY = {b"anniversary": 7, b"recur": 7, b"rrule": 4, b"holidays": 2}
-SHORT = [[b"span"], [b"explain"], [b"gen", b"100"], [b"convert", b"hebrew", b"iso", b"reject"]]
+SHORT = [[b"span"], [b"explain"], [b"explain", b"holidays"], [b"gen", b"100"], [b"convert", b"hebrew", b"iso", b"reject"]]
 PROCESSES = os.cpu_count() or 1
 
 

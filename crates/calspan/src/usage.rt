@@ -6,6 +6,8 @@ usage: calspan convert CALENDAR SHOWN constrain|reject < FILE
                                       writes the date of each line in a second calendar
        calspan span < FILE            answers the request lines of a file
        calspan explain < FILE         names the first bad word of each malformed line of a file
+       calspan explain holidays < BOOK
+                                      names the first invalid field of each invalid record of a book
        calspan gen N                  counts and sums over the answers to N requests, 0 to 100000
        calspan anniversary CALENDAR SHOWN exact|constrain CODE DAY FIRST LAST < ROWS
                                       lists the days from FIRST to LAST that a month and a day name
