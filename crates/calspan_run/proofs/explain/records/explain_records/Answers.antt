@@ -1,4 +1,4 @@
-use Rattle.std.proofs.Common.{Bor, List, ℕ, ◌≡◌, ◌+◌, ◌∙◌, sym, ap, ap₂, subst, refl, rules, inl, inr, true, length, Some, ◌∷◌, ◌++◌, [], arith}
+use Rattle.std.proofs.Common.{Bor, List, ℕ, ◌≡◌, ◌+◌, ◌||◌, ◌∙◌, sym, ap, ap₂, subst, refl, rules, inl, inr, true, length, Some, ◌∷◌, ◌++◌, [], arith}
 use Rattle.std.proofs.lemmas.List.{length-append}
 use Rattle.csv.proofs.ReadFacts.{rows-end, rows-more}
 use Rattle.csv.specs.Reading.{Reached, default_config, strip_bom}
@@ -40,7 +40,10 @@ loop-row-preserved c =
     let s = rw (c.in-Some.is, c.in-Ok.is) at ((c.next.ensures.steps inv.2 inv.0).0 inv.1) in
     let flexible = rw (c.in-Some.is, c.in-Ok.is) at (c.next.ensures.steps inv.2 inv.0).3 in
     let m = rows-more (λ (s : Bor (List ℕ)). Some s.now) c.loop-row.row-iterator.rdr c.next.new.self.rdr row default_config st.StartRecord (strip_bom c.args.book.now) inv.4 inv.6 inv.3 inv.5 inv.7 s.0 in
-    let number : c.in-Some-checked_add.next ≡ 1 + length inv.6 = ? in (
+    let next : c.in-Some-checked_add.next ≡ c.loop-row.number + 1 = search rules in
+    let number : c.in-Some-checked_add.next ≡ 1 + length inv.6 = omega (arith, next, inv.8) in
+    let line = c.in_ok-this.ensures.line ∙ ap₂ (λ t n. t ++ (record_line n row).0) inv.9 number in
+    let is_invalid = c.in_ok-this.ensures.is_invalid ∙ ap (λ n. (record_line n row).1) number in (
       s.0.3 ∙ inv.0,
       inl s.1,
       s.2,
@@ -49,11 +52,16 @@ loop-row-preserved c =
       m.1,
       inv.6 ++ (row ∷ []),
       m.2,
-      ?,
-      ?,
-      ?,
+      omega (arith, number, length-append inv.6 (row ∷ [])),
+      line ∙ sym (lines_behind 1 inv.6 row),
+      c.either-is_invalid.ensures ∙ (ap₂ (λ a b. a || b) inv.10 is_invalid ∙ sym (invalid_behind 1 inv.6 row)),
       flexible ∙ inv.11,
     )
 
-pub returns-clause : goal.returns-clause
-returns-clause c = ?
+pub returns : goal.returns
+returns c =
+    let inv = c.loop-row.invariant in
+    let s = rw c.in-None.is at ((c.next.ensures.steps inv.2 inv.0).0 inv.1) in
+    let ended = rows-end (λ (s : Bor (List ℕ)). Some s.now) c.loop-row.row-iterator.rdr c.next.new.self.rdr [] default_config inv.4 inv.3 inv.5 s in
+    let all = records-all default_config c.loop-row.row-iterator.rdr.state (strip_bom c.args.book.now) inv.4 inv.6 inv.7 ended in
+    ap₂ (λ t b. (t, b)) (inv.9 ∙ ap (record_lines 1) (sym all)) (inv.10 ∙ ap (any_invalid 1) (sym all))
