@@ -23,7 +23,7 @@ use Rattle.command_line.specs.declared.part.Behind.TheVariants as behind
 use Rattle.command_line.proofs.PassLemmas.{passes}
 
 -- something mapped is something
-mapped : {A B : Type 0} (f : A → B) (o : Option A) → is_some (option_map f o) ≡ is_some o
+pub mapped : {A B : Type 0} (f : A → B) (o : Option A) → is_some (option_map f o) ≡ is_some o
 mapped f None = refl
 mapped f (Some x) = refl
 

@@ -2,11 +2,13 @@
 use Rattle.std.proofs.Common.{◌≡◌, ℕ, ◌+◌, Bool, true, false, cond, List, [], ◌∷◌, ◌++◌, Option, Some, None, MatchOption, length, refl, ◌∙◌, sym, ap, subst, arith}
 use Rattle.std.proofs.lemmas.Bool.{false≢true}
 use Rattle.std.proofs.lemmas.List.{append_assoc, append-nil, length-append}
+use Rattle.std.specs.Option.{is_some}
 use Rattle.command_line.specs.Places.{First, Place, may_end, part_of, step}
 use Rattle.command_line.specs.Faults.{fault_at, fault_in}
-use Rattle.command_line.specs.FirstFaults.{Begins, FaultsAreFirst, IsFirstFault, NameCommand}
+use Rattle.command_line.specs.FirstFaults.{Begins, FaultsAreFirst, IsFirstFault, NameCommand, may_stand}
 use Rattle.command_line.proofs.AskedLemmas.{command_passes, passing_names}
 use Rattle.command_line.proofs.PassLemmas.{completes, completion, passes}
+use Rattle.command_line.proofs.StandLemmas.{Ends, GoesOn, IsBad, stands}
 use Rattle.command_line.specs.declared.part.CommandPart.{CommandPart}
 use Rattle.command_line.specs.declared.part.CommandPart.TheVariants.{Command}
 
@@ -29,6 +31,15 @@ goes_wrong before word place lead none b =
     let ends = command_passes ((before ++ word ∷ []) ++ b.more) b.name in
     false≢true (sym (ap (passes (Some First)) again ∙ (lead (word ∷ b.more) ∙ ap (λ s. passes s b.more) none)) ∙ ends)
 
+-- a command goes on with what may stand at a place only
+goes_on : (before : List (List ℕ)) (place : Place) → LeadTo before place → IsBad place → (word : List ℕ) → Begins (before ++ word ∷ [])
+    → may_stand (part_of place) word ≡ true
+goes_on before place lead bad word b = by (step place word) refl
+  where
+    by : (o : Option Place) → step place word ≡ o → may_stand (part_of place) word ≡ true
+    by None e = absurd (goes_wrong before word place lead e b)
+    by (Some next) e = stands place bad word (ap is_some e)
+
 lead_further : (before : List (List ℕ)) (word : List ℕ) (place next : Place) → LeadTo before place
     → step place word ≡ Some next → LeadTo (before ++ word ∷ []) next
 lead_further before word place next lead e more =
@@ -49,6 +60,7 @@ found [] before all n place last is count lead = by (may_end place) refl
       counted = ap (λ k. k + 1) count;
       begins = begins before place lead;
       wrong = λ w. false≢true (sym (lead [] ∙ e) ∙ (ap (passes (Some First)) (append-nil before) ∙ command_passes before w));
+      others = goes_on before place lead (Ends e);
     }
 found (word ∷ words) before all n place last is count lead =
     by (λ next e. found words (before ++ word ∷ []) all (n + 1) next (part_of place) (is ∙ sym (append_assoc before (word ∷ []) words)) further (lead_further before word place next lead e)) (step place word) refl
@@ -66,6 +78,7 @@ found (word ∷ words) before all n place last is count lead =
       counted = ap (λ k. k + 1) count;
       begins = begins before place lead;
       wrong = goes_wrong before word place lead e;
+      others = goes_on before place lead (GoesOn word (ap is_some e));
     }
     by others (Some next) e = others next e
 

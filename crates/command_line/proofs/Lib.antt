@@ -1,4 +1,5 @@
 mod WordLemmas
 mod PassLemmas
 mod AskedLemmas
+mod StandLemmas
 mod FirstFaultLemmas
