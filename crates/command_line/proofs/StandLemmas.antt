@@ -1,14 +1,15 @@
 -- Only what may stand at a place leads on from it.
-use Rattle.std.proofs.Common.{◌≡◌, ℕ, Bool, true, false, cond, ◌&&◌, List, Option, Some, None, refl, ◌∙◌, sym}
+use Rattle.std.proofs.Common.{◌≡◌, ℕ, Bool, true, false, cond, ◌&&◌, List, Option, Some, None, codes, refl, ◌∙◌, sym}
 use Rattle.std.proofs.lemmas.Bool.{false≢true}
 use Rattle.std.specs.List.{list_all}
 use Rattle.std.specs.Option.{is_some, option_and_then}
 use Rattle.cal_types.specs.Bag.{Bag}
 use Rattle.word_values.specs.Numbers.{int_of}
 use Rattle.request_lines.specs.Bags.{Field, field_read, is_word_byte, no_fields, with_field, with_whole_word}
+use Rattle.request_lines.specs.Words.{is_text}
 use Rattle.command_line.specs.FirstFaults.{may_stand}
 use Rattle.command_line.specs.Forms.{form_of, is_argument}
-use Rattle.command_line.specs.Places.{First, Before, InFields, AtStart, BehindStart, BehindField, AtEnd, Place, behind_field, behind_start, form_place, may_end, part_of, place_of, step}
+use Rattle.command_line.specs.Places.{First, Before, InFields, AtStart, BehindStart, BehindField, AtHolidays, AtEnd, Place, behind_field, behind_start, form_place, may_end, part_of, place_of, step}
 use Rattle.command_line.proofs.AskedLemmas.{mapped}
 
 -- a command line can't end at a place, or can't go on with a word
@@ -46,4 +47,5 @@ stands (BehindStart start) (GoesOn other f) word e =
 stands (BehindField bag last) (Ends f) word e = absurd (false≢true (sym f))
 stands (BehindField bag last) (GoesOn other f) word e =
     absurd (false≢true (sym f ∙ (mapped (behind_field other) (with_whole_word bag last) ∙ (sym (mapped (behind_field word) (with_whole_word bag last)) ∙ e))))
+stands AtHolidays bad word e = an_argument (is_text word (codes "holidays")) AtEnd e
 stands AtEnd bad word e = absurd (false≢true e)

@@ -1,14 +1,15 @@
 -- A first fault, by what command lines name alone.
-use Rattle.std.specs.Prelude.{◌≡◌, ℕ, ◌+◌, Bool, true, false, ◌&&◌, List, [], ◌∷◌, ◌++◌, Some, length, MatchOption}
+use Rattle.std.specs.Prelude.{◌≡◌, ℕ, ◌+◌, Bool, true, false, ◌&&◌, List, [], ◌∷◌, ◌++◌, Some, length, MatchOption, codes}
 use Rattle.std.specs.List.{list_all}
 use Rattle.std.specs.Option.{is_some}
 use Rattle.request_lines.specs.Bags.{field_read, is_word_byte}
+use Rattle.request_lines.specs.Words.{is_text}
 use Rattle.command_line.specs.Command.{Asked, command_of}
 use Rattle.command_line.specs.Faults.{first_fault}
 use Rattle.command_line.specs.Forms.{form_of, is_argument}
 use Rattle.command_line.specs.declared.faults.CommandFault.{CommandFault}
 use Rattle.command_line.specs.declared.part.CommandPart.{CommandPart}
-use Rattle.command_line.specs.declared.part.CommandPart.TheVariants.{Command, Argument, Field, StartOrRule, BehindRule, End}
+use Rattle.command_line.specs.declared.part.CommandPart.TheVariants.{Command, Argument, Field, StartOrRule, BehindRule, Holidays, End}
 
 -- the words name a command
 abbrev pub NameCommand : List (List ℕ) → Type 0
@@ -31,6 +32,7 @@ may_stand (Argument argument) word = is_argument argument word
 may_stand Field word = list_all is_word_byte word && is_some (field_read word)
 may_stand StartOrRule word = true
 may_stand BehindRule word = false
+may_stand Holidays word = is_text word (codes "holidays")
 may_stand End word = false
 
 -- the fault is at the first word with which no command goes on, and a command goes on with such words only
