@@ -1,7 +1,7 @@
 -- Words that days and years pass through, and sums of days, months and years over plain numbers.
 use Rattle.std.proofs.Common.{◌≡◌, ◌↔◌, IsTrue, Bool, true, false, FitsSigned, ℕ, ◌+◌, ◌-◌, ◌*◌, ◌<◌, ◌≤◌, ℤ, pos, neg_ℤ, ◌+ℤ◌, ◌-ℤ◌, ◌≤ℤ◌, ◌<ℤ◌, int_le, int_lt, sym, subst, ◌∙◌, to_z, of_z, w32, w64, arith}
 use mathlib.Core.Bool.{true≢false}
-use Rattle.cal_days.specs.Day.{IsBetween, IsFieldYear, IsValidDay, is_valid_day}
+use Rattle.cal_days.specs.Day.{IsBetween, IsFieldYear, IsHeld, IsValidDay, is_valid_day}
 use Rattle.cal_days.specs.Sums.{years_up}
 use Rattle.cal_days.proofs.RangeLemmas.{is_between-true}
 use Rattle.cal_days.proofs.Signed.{by_bool, signed, signed_casts}
@@ -476,3 +476,42 @@ walk-back low first next days from joins = omega (arith, signed, from, joins)
 pub before-month : (l last first : ℤ) → l ≡ last → IsValidDay last → IsBetween (neg_ℤ (pos 1000000000)) (pos 1000000000) first →
     int_lt (to_z w64 (of_z w64 (to_z w64 (of_z w64 l) +ℤ pos 1))) (to_z w64 (of_z w64 first)) ≡ true → (last +ℤ pos 1) <ℤ first
 before-month l last first is valid near test = omega (arith, signed, is, valid.0, valid.1, near.0, near.1, test)
+
+-- ---- days that are held
+
+-- the ends of a span
+pub held-from : (from to : ℤ) → neg_ℤ (pos 365252000) ≤ℤ from → from ≤ℤ to → to ≤ℤ pos 365252000 → IsHeld (to_z w64 (of_z w64 from))
+held-from from to low order high = subst IsHeld (sym (span-from from to low order high)) (omega (arith, signed, low), omega (arith, signed, order, high))
+
+pub held-to : (from to : ℤ) → neg_ℤ (pos 365252000) ≤ℤ from → from ≤ℤ to → to ≤ℤ pos 365252000 → IsHeld (to_z w64 (of_z w64 to))
+held-to from to low order high = subst IsHeld (sym (span-to from to low order high)) (omega (arith, signed, low, order), omega (arith, signed, high))
+
+-- the day before a month, and the one behind the day that follows it
+pub held-before : (first : ℤ) → IsBetween (neg_ℤ (pos 1000000000)) (pos 1000000000) first → IsHeld (to_z w64 (of_z w64 (to_z w64 (of_z w64 first) -ℤ pos 1)))
+held-before first near = subst IsHeld (sym (before-word first near)) (omega (arith, signed, near.0), omega (arith, signed, near.1))
+
+pub held-behind : (e first : ℤ) (days : ℕ) → e ≡ first +ℤ pos days → IsBetween (neg_ℤ (pos 1000000000)) (pos 1000000000) first →
+    days ≤ 403 → IsHeld (to_z w64 (of_z w64 (to_z w64 (of_z w64 e) +ℤ pos 1)))
+held-behind e first days is near short =
+    subst IsHeld (sym (end-next-word e first days is near short)) (omega (arith, signed, near.0), omega (arith, signed, near.1, short))
+
+-- ---- blocks of weeks
+
+pub block-near : (from w day last : ℤ) (n : ℕ) → from ≡ w +ℤ pos n → day <ℤ (w +ℤ pos 7) → IsValidDay day → from ≤ℤ last → IsValidDay last →
+    IsBetween (neg_ℤ (pos 365250000)) (pos 365250000) from
+block-near from w day last n is week valid early last_valid = (omega (arith, signed, is, week, valid.0), omega (arith, signed, early, last_valid.1))
+
+-- ---- months on a walk
+
+-- up to the end of a year near the valid days
+pub within-near : (look first : ℤ) (days : ℕ) → first ≤ℤ look → look <ℤ (first +ℤ pos days) → days ≤ 403 →
+    IsBetween (neg_ℤ (pos 365250000)) (pos 365250000) first → IsBetween (neg_ℤ (pos 365252499)) (pos 365252134) look
+within-near look first days low high short h = (omega (arith, signed, low, h.0), omega (arith, signed, high, short, h.1))
+
+-- up to the end of a span
+pub before-near-end : (first to : ℤ) (days : ℕ) → neg_ℤ (pos 365252499) ≤ℤ first → (first +ℤ pos days) <ℤ to → to ≤ℤ pos 365252000 →
+    IsBetween (neg_ℤ (pos 365252499)) (pos 365252134) first
+before-near-end first to days low before high = (low, omega (arith, signed, before, high))
+
+pub block-few : (block : ℕ) → block < 200000000 → block < 4294967295
+block-few block few = omega (arith, few)

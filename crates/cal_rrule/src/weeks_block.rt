@@ -1,7 +1,7 @@
 //! The days that YEARLY keeps by weeks of years, if BYWEEKNO is there.
 
 ghost use Rattle.std.specs.Prelude.{◌≡◌, ◌↔◌, ◌<◌, ◌*◌, IfSome, IsTrue, MatchOption, ℤ, neg_ℤ, negsuc, pos};
-ghost use Rattle.std.specs.Prelude.{◌+ℤ◌, ◌-ℤ◌, ◌≤ℤ◌, ◌<ℤ◌};
+ghost use Rattle.std.specs.Prelude.{◌+ℤ◌, ◌≤ℤ◌, ◌<ℤ◌};
 ghost use Rattle.cal_days.specs.Day.{IsBetween, IsFieldYear, IsValidDay};
 ghost use Rattle.cal_types.specs.CalendarList.{CalendarList, Date, IsLawful, start_of_year};
 ghost use Rattle.cal_rule.specs.declared.frequency.Frequency.TheVariants.{Yearly};

@@ -54,3 +54,13 @@ month_after-requires-clause-nearby g c = c.requires.nearby
 
 pub month_before-requires-clause-nearby : goal.month_before-requires-clause-nearby
 month_before-requires-clause-nearby g c = c.requires.nearby
+
+pub returns-in-Backward-clause-first : goal.returns-in-Backward-clause-first
+returns-in-Backward-clause-first g c =
+    c.add_weekdays_of_month-in-Backward.ensures.first ∙ c.add_weekdays_of_month.ensures.first ∙ c.new-days.ensures.first ∙ c.new.ensures
+    ∙ before-word c.args.look.now.first c.args.look.now.near
+
+pub returns-in-Forward-clause-first : goal.returns-in-Forward-clause-first
+returns-in-Forward-clause-first g c =
+    c.add_weekdays_of_month-in-Forward.ensures.first ∙ c.add_weekdays_of_month.ensures.first ∙ c.new-days.ensures.first ∙ c.new.ensures
+    ∙ before-word c.args.look.now.first c.args.look.now.near

@@ -1,4 +1,4 @@
-use Rattle.std.proofs.Common.{◌≡◌, ◌∙◌, ◌⊎◌, ℤ, ◌≤ℤ◌, ◌<ℤ◌, refl, subst, to_z, of_z, w64}
+use Rattle.std.proofs.Common.{◌≡◌, ◌∙◌, ◌⊎◌, ℤ, ◌≤ℤ◌, ◌<ℤ◌, refl, subst, to_z, of_z, w64, subst₂}
 use Rattle.cal_types.specs.MonthParts.{month_parts}
 use Rattle.cal_rrule.specs.Looks.{look_stretch}
 use Rattle.cal_rrule.specs.Stretches.{InStretch}
@@ -7,7 +7,7 @@ use Rattle.cal_rrule.proofs.LookLemmas.{some}
 use Rattle.cal_rrule.proofs.MaskLemmas.{adds-as, adds-none, adds-then}
 use Rattle.cal_rrule.proofs.MonthDayLemmas.{marks-added}
 use Rattle.cal_rrule.proofs.NamedMonthLemmas.{before-all, before-next, before-none, look-in_year, look-starts}
-use Rattle.cal_rrule.proofs.WordLemmas.{begins-past, begins-within, less-left, lt-holds, near-word, same-least, span-from, walk-on}
+use Rattle.cal_rrule.proofs.WordLemmas.{begins-past, begins-within, end-word, less-left, lt-holds, near-word, same-least, span-from, walk-on, within-near}
 use Rattle.cal_rrule.proofs.named_months.days_in_months.Goals as goal
 
 pub months-init : goal.months-init
@@ -87,3 +87,11 @@ returns g c =
     (adds-as c.new-days.result c.months.days (IsNamedBefore list a.rule start a.day_of_month year.year look.first)
     (IsOfYearMonths list a.rule start a.day_of_month year.year) inv.2
     (before-all list law a.rule start a.day_of_month year.year a.missing c.requires.missing look.first past)) span.few
+
+pub month_after-next-requires-clause-near : goal.month_after-next-requires-clause-near
+month_after-next-requires-clause-near g c =
+    let year = c.args.year.now in
+    let look = c.months.look in
+    let before = subst₂ (λ (a b : ℤ). a <ℤ b) (near-word look.first look.near)
+    (end-word c.end-end.result year.first year.days c.end-end.ensures year.near year.short) (lt-holds _ _ c.months-test.true) in
+    within-near look.first year.first year.days c.months.invariant.1 before year.short c.requires.near

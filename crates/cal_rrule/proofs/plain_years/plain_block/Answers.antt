@@ -1,13 +1,13 @@
-use Rattle.std.proofs.Common.{◌≡◌, ◌∙◌, ◌↔◌, ℕ, ◌*◌, ℤ, pos, ◌+ℤ◌, IsTrue, length, FitsSigned, w32, to_z, of_z, rules, sym, ap, subst, arith}
+use Rattle.std.proofs.Common.{◌≡◌, ◌∙◌, ◌↔◌, ℕ, ◌*◌, ℤ, pos, ◌+ℤ◌, IsTrue, length, rules, sym, ap, subst}
 use Rattle.cal_anniversary.specs.YearlyDays.{IsOfYear}
 use Rattle.cal_days.specs.Day.{IsValidDay}
-use Rattle.cal_days.proofs.Signed.{signed}
 use Rattle.cal_types.specs.CalendarList.{month_at}
 use Rattle.cal_types.specs.declared.leaping.Leaping.TheVariants.{Exact}
 use Rattle.cal_rule.specs.declared.frequency.Frequency.{Frequency}
 use Rattle.cal_rrule.specs.Blocks.{IsOfBlocks, start_of}
 use Rattle.cal_rrule.proofs.PlainYearLemmas.{alone-day, plain-kept}
 use Rattle.cal_rrule.proofs.YearlyLemmas.{few-periods}
+use Rattle.cal_rrule.proofs.WordLemmas.{field-back, field-most, field-word}
 use Rattle.cal_rrule.proofs.plain_years.plain_block.Goals as goal
 use Rattle.recurrence_sets.specs.PeriodBits.{has_day}
 
@@ -21,8 +21,7 @@ returns-clause-days g c = λ n valid.
     let years = c.years_between.ensures ∙ ap (λ (e : ℕ). c.args.block * e) c.interval.ensures in
     let at = c.in_ok-year.ensures.0 ∙ ap (λ (k : ℕ). t.year +ℤ pos k) years in
     let year = c.in_ok-year.year in
-    let fits : FitsSigned w32 year = search rules in
-    let same : to_z w32 (of_z w32 year) ≡ year = omega (arith, signed) in
+    let same = field-word year c.in_ok-year.ensures.1 in
     let of = subst (λ (y : ℤ). IsOfYear list Exact (month_at list t.year t.month) t.day y c.in_ok-day.day) same
     c.in_ok-day.ensures in
     let kept = plain-kept list law a.rule (c.is_plain.ensures is) t c.requires.yearly c.args.block year
@@ -42,4 +41,7 @@ returns-clause-few g c =
     let valid = subst IsValidDay asked.on_day asked.is_valid in
     let least = g.met.C.Calendar.ranged c.args.calendar.now t (record { date = asked.is_date; valid = valid }) in
     few-periods c.args.block a.rule.interval c.years_between.result t.year c.in_ok-year.year a.rule.every years
-    c.in_ok-year.ensures.0 least (omega (arith, signed, c.in_ok-year.ensures.1))
+    c.in_ok-year.ensures.0 least (field-most c.in_ok-year.year c.in_ok-year.ensures.1)
+
+pub day_in_year-requires-clause-year : goal.day_in_year-requires-clause-year
+day_in_year-requires-clause-year g c = field-back c.in_ok-year.year c.in_ok-year.ensures.1

@@ -4,7 +4,7 @@ use Rattle.cal_rrule.specs.Periods.{IsOfMonths}
 use Rattle.cal_rrule.specs.Stretches.{end_of}
 use Rattle.cal_rrule.proofs.LookLemmas.{some}
 use Rattle.cal_rrule.proofs.WalkLemmas.{walk-first, walk-marks, walk-next}
-use Rattle.cal_rrule.proofs.WordLemmas.{end-word, month-short, less-left, lt-fails, lt-holds, span-from, span-to, walk-low, walk-on}
+use Rattle.cal_rrule.proofs.WordLemmas.{before-near-end, end-word, less-left, lt-fails, lt-holds, month-short, span-from, span-to, walk-low, walk-on}
 use Rattle.cal_rrule.proofs.span_masks.days_of_months.Goals as goal
 
 pub months-init : goal.months-init
@@ -64,3 +64,11 @@ returns g c =
     let inv = c.months.invariant in
     let past = subst₂ (λ (a b : ℤ). a ≤ℤ b) (span-to span.from span.to span.low span.order span.high) inv.1 (lt-fails _ _ c.months-test.false) in
     walk-marks c.months.days span.from (end_of (look_stretch c.months.look)) span.to (IsOfMonths list c.args.asked.now.rule) inv.3 past span.few
+
+pub month_after-look-requires-clause-near : goal.month_after-look-requires-clause-near
+month_after-look-requires-clause-near g c =
+    let span = c.args.span.now in
+    let look = c.months.look in
+    let before = subst₂ (λ (a b : ℤ). a <ℤ b) c.months.invariant.1 (span-to span.from span.to span.low span.order span.high)
+    (lt-holds _ _ c.months-test.true) in
+    before-near-end look.first span.to look.days c.months.invariant.2 before span.high

@@ -4,7 +4,7 @@ use Rattle.cal_rrule.specs.Periods.{IsOfWeekdays}
 use Rattle.cal_rrule.specs.Stretches.{end_of}
 use Rattle.cal_rrule.proofs.NearYearLemmas.{some-days}
 use Rattle.cal_rrule.proofs.WalkLemmas.{walk-first, walk-marks, walk-next, weekdays-year}
-use Rattle.cal_rrule.proofs.WordLemmas.{end-word, less-left, lt-fails, lt-holds, span-from, span-to, walk-low, walk-on}
+use Rattle.cal_rrule.proofs.WordLemmas.{before-near-end, end-word, less-left, lt-fails, lt-holds, span-from, span-to, walk-low, walk-on}
 use Rattle.cal_rrule.proofs.span_masks.weekdays_by_years.Goals as goal
 
 pub years-init : goal.years-init
@@ -64,3 +64,11 @@ returns g c =
     let inv = c.years.invariant in
     let past = subst₂ (λ (a b : ℤ). a ≤ℤ b) (span-to span.from span.to span.low span.order span.high) inv.1 (lt-fails _ _ c.years-test.false) in
     walk-marks c.years.days span.from (end_of (look_year c.years.look)) span.to (IsOfWeekdays list c.args.asked.now.rule) inv.3 past span.few
+
+pub year_after-look-requires-clause-near : goal.year_after-look-requires-clause-near
+year_after-look-requires-clause-near g c =
+    let span = c.args.span.now in
+    let look = c.years.look in
+    let before = subst₂ (λ (a b : ℤ). a <ℤ b) c.years.invariant.1 (span-to span.from span.to span.low span.order span.high)
+    (lt-holds _ _ c.years-test.true) in
+    before-near-end look.first span.to look.days c.years.invariant.2 before span.high

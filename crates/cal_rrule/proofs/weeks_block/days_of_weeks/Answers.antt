@@ -4,7 +4,7 @@ use Rattle.cal_rrule.specs.Blocks.{start_of}
 use Rattle.cal_rrule.specs.Masks.{Marks}
 use Rattle.cal_rrule.specs.YearWeeks.{IsNamedAbout}
 use Rattle.cal_rrule.proofs.WeeksBlockLemmas.{weeks-named}
-use Rattle.cal_rrule.proofs.WordLemmas.{about-week, span-from, span-to, week-word, weeks-fit, weeks-low}
+use Rattle.cal_rrule.proofs.WordLemmas.{about-week, held-from, held-to, span-from, span-to, week-word, weeks-fit, weeks-low}
 use Rattle.cal_rrule.proofs.weeks_block.days_of_weeks.Goals as goal
 
 pub returns-clause-days : goal.returns-clause-days
@@ -59,3 +59,9 @@ keep_start_weekday-requires-clause-near g c =
 
 pub named_about-days-requires-clause-nearby : goal.named_about-days-requires-clause-nearby
 named_about-days-requires-clause-nearby g c = c.requires.nearby
+
+pub new-requires : goal.new-requires
+new-requires g c = let span = c.span_of_weeks-span.result in held-from span.from span.to span.low span.order span.high
+
+pub new-requires-2 : goal.new-requires-2
+new-requires-2 g c = let span = c.span_of_weeks-span.result in held-to span.from span.to span.low span.order span.high

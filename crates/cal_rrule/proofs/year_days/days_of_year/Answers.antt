@@ -1,6 +1,6 @@
 use Rattle.std.proofs.Common.{◌≡◌, ◌∙◌, sym}
 use Rattle.cal_rrule.specs.Periods.{IsNamedInYear}
-use Rattle.cal_rrule.proofs.WordLemmas.{named-high, named-low, span-from, span-to}
+use Rattle.cal_rrule.proofs.WordLemmas.{held-from, held-to, named-high, named-low, span-from, span-to}
 use Rattle.cal_rrule.proofs.YearDayLemmas.{kept-all, kept-row, named-within}
 use Rattle.cal_rrule.proofs.year_days.days_of_year.Goals as goal
 
@@ -40,3 +40,9 @@ returns-clause-within g c = λ t is.
 pub returns-clause-row : goal.returns-clause-row
 returns-clause-row g c = λ n has.
     rw (sym c.keep_days.ensures.first) at (c.keep_days.ensures.row n has)
+
+pub new-requires : goal.new-requires
+new-requires g c = let span = c.span_of_year-span.result in held-from span.from span.to span.low span.order span.high
+
+pub new-requires-2 : goal.new-requires-2
+new-requires-2 g c = let span = c.span_of_year-span.result in held-to span.from span.to span.low span.order span.high
