@@ -4,7 +4,7 @@ ghost use Rattle.command_line.specs.Asked.{AnniversaryAsked, HolidaysAsked, Recu
 ghost use Rattle.command_line.specs.ConvertAsked.{ConvertAsked};
 ghost use Rattle.calspan_run.specs.Laws.{AnniversariesAreMeant, HolidaysAreMeant, OccurrencesAreMeant, EveryInputHas, IsUnique, PrefixesHavePrefixes, EveryNumberHasOneLine, EndsAsConvert, EndsAsHolidays, EndsAsList};
 ghost use Rattle.calspan_run.specs.ListTexts.{ListsAnniversaries, ListsOccurrences};
-ghost use Rattle.calspan_run.specs.Rules.{holiday_rules, list_rules};
+ghost use Rattle.calspan_run.specs.Rules.{holiday_rules, list_rules, record_rules};
 ghost use Rattle.calspan_run.specs.Streaming.{convert_rules};
 
 /// Every input of `span`, and every part of an input that has come, has a text and a status.
@@ -55,6 +55,12 @@ pub fn occurrences_are_meant()
 pub fn holidays_have_one_text()
     ensures exists { (asked : HolidaysAsked) → EveryInputHas (holiday_rules asked).Says }
     ensures unique { (asked : HolidaysAsked) → IsUnique (holiday_rules asked).Says }
+{}
+
+/// Every input has exactly one text and one status with `explain holidays`.
+pub fn explained_records_have_one_text()
+    ensures exists { EveryInputHas record_rules.Says }
+    ensures unique { IsUnique record_rules.Says }
 {}
 
 /// The list of `holidays` has exactly the days of its window that a rule of the book names, for each rule once and in
