@@ -2,8 +2,9 @@
 use Rattle.std.specs.Prelude.{ℕ, Option, Some, None, Result, Ok, Err}
 use Rattle.cal_kinds.specs.declared.any_calendar_kind.AnyCalendarKind.{AnyCalendarKind}
 use Rattle.cal_types.specs.CalendarSystem.{CalendarSystem}
-use Rattle.cal_tables.specs.Kinds.{TableContents, kind_system, table_contents}
+use Rattle.cal_tables.specs.Kinds.{TableContents, kind_system}
 use Rattle.date_calls.specs.Codes.{contents_of_code, kind_of_code}
+use Rattle.date_calls.specs.Sources.{source_contents}
 use Rattle.date_calls.specs.declared.calendars.Chosen.{Chosen}
 
 -- the calendar of a kind over tables, where there are both; otherwise the code of the fault
@@ -21,7 +22,7 @@ calendar_of calendar years = system_of (kind_of_code calendar) (contents_of_code
 
 -- the calendar that was chosen
 abbrev pub choice_system : Chosen → CalendarSystem
-choice_system c = kind_system (table_contents c.tables) c.kind
+choice_system c = kind_system (source_contents c.source) c.kind
 
 abbrev pub chosen_system : Result Chosen ℕ → Result CalendarSystem ℕ
 chosen_system (Ok c) = Ok (choice_system c)

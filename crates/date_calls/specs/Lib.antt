@@ -1,4 +1,5 @@
 pub mod Codes
+pub mod Sources
 pub mod Calendars
 pub mod Dates
 pub mod Fields

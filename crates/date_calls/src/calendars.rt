@@ -3,19 +3,20 @@
 ghost use Rattle.std.specs.Prelude.{◌≡◌, ⊤};
 ghost use Rattle.date_calls.specs.Calendars.{calendar_of, choice_system, chosen_system};
 
-use crate::codes::{kind_of, tables_of};
+use crate::codes::kind_of;
+use crate::kinds::run_in_kind;
 use crate::outcomes::{UNKNOWN_CALENDAR, UNKNOWN_YEARS};
 use crate::questions::Question;
+use crate::sources::{YearSource, source_of};
 use cal_base::Calendar;
 use cal_kinds::AnyCalendarKind;
-use cal_tables::Tables;
-use kind_calls::{CalendarTask, run_in_kind};
+use kind_calls::CalendarTask;
 
-/// A kind of calendar, and the tables that its calendar uses.
+/// A kind of calendar, and the source of its years.
 #[derive(Clone, Copy)]
 pub(crate) struct Chosen {
     pub(crate) kind: AnyCalendarKind,
-    pub(crate) tables: Tables<'static>,
+    pub(crate) source: YearSource,
 }
 
 /// Returns the calendar for the codes of a kind and of a source of years, or the code of the error.
@@ -25,10 +26,10 @@ pub(crate) fn choose(calendar: u8, years: u8) -> Result<Chosen, u8>
     let Some(kind) = kind_of(calendar) else {
         return Err(UNKNOWN_CALENDAR);
     };
-    let Some(tables) = tables_of(years) else {
+    let Some(source) = source_of(years) else {
         return Err(UNKNOWN_YEARS);
     };
-    Ok(Chosen { kind, tables })
+    Ok(Chosen { kind, source })
 }
 
 /// A question as a task, which fills in nothing.
@@ -49,9 +50,17 @@ impl<'q, Q: Question> CalendarTask<()> for Asking<'q, Q> {
     }
 }
 
+/// Runs a task in the chosen calendar.
+pub(crate) fn run<P, T: CalendarTask<P>>(task: &T, parts: &mut P, chosen: &Chosen) -> T::Answer
+    requires { T.asks task.now (choice_system chosen.now) parts.old }
+    ensures { T.done task.now (choice_system chosen.now) parts.old parts.new result }
+{
+    run_in_kind(task, parts, chosen.kind, chosen.source)
+}
+
 /// Asks the chosen calendar.
 pub(crate) fn ask<Q: Question>(question: &Q, chosen: &Chosen) -> Q::Answer
     ensures { Q.answers question.now (choice_system chosen.now) result }
 {
-    run_in_kind(&Asking { question }, &mut (), chosen.kind, &chosen.tables)
+    run(&Asking { question }, &mut (), chosen)
 }

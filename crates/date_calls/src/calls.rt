@@ -2,36 +2,29 @@
 
 ghost use Rattle.std.specs.Prelude.{◌≡◌, MatchResult};
 ghost use Rattle.cal_types.specs.Bag.{bag_of};
-ghost use Rattle.cal_types.specs.Adding.{add_overflow_of};
 ghost use Rattle.date_calls.specs.Calendars.{calendar_of, choice_system};
-ghost use Rattle.date_calls.specs.Calls.{AddsIn, AddsTo, DiffersIn, IsLeft, IsLeftWith, NamesDate, NamesIn, ShowsDay, ShowsEra};
+ghost use Rattle.date_calls.specs.Calls.{AddsIn, DiffersIn, IsLeft, IsLeftWith, NamesIn, ShowsDay, ShowsEra};
 ghost use Rattle.date_calls.specs.Codes.{overflow_of_code, strategy_of_code, unit_of_code};
 ghost use Rattle.date_calls.specs.Durations.{duration_given};
 ghost use Rattle.date_calls.specs.Fields.{bag_given};
 
-use crate::calendars::{Chosen, ask, choose};
+use crate::calendars::{Chosen, ask, choose, run};
 use crate::codes::{overflow_of, strategy_of, unit_of};
-use crate::dates::{CalendarDate, OfDay};
+use crate::dates::CalendarDate;
 use crate::days::ValidDay;
-use crate::durations::{CalendarDuration, Difference, Sum, duration_of, told};
+use crate::durations::{CalendarDuration, duration_of};
 use crate::eras::EraOf;
-use crate::fields::{CalendarFields, OfFields, fields_of};
-use crate::outcomes::{
-    CalendarOutcome, DONE, INVALID_DAY_NUMBER, NO_ROOM, UNKNOWN_OPTION, fault_of_fields,
-    fault_of_sum,
-};
+use crate::fields::{CalendarFields, fields_of};
+use crate::outcomes::{DONE, INVALID_DAY_NUMBER, NO_ROOM, UNKNOWN_OPTION};
 use crate::rooms::put;
+use crate::single::{Adding, Comparing, Naming, Showing};
 use cal_types::{DateAddOptions, DateDifferenceOptions, DateFields, DateFromFieldsOptions};
 
 /// Converts a day number to a date of a calendar, in `date`.
 fn show_day(chosen: &Chosen, day: i64, date: &mut CalendarDate) -> u8
     ensures { ShowsDay (choice_system chosen.now) day result date.old date.new }
 {
-    let Some(day) = ValidDay::of(day) else {
-        return INVALID_DAY_NUMBER;
-    };
-    *date = ask(&OfDay { day }, chosen);
-    DONE
+    run(&Showing { day }, date, chosen)
 }
 
 /// Converts a day number to a date of a calendar, in `date`.
@@ -57,36 +50,7 @@ pub fn date_of_day(calendar: u8, years: u8, day: i64, date: &mut CalendarDate) -
     }
 }
 
-/// Returns the code of a fault, and stores its greatest valid number in `max`.
-fn refuse(fault: CalendarOutcome, max: &mut u8) -> u8
-    ensures code { result ≡ fault.code }
-    ensures max { max.new ≡ fault.max }
-{
-    *max = fault.max;
-    fault.code
-}
-
-/// Creates a date of a calendar from fields, in `date`.
-fn name_date(
-    chosen: &Chosen,
-    fields: DateFields<'_>,
-    options: DateFromFieldsOptions,
-    date: &mut CalendarDate,
-    max: &mut u8,
-) -> u8
-    requires { max.old ≡ 0 }
-    ensures { NamesDate (choice_system chosen.now) (bag_of fields.entry) options result max.new date.old date.new }
-{
-    match ask(&OfFields { fields, options }, chosen) {
-        Ok(found) => {
-            *date = found;
-            DONE
-        }
-        Err(cause) => refuse(fault_of_fields(cause), max),
-    }
-}
-
-/// Does the same as `name_date`, from the codes of the options.
+/// Creates a date of a calendar from fields and the codes of options, in `date`.
 fn name_with(
     chosen: &Chosen,
     fields: DateFields<'_>,
@@ -109,7 +73,10 @@ fn name_with(
         overflow,
         missing_fields_strategy,
     };
-    name_date(chosen, fields, options, date, max)
+    let task = Naming { fields, options };
+    let outcome = run(&task, date, chosen);
+    *max = outcome.max;
+    outcome.code
 }
 
 /// Creates a date from fields, in `date`.
@@ -150,22 +117,7 @@ pub fn date_of_fields(
     }
 }
 
-/// Computes the date of a sum in a calendar, in `date`.
-fn add_to(chosen: &Chosen, sum: &Sum, date: &mut CalendarDate, max: &mut u8) -> u8
-    requires { max.old ≡ 0 }
-    ensures { let overflow = add_overflow_of sum.now.options.overflow in
-        AddsTo (choice_system chosen.now) sum.now.day.day sum.now.duration overflow result max.new date.old date.new }
-{
-    match ask(sum, chosen) {
-        Ok(found) => {
-            *date = found;
-            DONE
-        }
-        Err(cause) => refuse(fault_of_sum(cause), max),
-    }
-}
-
-/// Does the same as `add_to`, from a day number and the code of the option.
+/// Adds a duration to the date of a day number in a calendar, in `date`, from the code of the option.
 fn add_in(
     chosen: &Chosen,
     day: i64,
@@ -181,15 +133,14 @@ fn add_in(
     let Some(overflow) = overflow_of(overflow) else {
         return UNKNOWN_OPTION;
     };
-    let Some(day) = ValidDay::of(day) else {
-        return INVALID_DAY_NUMBER;
-    };
-    let sum = Sum {
+    let task = Adding {
         day,
         duration: duration_of(duration),
         options: DateAddOptions { overflow },
     };
-    add_to(chosen, &sum, date, max)
+    let outcome = run(&task, date, chosen);
+    *max = outcome.max;
+    outcome.code
 }
 
 /// Adds a duration to the date of a day number, in `date`.
@@ -236,19 +187,12 @@ fn differ_in(
     let Some(largest_unit) = unit_of(unit) else {
         return UNKNOWN_OPTION;
     };
-    let Some(from) = ValidDay::of(first) else {
-        return INVALID_DAY_NUMBER;
-    };
-    let Some(to) = ValidDay::of(second) else {
-        return INVALID_DAY_NUMBER;
-    };
-    let difference = Difference {
-        from,
-        to,
+    let task = Comparing {
+        first,
+        second,
         options: DateDifferenceOptions { largest_unit },
     };
-    *duration = told(ask(&difference, chosen));
-    DONE
+    run(&task, duration, chosen)
 }
 
 /// Computes the difference between the dates of two day numbers, in `duration`: the greatest duration that doesn't lead

@@ -5,10 +5,10 @@ ghost use Rattle.cal_types.specs.CalendarSystem.{CalendarSystem};
 ghost use Rattle.date_calls.specs.Calendars.{choice_system};
 ghost use Rattle.date_calls.specs.Columns.{AtEach, Fills};
 
-use crate::calendars::Chosen;
+use crate::calendars::{Chosen, run};
 use crate::outcomes::{DONE, LENGTHS_DIFFER};
 use cal_base::Calendar;
-use kind_calls::{CalendarTask, run_in_kind};
+use kind_calls::CalendarTask;
 
 /// A call at the places of columns, in any calendar. It fills in an `O` at a place, and returns a `K`.
 pub(crate) trait ColumnCall<O, K> {
@@ -84,7 +84,7 @@ fn fill_in<O, K: Copy, Q: ColumnCall<O, K>>(
     ensures { AtEach (Q.single call.now (choice_system chosen.now)) outputs.old outputs.new codes.new }
 {
     let mut columns = Columns { outputs, codes };
-    run_in_kind(&Filling { call }, &mut columns, chosen.kind, &chosen.tables);
+    run(&Filling { call }, &mut columns, chosen);
 }
 
 /// Does a call at every place, in the chosen calendar, if both columns have as many places as the call.

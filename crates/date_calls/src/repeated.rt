@@ -7,7 +7,7 @@ ghost use Rattle.date_calls.specs.Codes.{overflow_of_code, unit_of_code};
 ghost use Rattle.date_calls.specs.Lists.{IsUnlisted};
 ghost use Rattle.date_calls.specs.Recurrences.{AreListed, ListsOccurrences, RecursIn, TellsOccurrences, missing_for, occurrence_told, occurrences_told, parts_if, rule_given, rule_parts};
 
-use crate::calendars::{Chosen, choose};
+use crate::calendars::{Chosen, choose, run};
 use crate::codes::{overflow_of, unit_of};
 use crate::days::ValidDay;
 use crate::lists::{Listed, WindowList, list_items, tell_list, window_of};
@@ -15,7 +15,7 @@ use crate::outcomes::{INVALID_DAY_NUMBER, INVALID_WINDOW, UNKNOWN_OPTION};
 use cal_base::Calendar;
 use cal_recur::{Missing, Occurrence, Recurrence, Rule, recur};
 use cal_types::{DateDurationUnit, Overflow, Window};
-use kind_calls::{CalendarTask, run_in_kind};
+use kind_calls::CalendarTask;
 
 /// An occurrence of a recurrence.
 #[repr(C)]
@@ -134,7 +134,7 @@ fn list_chosen(asked: &Repeats, chosen: &Chosen, items: &mut [CalendarOccurrence
         asked.now.window.last items.old items.new result }
 {
     let mut column = Items { items };
-    run_in_kind(asked, &mut column, chosen.kind, &chosen.tables)
+    run(asked, &mut column, chosen)
 }
 
 /// Lists occurrences, and stores how many were written and where the list goes on.

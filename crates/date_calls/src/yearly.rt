@@ -9,7 +9,7 @@ ghost use Rattle.date_calls.specs.Fields.{month_of};
 ghost use Rattle.date_calls.specs.Lists.{AnswersList, IsUnlisted, ListsUnless};
 ghost use Rattle.date_calls.specs.Yearly.{ListsYearly, anniversary_code, leaping_for, yearly_fault};
 
-use crate::calendars::{Chosen, choose};
+use crate::calendars::{Chosen, choose, run};
 use crate::codes::overflow_of;
 use crate::fields::month_of;
 use crate::lists::{Listed, WindowList, list_items, tell_list, window_of};
@@ -17,7 +17,7 @@ use crate::outcomes::{INVALID_WINDOW, UNKNOWN_OPTION};
 use cal_anniversary::{Anniversaries, AnniversaryError};
 use cal_base::Calendar;
 use cal_types::{Leaping, Month, Overflow, Window};
-use kind_calls::{CalendarTask, run_in_kind};
+use kind_calls::CalendarTask;
 
 /// Returns how years that lack the month or the day are handled.
 fn leaping_for(overflow: Option<Overflow>) -> Leaping
@@ -116,7 +116,7 @@ fn list_chosen(asked: &YearlyDays, chosen: &Chosen, days: &mut [i64]) -> Result<
         asked.now.window.first asked.now.window.last days.old days.new result }
 {
     let mut column = Days { days };
-    run_in_kind(asked, &mut column, chosen.kind, &chosen.tables)
+    run(asked, &mut column, chosen)
 }
 
 /// Lists the anniversaries of a month and a day, and stores how many were written and where the list goes on.
