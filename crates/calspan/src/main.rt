@@ -14,13 +14,22 @@ use line_counts::CountedSource;
 use std::env::Env;
 use std::process::ExitCode;
 use std::{env, io};
-use usage::{is_limited, told, why, written};
+use usage::{answers_lines, told, why, written};
 
 /// Returns the first word of the command line. It is empty if there is none, or if it has more than 16 bytes.
 fn first_word<'b>(rt: &HostRuntime, buffer: &'b mut [u8; 16]) -> &'b [u8] {
     match rt.arg(1, buffer) {
         Ok(length) => &buffer[..length],
         Err(_) => &[],
+    }
+}
+
+/// Returns whether there is one word alone, and it is a command that reads its input line by line.
+fn is_of_lines(rt: &HostRuntime, first: &[u8]) -> bool {
+    let mut second = [0; 16];
+    match rt.arg(2, &mut second) {
+        Ok(_) => false,
+        Err(_) => answers_lines(first),
     }
 }
 
@@ -32,11 +41,12 @@ fn explain(rt: &HostRuntime, code: u8, first: &[u8], lines: u64) -> io::Result<(
     }
     match why(code) {
         None => Ok(()),
-        Some(why) if code == 7 && is_limited(first) => {
+        Some(why) if code == 7 && is_of_lines(rt, first) => {
             eprintln!(rt; "calspan: {why}; the first {lines} lines were answered; see the manual")
         }
         Some(why) if code == 3 || code == 7 => {
-            eprintln!(rt; "calspan: {why}; {}; see the manual", written(first))
+            let has_answers = first == b"convert".as_slice() || is_of_lines(rt, first);
+            eprintln!(rt; "calspan: {why}; {}; see the manual", written(has_answers))
         }
         Some(why) => eprintln!(rt; "calspan: {why}; see the manual"),
     }

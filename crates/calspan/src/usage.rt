@@ -47,14 +47,14 @@ pub fn why(code: u8) -> Option<&'static str> {
     }
 }
 
-/// Returns whether a command writes about the lines among the first 16777216 bytes of a longer input.
-pub fn is_limited(first: &[u8]) -> bool {
-    first == b"span".as_slice() || first == b"explain".as_slice()
+/// Returns whether a word alone is a command that reads its input line by line.
+pub fn answers_lines(word: &[u8]) -> bool {
+    word == b"span".as_slice() || word == b"explain".as_slice()
 }
 
-/// Returns what is written of a run that ended before its input did, by the command.
-pub fn written(first: &[u8]) -> &'static str {
-    if is_limited(first) || first == b"convert".as_slice() {
+/// Returns what is written of a run that ended before its input did.
+pub fn written(has_answers: bool) -> &'static str {
+    if has_answers {
         "the answers to the lines before are written"
     } else {
         "nothing is written"
