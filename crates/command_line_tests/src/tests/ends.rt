@@ -8,6 +8,7 @@ fn whole_commands(rt: HostRuntime) {
     for &words in &[
         "span",
         "explain",
+        "explain holidays",
         "gen 100000",
         "convert iso hebrew constrain",
         "anniversary hebrew iso exact M05L 0 1 -9",
@@ -26,7 +27,8 @@ fn whole_commands(rt: HostRuntime) {
 fn words_behind_the_last(rt: HostRuntime) {
     for &(words, word, part) in &[
         ("span span", 2, CommandPart::End),
-        ("explain ", 2, CommandPart::End),
+        ("explain ", 2, CommandPart::Holidays),
+        ("explain holidays holidays", 3, CommandPart::End),
         ("gen 1 2", 3, CommandPart::End),
         ("convert iso iso reject 7 8", 5, CommandPart::End),
         ("holidays 1 9 2 3", 4, CommandPart::End),
