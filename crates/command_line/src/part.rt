@@ -32,7 +32,7 @@ pub enum CommandPart {
     Command,
     /// An argument.
     Argument(Argument),
-    /// A field with a key that isn't there yet, or no more words.
+    /// A field with a new key, or no more words.
     Field,
     /// A rule; or its start, which is a day number or fields, and behind it the rule.
     StartOrRule,

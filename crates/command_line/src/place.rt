@@ -173,7 +173,7 @@ fn after_argument<'a>(
     }
 }
 
-/// Returns fields with the field of one more word. `None` if the word is no field, or its key is there already.
+/// Returns fields with the field of one more word. `None` if the word is no field, or an earlier word has its key.
 fn with_field<'a>(fields: &DateFields<'a>, word: &'a [u8]) -> Option<DateFields<'a>>
     ensures { option_map bag_of result ≡ with_whole_word (bag_of fields.now) word.now }
 {

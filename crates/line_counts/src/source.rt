@@ -12,13 +12,14 @@ pub struct CountedSource<S> {
 
 impl<S: Source> CountedSource<S> {
     ghost use Rattle.std.specs.Prelude.{◌≡◌};
-    ghost use Rattle.line_counts.specs.LineCounts.{lines_seen};
+    ghost use Rattle.line_counts.specs.LineCounts.{bytes_left, lines_seen};
     ghost use Rattle.line_counts.specs.Counted.{counted_count, counted_inner};
 
     /// Creates a source that has read nothing of `inner`.
     pub fn new(inner: S) -> Self
         ensures inner { counted_inner result ≡ inner }
         ensures lines { lines_seen (counted_count result) ≡ 0 }
+        ensures left { bytes_left (counted_count result) ≡ 16777216 }
     {
         CountedSource {
             inner,

@@ -17,9 +17,9 @@ pub enum Expected {
     MissingFields,
     /// `from`.
     From,
-    /// `to`, or a field of the first date with a key that isn't there yet.
+    /// `to`, or a field of the first date with a new key.
     FieldOrTo,
-    /// A field of the second date with a key that isn't there yet.
+    /// A field of the second date with a new key.
     Field,
     /// The name of a table, or `era`.
     Table,

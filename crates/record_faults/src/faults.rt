@@ -19,23 +19,23 @@ pub struct RecordFault {
 }
 
 /// Returns the field at a place, counted from 0, or an empty text if the record has fewer fields.
-fn field(record: &ByteRecord, place: usize) -> &[u8]
-    ensures { result.now ≡ text_at (fields_of record.now) place }
+fn field(row: &ByteRecord, place: usize) -> &[u8]
+    ensures { result.now ≡ text_at (fields_of row.now) place }
 {
-    match record.get(place) {
+    match row.get(place) {
         Some(field) => field,
         None => b"",
     }
 }
 
 /// Returns the field of a number, counted from 1. It is empty for 0, and if the record has fewer fields.
-pub fn field_text(record: &ByteRecord, number: u8) -> &[u8]
-    ensures { result.now ≡ field_text (fields_of record.now) number }
+pub fn field_text(row: &ByteRecord, number: u8) -> &[u8]
+    ensures { result.now ≡ field_text (fields_of row.now) number }
 {
     if number == 0 {
         b""
     } else {
-        field(record, usize::from(number - 1))
+        field(row, usize::from(number - 1))
     }
 }
 
@@ -111,10 +111,10 @@ fn every_field(since: &[u8]) -> FieldExpected
 }
 
 /// Returns what may stand in a field of a record.
-fn expected_at(record: &ByteRecord, number: u8) -> FieldExpected
-    ensures { result ≡ expected_at (fields_of record.now) number }
+fn expected_at(row: &ByteRecord, number: u8) -> FieldExpected
+    ensures { result ≡ expected_at (fields_of row.now) number }
 {
-    let kind = field(record, 0);
+    let kind = field(row, 0);
     match number {
         0 => FieldExpected::Fields,
         1 => FieldExpected::Kind,
@@ -125,7 +125,7 @@ fn expected_at(record: &ByteRecord, number: u8) -> FieldExpected
         6 => last_field(kind),
         7 => FieldExpected::Year,
         8 => FieldExpected::Year,
-        9 => every_field(field(record, 6)),
+        9 => every_field(field(row, 6)),
         _ => FieldExpected::Moves,
     }
 }
@@ -144,10 +144,10 @@ fn expected_at(record: &ByteRecord, number: u8) -> FieldExpected
 ///     assert!(rt; fault.expected == FieldExpected::Day);
 /// }
 /// ```
-pub fn record_fault(record: &ByteRecord) -> Option<RecordFault>
-    ensures { result ≡ record_fault (fields_of record.now) }
+pub fn record_fault(row: &ByteRecord) -> Option<RecordFault>
+    ensures { result ≡ record_fault (fields_of row.now) }
 {
-    let field = invalid_field(record)?;
-    let expected = expected_at(record, field);
+    let field = invalid_field(row)?;
+    let expected = expected_at(row, field);
     Some(RecordFault { field, expected })
 }

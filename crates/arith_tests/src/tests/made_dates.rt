@@ -13,7 +13,7 @@ fn plain_fields(year: i32, month: Month, day: u8) -> DateFields<'static> {
     DateFields::from_year_month_day(year, month, day)
 }
 
-/// Options that say what becomes of a day that isn't there.
+/// Options for a day that doesn't exist.
 fn with_overflow(overflow: Option<Overflow>) -> DateFromFieldsOptions {
     DateFromFieldsOptions {
         overflow,

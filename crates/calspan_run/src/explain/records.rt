@@ -87,25 +87,25 @@ fn push_field(text: &mut Vec<u8>, field: &[u8]) -> Option<()>
 fn push_fault(
     text: &mut Vec<u8>,
     number: u64,
-    record: &ByteRecord,
+    row: &ByteRecord,
     fault: RecordFault,
 ) -> Option<()>
-    ensures { OnSome result (text.new.items ≡ text.old.items ++ field_line number (fields_of record.now) fault) }
+    ensures { OnSome result (text.new.items ≡ text.old.items ++ field_line number (fields_of row.now) fault) }
 {
     text.extend_from_slice(&field_place(number, fault.field))
         .ok()?;
-    push_field(text, field_text(record, fault.field))?;
+    push_field(text, field_text(row, fault.field))?;
     text.extend_from_slice(field_ending(fault.expected)).ok()
 }
 
 /// Appends the line about a record, if it is invalid, and returns whether it is. `None` if there is no memory.
-fn explain_record(text: &mut Vec<u8>, number: u64, record: &ByteRecord) -> Option<bool>
-    ensures line { OnSome result (text.new.items ≡ text.old.items ++ (record_line number (fields_of record.now)).0) }
-    ensures is_invalid { IfSome result (λ b. b ≡ (record_line number (fields_of record.now)).1) }
+fn explain_record(text: &mut Vec<u8>, number: u64, row: &ByteRecord) -> Option<bool>
+    ensures line { OnSome result (text.new.items ≡ text.old.items ++ (record_line number (fields_of row.now)).0) }
+    ensures is_invalid { IfSome result (λ b. b ≡ (record_line number (fields_of row.now)).1) }
 {
-    match record_fault(record) {
+    match record_fault(row) {
         Some(fault) => {
-            push_fault(text, number, record, fault)?;
+            push_fault(text, number, row, fault)?;
             Some(true)
         }
         None => Some(false),
