@@ -48,6 +48,7 @@ RUNS = [
     Run(2, [], None, b"", b"calspan: word 1 is missing: convert, "),
     Run(2, ["spam"], None, b"", b"calspan: word 1 spam: convert, "),
     Run(2, ["span", "span"], None, b"", b"calspan: word 2 span: no more words; nothing was read\n"),
+    Run(2, ["span", "a\nb"], None, b"", b"calspan: word 2 a\\nb: no more words; nothing was read\n"),
     Run(2, ["convert", "iso", "gregorain", "reject"], None, b"", b"calspan: word 3 gregorain: a calendar: iso, "),
     Run(2, ["convert", "iso", "roc"], None, b"", b"calspan: word 4 is missing: constrain or reject; "),
     Run(2, ["rrule", "iso", "iso", "1", "9", "day=1", "day=2", "FREQ=DAILY"], None, b"", b"calspan: word 8 FREQ=DAILY: no more words, "),

@@ -50,7 +50,8 @@ fn expected(part: CommandPart) -> &'static str {
     }
 }
 
-/// Writes the line about the first bad word. `words` begin with the program's name.
+/// Writes the line about the first bad word, in which line feeds and the like are escaped. `words` begin with the
+/// program's name.
 fn refuse(rt: &HostRuntime, words: &[String]) -> io::Result<()> {
     let behind_name = match words.split_first() {
         Some((_, behind_name)) => behind_name,
@@ -63,8 +64,9 @@ fn refuse(rt: &HostRuntime, words: &[String]) -> io::Result<()> {
     match words.get(fault.word) {
         Some(word) => {
             eprintln!(rt;
-                "calspan: word {} {word}: {what}; nothing was read",
-                fault.word
+                "calspan: word {} {}: {what}; nothing was read",
+                fault.word,
+                word.escape_debug()
             )?
         }
         None => eprintln!(rt;

@@ -4,13 +4,12 @@ ghost use Rattle.std.specs.Prelude.{◌≡◌, ⊤};
 ghost use Rattle.date_calls.specs.Calendars.{calendar_of, choice_system, chosen_system};
 
 use crate::codes::kind_of;
-use crate::kinds::run_in_kind;
 use crate::outcomes::{UNKNOWN_CALENDAR, UNKNOWN_YEARS};
 use crate::questions::Question;
 use crate::sources::{YearSource, source_of};
 use cal_base::Calendar;
 use cal_kinds::AnyCalendarKind;
-use kind_calls::CalendarTask;
+use kind_calls::{CalendarTask, run_in_kind};
 
 /// A kind of calendar, and the source of its years.
 #[derive(Clone, Copy)]
@@ -55,7 +54,7 @@ pub(crate) fn run<P, T: CalendarTask<P>>(task: &T, parts: &mut P, chosen: &Chose
     requires { T.asks task.now (choice_system chosen.now) parts.old }
     ensures { T.done task.now (choice_system chosen.now) parts.old parts.new result }
 {
-    run_in_kind(task, parts, chosen.kind, chosen.source)
+    run_in_kind(task, parts, chosen.kind, &chosen.source)
 }
 
 /// Asks the chosen calendar.

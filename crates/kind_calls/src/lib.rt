@@ -1,7 +1,8 @@
 //! Tasks in the calendar of a kind, in the calendar's own type.
 //!
 //! A [`CalendarTask`] is something to do in a calendar of any type. [`run_in_kind`] runs a task in the calendar of a kind
-//! that is chosen at run time. It branches over the kinds once, and the task is compiled for each calendar's own type.
+//! that is chosen at run time. It branches over the kinds once, and the task is compiled for each calendar's own type. The
+//! tables that some calendars use come from a [`TableSource`].
 //!
 //! ```text
 //! /// The task of counting the days of the year that contains a day.
@@ -30,7 +31,10 @@
 #![tactic(auto)]
 
 mod dispatch;
+mod sources;
+mod tabular;
 mod tasks;
 
 pub use dispatch::run_in_kind;
+pub use sources::TableSource;
 pub use tasks::CalendarTask;

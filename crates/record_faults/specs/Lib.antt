@@ -1,1 +1,2 @@
+pub mod FirstFields
 pub mod RecordFaults
