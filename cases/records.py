@@ -1,5 +1,6 @@
 #!/usr/bin/env python3
-"""Compares `calspan explain holidays` with a reference of its own, over books whose records are nearly right.
+"""Compares `calspan explain holidays`, and the refusals of `calspan holidays`, with a reference of its own, over books whose records are nearly
+right.
 
 The reference has a pattern for each field of each kind of rule, after the manual. The first field that its pattern doesn't fit is the fault.
 """
@@ -114,19 +115,33 @@ def with_names_in_order(line: str) -> str:
     return head + mark + " ".join(sorted(re.split(", | or ", names))) if mark else line
 
 
-def compare_records(books: int = 60, records: int = 50) -> str:
+def book_of(rows: list[list[str]]) -> str:
+    text = io.StringIO()
+    csv.writer(text, lineterminator="\n").writerows(rows)
+    return text.getvalue()
+
+
+def is_refused_so(fields: list[str]) -> bool:
+    """Whether `holidays` refuses a book of one record as the reference does, or takes it."""
+    fault = fault_of(fields)
+    ran = lists.run(lists.PROGRAM, [b"holidays", b"738886", b"739251"], book_of([fields]).encode())
+    return ran.stdout == b"err record 1 field %d\n" % fault[0] and ran.returncode == 1 if fault else ran.returncode == 0
+
+
+def compare_records(books: int = 60, records: int = 50, alone: int = 10) -> str:
     chance = random.Random(20261201)
     for _ in range(books):
         rows = [record(chance) for _ in range(records)]
-        text = io.StringIO()
-        csv.writer(text, lineterminator="\n").writerows(rows)
+        book = book_of(rows)
         wanted = "".join(explained(number, fields) for number, fields in enumerate(rows, 1))
-        ran = lists.run(lists.PROGRAM, [b"explain", b"holidays"], text.getvalue().encode())
+        ran = lists.run(lists.PROGRAM, [b"explain", b"holidays"], book.encode())
         got = ran.stdout.decode()
         if [*map(with_names_in_order, got.splitlines())] != [*map(with_names_in_order, wanted.splitlines())] or ran.returncode != int(bool(wanted)):
             pairs = zip([*wanted.splitlines(), None], [*got.splitlines(), None])
-            raise SystemExit(f"status {ran.returncode}: {next((it for it in pairs if it[0] != it[1]), None)} in\n{text.getvalue()}")
-    return f"{books * records} records are explained as a reference wants"
+            raise SystemExit(f"status {ran.returncode}: {next((it for it in pairs if it[0] != it[1]), None)} in\n{book}")
+        if others := [fields for fields in rows[:alone] if not is_refused_so(fields)]:
+            raise SystemExit(f"`holidays` doesn't refuse {others[0]} as the reference does")
+    return f"{books * records} records are explained as a reference wants, and {books * alone} refused so"
 
 
 def main() -> int:
