@@ -2,6 +2,7 @@
 use Rattle.std.proofs.Common.{◌≡◌, ℕ, zero, suc, ◌+◌, ◌<◌, ◌≤◌, Bool, true, false, List, [], ◌∷◌, ◌++◌, get_or, length, take, Option, Some, None, Result, Ok, Err, refl, ◌∙◌, sym, ap, subst, arith}
 use Rattle.std.proofs.lemmas.Bool.{false≢true}
 use Rattle.std.proofs.lemmas.List.{get_or_append_left, get_or-append-add, get_or-take, length-take-le}
+use Rattle.std.specs.Option.{unwrap_or}
 use Rattle.cal_holidays.specs.Records.{TenFields, and_then, by_places, field}
 
 -- the fields in a row
@@ -75,7 +76,10 @@ place_of (Ok x) = 0
 pub never : {U A : Type 0} (k : ℕ) (x : U) → Err k ≡ Ok x → A
 never k x e = absurd (false≢true (ap is_ok e))
 
-none_some : {T A : Type 0} (y : T) → None ≡ Some y → A
+pub some_is : {T : Type 0} {x y : T} → Some x ≡ Some y → x ≡ y
+some_is {x = x} e = ap (λ o. unwrap_or o x) e
+
+pub none_some : {T A : Type 0} (y : T) → None ≡ Some y → A
 none_some y e = absurd (false≢true (ap is_some e))
 
 -- nothing is wrong with what is made of no field
@@ -114,8 +118,9 @@ put_kept n s f lt i below =
 -- a field at a place, and what is read behind it: with the field at the place invalid, nothing else is read
 pub reads_field : {T U : Type 0} (n top : ℕ) (p : List ℕ → Option T) (next : T → TenFields → Result U ℕ)
     (s : List ℕ) (x : T) → p s ≡ Some x → n < 10 → n < top → (6 ≤ n → (y : T) × (p [] ≡ Some y))
-    → ((y : T) → Reads (suc n) top (next y)) → Reads n top (λ f. field (suc n) (p (at f n)) (λ y. next y f))
-reads_field {T} {U} n top p next s x good small most optional behind = record {
+    → ((t : List ℕ) (y : T) → p t ≡ Some y → Reads (suc n) top (next y))
+    → Reads n top (λ f. field (suc n) (p (at f n)) (λ y. next y f))
+reads_field {T} {U} n top p next s x good small most optional after = record {
   from = λ f k e. from f k (p (at f n)) refl e;
   to = λ f k e. to f k (p (at f n)) refl e;
   some = λ f e. some f (p (at f n)) refl e;
@@ -140,19 +145,19 @@ reads_field {T} {U} n top p next s x good small most optional behind = record {
     from f k None is e =
         let here : n ≡ k = ap place_of e in
         omega (arith, here)
-    from f k (Some y) is e = omega (arith, (behind y).from f k e)
+    from f k (Some y) is e = omega (arith, (after (at f n) y is).from f k e)
 
     to : (f : TenFields) (k : ℕ) (o : Option T) → p (at f n) ≡ o → field (suc n) o (λ y. next y f) ≡ Err (suc k) → k < top
     to f k None is e =
         let here : n ≡ k = ap place_of e in
         omega (arith, most, here)
-    to f k (Some y) is e = (behind y).to f k e
+    to f k (Some y) is e = (after (at f n) y is).to f k e
 
     some : (f : TenFields) (o : Option T) → p (at f n) ≡ o → field (suc n) o (λ y. next y f) ≡ Err 0 → ⊥
     some f None is e =
         let wrong : suc n ≡ 0 = ap number_of e in
         omega (arith, wrong)
-    some f (Some y) is e = (behind y).some f e
+    some f (Some y) is e = (after (at f n) y is).some f e
 
     invalid : (f g : TenFields) (k : ℕ) → Agree (suc k) f g → (o : Option T) → p (at f n) ≡ o
         → field (suc n) o (λ y. next y f) ≡ Err (suc k) → field (suc n) (p (at g n)) (λ y. next y g) ≡ Err (suc k)
@@ -160,27 +165,29 @@ reads_field {T} {U} n top p next s x good small most optional behind = record {
         let here : n ≡ k = ap place_of e in
         ap (λ o. field (suc n) o (λ z. next z g)) (same f g (suc k) (omega (arith, here)) a None is) ∙ e
     invalid f g k a (Some y) is e =
-        on g y (Err (suc k)) (same f g (suc k) (omega (arith, (behind y).from f k e)) a (Some y) is) ((behind y).invalid f g k e a)
+        on g y (Err (suc k)) (same f g (suc k) (omega (arith, (after (at f n) y is).from f k e)) a (Some y) is) ((after (at f n) y is).invalid f g k e a)
 
     valid : (f g : TenFields) (z : U) → Agree top f g → (o : Option T) → p (at f n) ≡ o
         → field (suc n) o (λ y. next y f) ≡ Ok z → field (suc n) (p (at g n)) (λ y. next y g) ≡ Ok z
     valid f g z a None is e = never (suc n) z e
-    valid f g z a (Some y) is e = on g y (Ok z) (same f g top most a (Some y) is) ((behind y).valid f g z e a)
+    valid f g z a (Some y) is e = on g y (Ok z) (same f g top most a (Some y) is) ((after (at f n) y is).valid f g z e a)
 
     fresh : (f : TenFields) → (g : TenFields) × Agree n f g × ((z : U) × (field (suc n) (p (at g n)) (λ y. next y g) ≡ Ok z))
     fresh f =
         let first = put n s f in
-        let (g, a, (z, ok)) = (behind x).fresh first in
-        let there : p (at first n) ≡ Some x = ap p (put_there n s f small) ∙ good in
-        (g, both n f first g (put_kept n s f small) (fewer n (suc n) first g (omega (arith)) a),
-        (z, on g x (Ok z) (same first g (suc n) (omega (arith)) a (Some x) there) ok))
+        let (g, a, (z, ok)) = (after s x good).fresh first in
+        let there : p (at first n) ≡ Some x = ap p (put_there n s f small) ∙ good in (
+          g,
+          both n f first g (put_kept n s f small) (fewer n (suc n) first g (omega (arith)) a),
+          (z, on g x (Ok z) (same first g (suc n) (omega (arith)) a (Some x) there) ok),
+        )
 
     mended : (f : TenFields) (k : ℕ) (o : Option T) → p (at f n) ≡ o → field (suc n) o (λ y. next y f) ≡ Err (suc k)
         → (g : TenFields) × Agree k f g × ((z : U) × (field (suc n) (p (at g n)) (λ y. next y g) ≡ Ok z))
     mended f k None is e = subst (λ m. (g : TenFields) × Agree m f g × ((z : U) × (field (suc n) (p (at g n)) (λ y. next y g) ≡ Ok z))) (ap place_of e) (fresh f)
     mended f k (Some y) is e =
-        let (g, a, (z, ok)) = (behind y).mended f k e in
-        (g, a, (z, on g y (Ok z) (same f g k (omega (arith, (behind y).from f k e)) a (Some y) is) ok))
+        let (g, a, (z, ok)) = (after (at f n) y is).mended f k e in
+        (g, a, (z, on g y (Ok z) (same f g k (omega (arith, (after (at f n) y is).from f k e)) a (Some y) is) ok))
 
     filled : (f : TenFields) (k : ℕ) → 6 ≤ k → at f k ≡ [] → (o : Option T) → p (at f n) ≡ o
         → field (suc n) o (λ y. next y f) ≡ Err (suc k) → ⊥
@@ -188,7 +195,7 @@ reads_field {T} {U} n top p next s x good small most optional behind = record {
         let here : n ≡ k = ap place_of e in
         let (y, there) = optional (omega (arith, here, le)) in
         none_some y (sym is ∙ (ap (λ i. p (at f i)) here ∙ (ap p empty ∙ there)))
-    filled f k le empty (Some y) is e = (behind y).filled f k e le empty
+    filled f k le empty (Some y) is e = (after (at f n) y is).filled f k e le empty
 
 -- two readings, one behind the other
 pub reads_then : {T U : Type 0} (low mid top : ℕ) (first : TenFields → Result T ℕ) (next : T → TenFields → Result U ℕ)
