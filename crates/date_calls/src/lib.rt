@@ -2,13 +2,15 @@
 //! of years and months, eras, weeks and Easter.
 //!
 //! A calendar is a code, a date is a day number (rata die), and the parts of a date come in a plain struct. The calls
-//! keep nothing between them and take no memory. They check every argument and return a code; 0 means success. The
-//! crates `icu_calendar_c` and `icu_calendar_wasm` export them. Start with [`date_of_day`] and [`date_of_fields`].
+//! keep nothing between them and, except those on books of holidays, take no memory. They check every argument and return
+//! a code; 0 means success. The crates `icu_calendar_c` and `icu_calendar_wasm` export them. Start with [`date_of_day`]
+//! and [`date_of_fields`].
 //!
 //! Calls on columns, such as [`dates_of_days`], choose the calendar once and do a call on one date at every place. Every
 //! place has a code of its own, so an invalid date changes no other.
 //!
-//! Calls that list days, such as [`anniversaries`], fill a caller's column and say from which day the list goes on.
+//! Calls that list days, such as [`anniversaries`], fill a caller's column and say from which day the list goes on;
+//! [`holidays`] says from which rule, too.
 #![tactic(auto)]
 
 mod calendars;
@@ -22,6 +24,7 @@ mod days;
 mod durations;
 mod eras;
 mod fields;
+mod holidays;
 mod in_calendar;
 mod kinds;
 mod lengths;
@@ -47,6 +50,7 @@ pub use dates::CalendarDate;
 pub use day_texts::text_of_day;
 pub use durations::CalendarDuration;
 pub use fields::CalendarFields;
+pub use holidays::{CalendarBookFault, CalendarHoliday, holiday_name, holidays};
 pub use lengths::{CalendarLengths, lengths_of_day};
 pub use outcomes::{CalendarOutcome, NO_ROOM, UNKNOWN_YEARS};
 pub use repeated::{CalendarOccurrence, recurrences};

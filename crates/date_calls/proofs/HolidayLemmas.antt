@@ -1,0 +1,47 @@
+-- What a list of holidays left is what is listed from its first day and rule on.
+use Rattle.std.proofs.Common.{◌≡◌, ◌∙◌, ℕ, ℤ, pos, ◌+ℤ◌, ◌≤ℤ◌, int_le, cond, true, false, List, [], take, Option, Some, None, refl, sym, ap, subst, arith}
+use Rattle.std.proofs.lemmas.Int.{ints}
+use Rattle.cal_holidays.specs.BookNames.{holidays_in}
+use Rattle.cal_holidays.specs.Books.{named_rules}
+use Rattle.cal_holidays.specs.NamedDays.{AreHolidays}
+use Rattle.cal_holidays.specs.declared.book_rules.BookRules.{BookRules}
+use Rattle.cal_holidays.specs.declared.rest.Rest.{Rest}
+use Rattle.cal_tables.specs.Kinds.{table_contents}
+use Rattle.cal_types.specs.declared.window.Window.{Window}
+use Rattle.date_calls.specs.Holidays.{AreHolidaysListed, FillsHolidays, holidays_from, left_in, next_rule, pairs_before, window_left}
+use Rattle.date_calls.specs.Lists.{EndsOn, next_day}
+use Rattle.date_calls.specs.declared.holidays.CalendarHoliday.{CalendarHoliday}
+use Rattle.date_calls.proofs.ListLemmas.{behind_last, in_order}
+
+-- the holidays by the rules of a book, from a day and a rule on
+abbrev from_rule : BookRules → ℤ → ℤ → ℕ → List (ℤ × ℕ)
+from_rule b first last first_rule = holidays_from (table_contents b.tables) (named_rules b.book.now) first last first_rule
+
+rest-listed : (b : BookRules) (last : ℤ) (left : Option Rest) → EndsOn last (window_left left) →
+    left_in b left ≡ from_rule b (next_day last (window_left left)) last (next_rule left)
+rest-listed b last None ends =
+    sym (ap (λ t. cond t (holidays_in (table_contents b.tables) (named_rules b.book.now) (last +ℤ pos 1) last 0) []) (behind_last last))
+rest-listed b last (Some r) ends =
+    let w = r.window in
+    ap (λ end. holidays_in (table_contents b.tables) (named_rules b.book.now) w.first end r.first_rule) ends
+    ∙ sym (ap (λ t. cond t (holidays_in (table_contents b.tables) (named_rules b.book.now) w.first last r.first_rule) [])
+    (in_order w.first last (subst (λ z. w.first ≤ℤ z) ends w.days.order)))
+
+-- what was written of a whole window is what is listed of it
+pub holidays-listed : (b of : BookRules) → b ≡ of → (w : Window) (first_rule : ℕ) (rest left : Option Rest) → rest ≡ Some (record { window = w; first_rule = first_rule }) →
+    left_in b rest ≡ holidays_in (table_contents of.tables) (named_rules of.book.now) w.first w.last first_rule →
+    AreHolidays (table_contents of.tables) (named_rules of.book.now) w.first w.last first_rule (left_in b rest) →
+    (before now : List CalendarHoliday) (written : ℕ) → FillsHolidays b rest left before now written →
+    AreHolidaysListed (table_contents of.tables) (named_rules of.book.now) w.first w.last first_rule before now written
+    (next_day w.last (window_left left)) (next_rule left)
+holidays-listed b of same w first_rule rest left is list meant before now written fills = record {
+  parts =
+      sym list ∙ fills.parts
+      ∙ ap (pairs_before (take written now))
+      (ap (λ (a : BookRules). left_in a left) same
+      ∙ rest-listed of w.last left (fills.ends w.last (subst (λ o. EndsOn w.last (window_left o)) (sym is) refl)));
+  meant = subst (AreHolidays (table_contents of.tables) (named_rules of.book.now) w.first w.last first_rule) list meant;
+  behind = fills.behind;
+  fits = fills.fits;
+  complete = λ short. (ap (λ o. next_day w.last (window_left o)) (fills.complete short), ap next_rule (fills.complete short));
+}
