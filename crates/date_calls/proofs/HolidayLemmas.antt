@@ -10,7 +10,7 @@ use Rattle.cal_tables.specs.Kinds.{table_contents}
 use Rattle.cal_types.specs.declared.window.Window.{Window}
 use Rattle.date_calls.specs.Holidays.{AreHolidaysListed, FillsHolidays, holidays_from, left_in, next_rule, pairs_before, window_left}
 use Rattle.date_calls.specs.Lists.{EndsOn, next_day}
-use Rattle.date_calls.specs.declared.holidays.CalendarHoliday.{CalendarHoliday}
+use Rattle.date_calls.specs.declared.books.CalendarHoliday.{CalendarHoliday}
 use Rattle.date_calls.proofs.ListLemmas.{behind_last, in_order}
 
 -- the holidays by the rules of a book, from a day and a rule on

@@ -13,8 +13,8 @@ use Rattle.cal_types.specs.declared.window.Window.{Window}
 use Rattle.date_calls.specs.Calls.{IsLeftWith}
 use Rattle.date_calls.specs.DayTexts.{PutsText}
 use Rattle.date_calls.specs.Lists.{EndsOn, IsUnlisted, is_window}
-use Rattle.date_calls.specs.declared.holidays.CalendarBookFault.{CalendarBookFault}
-use Rattle.date_calls.specs.declared.holidays.CalendarHoliday.{CalendarHoliday}
+use Rattle.date_calls.specs.declared.books.CalendarBookFault.{CalendarBookFault}
+use Rattle.date_calls.specs.declared.books.CalendarHoliday.{CalendarHoliday}
 
 -- the day and the rule that an item tells
 abbrev pub pair_told : CalendarHoliday → ℤ × ℕ

@@ -13,6 +13,7 @@
 //! [`holidays`] says from which rule, too.
 #![tactic(auto)]
 
+mod books;
 mod calendars;
 mod calls;
 mod codes;
@@ -24,7 +25,6 @@ mod days;
 mod durations;
 mod eras;
 mod fields;
-mod holidays;
 mod in_calendar;
 mod kinds;
 mod lengths;
@@ -43,6 +43,7 @@ mod weeks;
 mod yearly;
 mod years;
 
+pub use books::{CalendarBookFault, CalendarHoliday, holiday_name, holidays};
 pub use calls::{add, date_of_day, date_of_fields, era_of_day, until};
 pub use codes::tables_of;
 pub use column_calls::{add_each, add_to_each, dates_of_days, dates_of_fields, until_each};
@@ -50,7 +51,6 @@ pub use dates::CalendarDate;
 pub use day_texts::text_of_day;
 pub use durations::CalendarDuration;
 pub use fields::CalendarFields;
-pub use holidays::{CalendarBookFault, CalendarHoliday, holiday_name, holidays};
 pub use lengths::{CalendarLengths, lengths_of_day};
 pub use outcomes::{CalendarOutcome, NO_ROOM, UNKNOWN_YEARS};
 pub use repeated::{CalendarOccurrence, recurrences};

@@ -5,7 +5,7 @@ use Rattle.cal_tables.specs.Kinds.{table_contents}
 use Rattle.date_calls.specs.Holidays.{AreHolidaysListed, next_rule, window_left}
 use Rattle.date_calls.specs.Lists.{next_day}
 use Rattle.date_calls.proofs.HolidayLemmas.{holidays-listed}
-use Rattle.date_calls.proofs.holidays.list_book.Goals as goal
+use Rattle.date_calls.proofs.books.list_book.Goals as goal
 
 pub returns : goal.returns
 returns c =

@@ -1,7 +1,7 @@
 use Rattle.std.proofs.Common.{length, ◌-◌, ◌≡◌, ◌≤◌, ℤ, drop, take}
 use Rattle.date_calls.specs.Holidays.{left_in, pairs_before, window_left}
 use Rattle.date_calls.specs.Lists.{EndsOn}
-use Rattle.date_calls.proofs.holidays.fill_holidays.Given as goal
+use Rattle.date_calls.proofs.books.fill_holidays.Given as goal
 
 -- the holidays are the items that were written, and those that are left
 abbrev pub invariant-given : goal.invariant-given
