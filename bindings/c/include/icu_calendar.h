@@ -350,9 +350,10 @@ uint8_t icu_calendar_rule_days(uint8_t calendar, uint8_t years, int64_t start, c
                                int64_t first, int64_t last, icu_calendar_occurrence *items, size_t items_len,
                                size_t *written, int64_t *next, icu_calendar_rule_fault *fault);
 
-/* The holidays of a book, in order of their days, and on one day in the order of the book: a CSV text with a holiday in
- * each record, such as easter,Easter,gregorian,,0, (docs/MANUAL.md, "holidays"; books/ has some). On the day `first`, rules
- * with a number below `first_rule` are left out. The list goes on from the day `*next` and the rule `*next_rule`:
+/* The holidays of a book, which is a CSV text with a rule in each record, such as easter,Easter,gregorian,,0, (the fields
+ * stand in docs/MANUAL.md, "holidays"). They come in order of their days, and on one day in the order of the book. On the
+ * day `first`, rules with a number below `first_rule` are left out. The list goes on from the day `*next` and the rule
+ * `*next_rule`:
  *
  *     size_t rule = 0;
  *     for (int64_t day = first; day <= last;) {
