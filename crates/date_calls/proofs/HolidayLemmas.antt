@@ -1,17 +1,60 @@
--- What a list of holidays left is what is listed from its first day and rule on.
-use Rattle.std.proofs.Common.{◌≡◌, ◌∙◌, ℕ, ℤ, pos, ◌+ℤ◌, ◌≤ℤ◌, int_le, cond, true, false, List, [], take, Option, Some, None, refl, sym, ap, subst, arith}
+-- What a list of holidays leaves at each step, and what is listed from its first day and rule on.
+use Rattle.std.proofs.Common.{◌≡◌, ◌∙◌, ℕ, ◌+◌, ℤ, pos, ◌+ℤ◌, ◌≤ℤ◌, int_le, Bool, cond, if◌then◌else◌, true, false, List, [], ◌∷◌, take, Option, Some, None, refl, sym, ap, subst, arith}
+use Rattle.std.specs.Prelude.{MatchOption, int_lt, nat_lt}
 use Rattle.std.proofs.lemmas.Int.{ints}
 use Rattle.cal_holidays.specs.BookNames.{holidays_in}
 use Rattle.cal_holidays.specs.Books.{named_rules}
+use Rattle.cal_holidays.specs.Found.{stretch_of}
+use Rattle.cal_holidays.specs.Listing.{IsRest, pair_given}
+use Rattle.cal_holidays.specs.Merging.{Stretch, behind}
 use Rattle.cal_holidays.specs.NamedDays.{AreHolidays}
 use Rattle.cal_holidays.specs.declared.book_rules.BookRules.{BookRules}
+use Rattle.cal_holidays.specs.declared.merged.Holiday.{Holiday}
 use Rattle.cal_holidays.specs.declared.rest.Rest.{Rest}
 use Rattle.cal_tables.specs.Kinds.{table_contents}
 use Rattle.cal_types.specs.declared.window.Window.{Window}
-use Rattle.date_calls.specs.Holidays.{AreHolidaysListed, FillsHolidays, holidays_from, left_in, next_rule, pairs_before, window_left}
+use Rattle.date_calls.specs.Holidays.{AreHolidaysListed, FillsHolidays, StepsHolidays, holidays_from, left_in, next_rule, pairs_before, window_left}
 use Rattle.date_calls.specs.Lists.{EndsOn, next_day}
 use Rattle.date_calls.specs.declared.books.CalendarHoliday.{CalendarHoliday}
 use Rattle.date_calls.proofs.ListLemmas.{behind_last, in_order}
+
+-- what is behind an item ends where the stretch ends
+behind-last : (count : ℕ) (s t : Stretch) (n : ℤ) (r : ℕ) → Some t ≡ behind count s n r → t.last ≡ s.last
+behind-last count s t n r e = by (nat_lt (r + 1) count) (int_lt n s.last) e
+  where
+    here : Stretch
+    here = record { first = n; last = s.last; first_rule = r + 1 }
+
+    next : Stretch
+    next = record { first = n +ℤ pos 1; last = s.last; first_rule = 0 }
+
+    by : (a b : Bool) → Some t ≡ (if a then Some (record { first = n; last = s.last; first_rule = r + 1 }) else if b then Some (record { first = n +ℤ pos 1; last = s.last; first_rule = 0 }) else None) → t.last ≡ s.last
+    by true b h =
+        let same : t ≡ here = cc in
+        ap (λ (u : Stretch). u.last) same
+    by false true h =
+        let same : t ≡ next = cc in
+        ap (λ (u : Stretch). u.last) same
+    by false false h = absurd cc
+
+step-ends : (b next_b : BookRules) (count : ℕ) (rest left : Option Rest) (h : Holiday) → left_in b rest ≡ pair_given h ∷ left_in next_b left → IsRest count rest (Some h) left →
+    (last : ℤ) → EndsOn last (window_left rest) → EndsOn last (window_left left)
+step-ends b next_b count None left h gives is last ends = absurd cc
+step-ends b next_b count (Some r) None h gives is last ends = tt
+step-ends b next_b count (Some r) (Some l) h gives is last ends = behind-last count (stretch_of r) (stretch_of l) h.day h.rule is ∙ ends
+
+-- a step of the list leaves what is behind the item that it gives
+pub holiday-steps : (b next_b : BookRules) → next_b ≡ b → (count : ℕ) (rest left : Option Rest) (item : Option Holiday) →
+    MatchOption item ((left_in b rest ≡ []) × (left_in next_b left ≡ [])) (λ h. left_in b rest ≡ pair_given h ∷ left_in next_b left) →
+    IsRest count rest item left → StepsHolidays b rest item left
+holiday-steps b next_b same count rest left None gives is = record {
+  gives = (gives.0, is);
+  ends = λ last ends. subst (λ o. EndsOn last (window_left o)) (sym is) tt;
+}
+holiday-steps b next_b same count rest left (Some h) gives is = record {
+  gives = gives ∙ ap (λ (a : BookRules). pair_given h ∷ left_in a left) same;
+  ends = step-ends b next_b count rest left h gives is;
+}
 
 -- the holidays by the rules of a book, from a day and a rule on
 abbrev from_rule : BookRules → ℤ → ℤ → ℕ → List (ℤ × ℕ)

@@ -1,12 +1,13 @@
 -- What is answered about the holidays of a book.
-use Rattle.std.specs.Prelude.{◌≡◌, ◌⊎◌, ℕ, ◌<◌, ◌≤◌, ℤ, pos, ◌+ℤ◌, int_le, cond, List, [], ◌++◌, drop, length, map, slice_get, take, option_map, Option, Some, None, Ok, MatchBool}
+use Rattle.std.specs.Prelude.{◌≡◌, ◌⊎◌, ℕ, ◌<◌, ◌≤◌, ℤ, pos, ◌+ℤ◌, int_le, cond, List, [], ◌∷◌, ◌++◌, drop, length, map, slice_get, take, option_map, Option, Some, None, Ok, MatchBool, MatchOption}
 use Rattle.cal_holidays.specs.BookNames.{holidays_in, names_in_book}
 use Rattle.cal_holidays.specs.Books.{IsFirstBad, book_records, named_rules}
-use Rattle.cal_holidays.specs.Listing.{left_of}
+use Rattle.cal_holidays.specs.Listing.{left_of, pair_given}
 use Rattle.cal_holidays.specs.NamedDays.{AreHolidays}
 use Rattle.cal_holidays.specs.Records.{record_read}
 use Rattle.cal_holidays.specs.Rules.{NamedRule}
 use Rattle.cal_holidays.specs.declared.book_rules.BookRules.{BookRules}
+use Rattle.cal_holidays.specs.declared.merged.Holiday.{Holiday}
 use Rattle.cal_holidays.specs.declared.rest.Rest.{Rest}
 use Rattle.cal_tables.specs.Kinds.{TableContents, table_contents}
 use Rattle.cal_types.specs.declared.window.Window.{Window}
@@ -37,6 +38,13 @@ next_rule (Some r) = r.first_rule
 abbrev pub left_in : BookRules → Option Rest → List (ℤ × ℕ)
 left_in b rest =
     left_of (names_in_book (table_contents b.tables) (named_rules b.book.now)) (length (named_rules b.book.now)) rest
+
+-- one step gives the first holiday that is left and leaves the others, up to the same last day
+pub record StepsHolidays (rules : BookRules) (rest : Option Rest) (item : Option Holiday) (left : Option Rest)
+    : Type 0 where
+  pub gives : MatchOption item ((left_in rules rest ≡ []) × (left ≡ None))
+      (λ h. left_in rules rest ≡ pair_given h ∷ left_in rules left)
+  pub ends : (last : ℤ) → EndsOn last (window_left rest) → EndsOn last (window_left left)
 
 -- the first holidays that were left stand in the column, as many as go into it, and the others are left; what stood
 -- behind them is there still

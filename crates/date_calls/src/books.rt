@@ -5,7 +5,7 @@ ghost use Rattle.cal_holidays.specs.Books.{book_records, named_rules};
 ghost use Rattle.cal_holidays.specs.Listing.{pair_given};
 ghost use Rattle.cal_tables.specs.Kinds.{table_contents};
 ghost use Rattle.date_calls.specs.Codes.{contents_of_code};
-ghost use Rattle.date_calls.specs.Holidays.{AnswersHolidays, AreHolidaysListed, FillsHolidays, ListsHolidays, NamesHoliday, PutsName, name_at, next_rule, pair_told, window_left};
+ghost use Rattle.date_calls.specs.Holidays.{AnswersHolidays, AreHolidaysListed, FillsHolidays, ListsHolidays, NamesHoliday, PutsName, StepsHolidays, name_at, next_rule, pair_told, window_left};
 
 use crate::codes::tables_of;
 use crate::lists::{next_day, window_of};
@@ -56,14 +56,21 @@ fn told(item: Holiday) -> CalendarHoliday
     }
 }
 
+/// Returns the first holiday that is left.
+fn next_holiday<'b, 't>(list: &mut Holidays<'b, 't>) -> Option<Holiday>
+    ensures rules { list.new.rules ≡ list.old.rules }
+    ensures steps { StepsHolidays list.old.rules list.old.rest result list.new.rest }
+{
+    list.next()
+}
+
 /// Writes the first holidays of a list to a column, and returns how many.
 fn fill_holidays<'b, 't>(list: &mut Holidays<'b, 't>, items: &mut [CalendarHoliday]) -> usize
-    ensures rules { list.new.rules ≡ list.old.rules }
-    ensures fills { FillsHolidays list.old.rules list.old.rest list.new.rest items.old items.new result }
+    ensures { FillsHolidays list.old.rules list.old.rest list.new.rest items.old items.new result }
 {
     let mut written = 0;
     'given: while written < items.len() {
-        match list.next() {
+        match next_holiday(list) {
             Some(item) => {
                 items[written] = told(item);
                 written += 1;

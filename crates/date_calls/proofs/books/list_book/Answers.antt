@@ -19,4 +19,4 @@ returns c =
     sym (same ∙ c.next_day.ensures ∙ ap (λ n. next_day n c.window_left.result) c.last.ensures ∙ ap (next_day w.last) (c.window_left.ensures ∙ ap window_left c.rest-rest.ensures)) in
     let rule : next_rule left ≡ c.next_rule.result = sym (c.next_rule.ensures ∙ ap next_rule c.rest-rest.ensures) in
     subst₂ (λ day number. AreHolidaysListed (table_contents c.args.tables) (named_rules c.args.book.now) w.first w.last c.args.first_rule c.args.items.now c.fill_holidays-written.new.items c.fill_holidays-written.result day number) next rule
-    (holidays-listed list.rules _ says.rules w c.args.first_rule list.rest left says.rest says.list says.meant _ _ _ c.fill_holidays-written.ensures.fills)
+    (holidays-listed list.rules _ says.rules w c.args.first_rule list.rest left says.rest says.list says.meant _ _ _ c.fill_holidays-written.ensures)
