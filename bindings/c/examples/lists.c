@@ -1,4 +1,4 @@
-/* Lists from C, a few items at a time: birthdays, paydays, recurrence rules; lengths of months and years, and texts of dates. */
+/* Lists from C, a few items at a time: birthdays, paydays, recurrence rules, holidays; lengths of months and years, and texts of dates. */
 #include <inttypes.h>
 #include <stdio.h>
 #include <string.h>
@@ -77,6 +77,36 @@ static int show_rule(uint8_t calendar, int64_t start, const char *rule, int64_t 
     return 0;
 }
 
+/* Prints the holidays of a book with their names, or the first invalid field. `;` shows where the next call begins. */
+static int show_holidays(const char *text, int64_t first, int64_t last) {
+    const uint8_t *book = (const uint8_t *)text;
+    size_t len = strlen(text), rule = 0;
+    icu_calendar_holiday items[COUNT + 1] = {0};
+    printf("holidays:");
+    for (int64_t next = first; next <= last; printf("%s", next <= last ? ";" : "\n")) {
+        size_t written;
+        icu_calendar_book_fault fault = {0};
+        uint8_t code = icu_calendar_holidays(ICU_CALENDAR_PUBLISHED, book, len, next, last, rule, items, COUNT, &written, &next, &rule, &fault);
+        if (code == ICU_CALENDAR_INVALID_BOOK) {
+            printf(" record %zu field %u\n", fault.number, fault.field);
+            return 0;
+        }
+        if (code || fault.number || written > COUNT || items[COUNT].day) {
+            return 6;
+        }
+        for (size_t place = 0; place < written; place++) {
+            uint8_t name[64];
+            size_t name_len;
+            if (icu_calendar_holiday_name(book, len, items[place].rule, name, sizeof name, &name_len)) {
+                return 7;
+            }
+            print(items[place].day);
+            printf(" %.*s", (int)name_len, (const char *)name);
+        }
+    }
+    return rule ? 8 : 0;
+}
+
 static int show_lengths(uint8_t calendar, int64_t day) {
     icu_calendar_lengths lengths = {0};
     if (icu_calendar_lengths_of_day(calendar, ICU_CALENDAR_PUBLISHED, day, &lengths)) {
@@ -121,7 +151,22 @@ static int show_refusals(void) {
     printf(" %u %u %u\n", icu_calendar_recurrences(ICU_CALENDAR_ISO, 0, FIRST, ICU_CALENDAR_UNIT_DEFAULT, 1, 0, FIRST, LAST, items, COUNT, &written, &next),
            icu_calendar_recurrences(ICU_CALENDAR_ISO, 0, FIRST, ICU_CALENDAR_DAYS, 0, 0, FIRST, LAST, items, COUNT, &written, &next),
            icu_calendar_recurrences(ICU_CALENDAR_ISO, 0, 365242135, ICU_CALENDAR_DAYS, 1, 0, FIRST, LAST, items, COUNT, &written, &next));
-    return written || next != 7 || days[0] != 7 || items[0].day != 7 || fault.cause != 1 || fault.part ? 4 : 0;
+    icu_calendar_holiday holidays[COUNT] = {{.day = 7}, {.day = 7}};
+    icu_calendar_book_fault bad = {0};
+    size_t next_rule = 7, name_len = 7;
+    const uint8_t book[] = "easter,Easter,gregorian,,0,\neaster,Pascha,julian,,0";
+    uint8_t name[] = "......";
+    printf("holidays refused: %u %u", icu_calendar_holidays(2, book, 27, FIRST, LAST, 0, holidays, COUNT, &written, &next, &next_rule, &bad),
+           icu_calendar_holidays(0, book, 27, LAST, FIRST, 0, holidays, COUNT, &written, &next, &next_rule, &bad));
+    if (bad.number) {
+        return 9;
+    }
+    printf(" %u", icu_calendar_holidays(0, book, sizeof book - 1, FIRST, LAST, 0, holidays, COUNT, &written, &next, &next_rule, &bad));
+    printf(" (record %zu field %u), names: %u", bad.number, bad.field, icu_calendar_holiday_name(book, sizeof book - 1, 0, name, 6, &name_len));
+    printf(" %u", icu_calendar_holiday_name(book, 27, 1, name, 6, &name_len));
+    printf(" %u", icu_calendar_holiday_name(book, 27, 0, name, 5, &name_len));
+    printf(" (%zu bytes, %s)\n", name_len, (const char *)name);
+    return written || next != 7 || next_rule != 7 || days[0] != 7 || items[0].day != 7 || holidays[0].day != 7 || fault.cause != 1 || fault.part ? 4 : 0;
 }
 
 int main(void) {
@@ -135,6 +180,10 @@ int main(void) {
     fault = fault ? fault : show_rule(ICU_CALENDAR_CHINESE, 734909, "RSCALE=CHINESE;FREQ=YEARLY", 736002);
     fault = fault ? fault : show_rule(ICU_CALENDAR_ISO, FIRST, "FREQ=MONTHLY;BYDAY=first", LAST);
     fault = fault ? fault : show_rule(ICU_CALENDAR_ISO, FIRST, "FREQ=DAILY;COUNT=3;UNTIL=20240101", LAST);
+    fault = fault ? fault : show_holidays("easter,Easter,gregorian,,0,\neaster,Pascha,julian,,0,\nfixed,Spring Festival,chinese,M01,1,exact\n"
+                                          "weekday,Thanksgiving,gregorian,M11,4,thursday\n", 739252, LAST);
+    fault = fault ? fault : show_holidays("easter,\"Easter\",gregorian,,0,\n\nfixed,Founding day,klingon,M01,1,exact\n", FIRST, LAST);
+    fault = fault ? fault : show_holidays("", FIRST, LAST);
     fault = fault ? fault : show_lengths(ICU_CALENDAR_ISO, 738945);
     fault = fault ? fault : show_lengths(ICU_CALENDAR_HEBREW, 738939);
     fault = fault ? fault : show_lengths(ICU_CALENDAR_CHINESE, 738926);

@@ -1,7 +1,8 @@
 /* Dates of twenty calendars, one by one or in columns, and the program calspan as a call.
  *
  * Link with the shared object, or with the archive and the toolchain's liblibc_c.a. The latter has three functions over
- * malloc, realloc and free, which only `calspan` calls. In the repository, after bindings/c/build.sh:
+ * malloc, realloc and free, which only `calspan` and the calls on books of holidays call. In the repository, after
+ * bindings/c/build.sh:
  *
  *     cc program.c -I bindings/c/include -L crates/icu_calendar_c/out -licu_calendar \
  *        -Wl,-rpath,"$PWD/crates/icu_calendar_c/out"
@@ -10,7 +11,8 @@
  *
  * Callers keep two rules; all other arguments are checked:
  * - No pointer is null, not even for zero bytes, and what two pointers point to doesn't overlap.
- * - `calspan` allocates, so don't call it from a signal handler, nor in the forked child of a process with threads.
+ * - `calspan` and the calls on books allocate, so don't call them from a signal handler, nor in the forked child of a
+ *   process with threads. What they allocate is freed before they return.
  *
  * Every call returns a code; ICU_CALENDAR_DONE is 0. The caller never frees anything. Calls on several threads need no
  * lock, since nothing is kept between calls. The functions at the end, with names and texts, are compiled with the
@@ -24,8 +26,8 @@
 
 /* The version of these calls. A minor version adds calls and codes, and changes none. */
 #define ICU_CALENDAR_VERSION_MAJOR 1
-#define ICU_CALENDAR_VERSION_MINOR 2
-#define ICU_CALENDAR_VERSION "1.2"
+#define ICU_CALENDAR_VERSION_MINOR 3
+#define ICU_CALENDAR_VERSION "1.3"
 
 #ifdef __cplusplus
 extern "C" {
@@ -114,7 +116,10 @@ enum {
     ICU_CALENDAR_INVALID_ORDINAL_MONTH = 19, /* max: how many months the year has */
     ICU_CALENDAR_INVALID_DAY = 20,           /* max: how many days the month has */
     ICU_CALENDAR_INVALID_TEXT = 21,          /* not a date of RFC 9557, or no such text names the calendar */
-    ICU_CALENDAR_INVALID_RULE = 22           /* not a recurrence rule of the calendar */
+    ICU_CALENDAR_INVALID_RULE = 22,          /* not a recurrence rule of the calendar */
+    ICU_CALENDAR_INVALID_BOOK = 23,          /* a record of the book of holidays is invalid */
+    ICU_CALENDAR_NO_MEMORY = 24,             /* for the book */
+    ICU_CALENDAR_UNKNOWN_HOLIDAY = 25        /* the book doesn't have the record */
 };
 
 /* What `calspan` returns: the exit status of the program, or CALSPAN_NO_ROOM. */
@@ -197,6 +202,18 @@ typedef struct {
     uint8_t part;  /* that it is about, from 1 to 16, or 0; `icu_calendar_rule_part` has its name */
 } icu_calendar_rule_fault;
 
+/* A day on which a holiday of a book falls. */
+typedef struct {
+    int64_t day; /* number */
+    size_t rule; /* the number of its record in the book, from 0; `icu_calendar_holiday_name` has its name */
+} icu_calendar_holiday;
+
+/* The first invalid record of a book of holidays. */
+typedef struct {
+    size_t number; /* of the record, from 1; blank lines aren't records */
+    uint8_t field; /* its first invalid field, from 1 to 10; 0 if it doesn't have six to ten fields */
+} icu_calendar_book_fault;
+
 /* The layout of the structs, as the library reads them. */
 #if defined(__cplusplus) && __cplusplus >= 201103L
 #define ICU_CALENDAR_ASSERT(condition) static_assert(condition, #condition)
@@ -250,6 +267,12 @@ ICU_CALENDAR_ASSERT(sizeof(icu_calendar_occurrence) == 16);
 ICU_CALENDAR_AT(icu_calendar_rule_fault, cause, 0);
 ICU_CALENDAR_AT(icu_calendar_rule_fault, part, 1);
 ICU_CALENDAR_ASSERT(sizeof(icu_calendar_rule_fault) == 2);
+ICU_CALENDAR_AT(icu_calendar_holiday, day, 0);
+ICU_CALENDAR_AT(icu_calendar_holiday, rule, 8);
+ICU_CALENDAR_ASSERT(sizeof(icu_calendar_holiday) == 16);
+ICU_CALENDAR_AT(icu_calendar_book_fault, number, 0);
+ICU_CALENDAR_AT(icu_calendar_book_fault, field, 8);
+ICU_CALENDAR_ASSERT(sizeof(icu_calendar_book_fault) == 16);
 
 /* Converts a day number to a date of a calendar. Fails with 1, 2 or 4, in this order. */
 uint8_t icu_calendar_date_of_day(uint8_t calendar, uint8_t years, int64_t day, icu_calendar_date *date);
@@ -326,6 +349,30 @@ uint8_t icu_calendar_recurrences(uint8_t calendar, uint8_t years, int64_t start,
 uint8_t icu_calendar_rule_days(uint8_t calendar, uint8_t years, int64_t start, const uint8_t *rule, size_t rule_len,
                                int64_t first, int64_t last, icu_calendar_occurrence *items, size_t items_len,
                                size_t *written, int64_t *next, icu_calendar_rule_fault *fault);
+
+/* The holidays of a book, which is a CSV text with a rule in each record, such as easter,Easter,gregorian,,0, (the fields
+ * stand in docs/MANUAL.md, "holidays"). They come in order of their days, and on one day in the order of the book. On the
+ * day `first`, rules with a number below `first_rule` are left out. The list goes on from the day `*next` and the rule
+ * `*next_rule`:
+ *
+ *     size_t rule = 0;
+ *     for (int64_t day = first; day <= last;) {
+ *         if (icu_calendar_holidays(.., day, last, rule, items, COUNT, &written, &day, &rule, &fault)) {
+ *             break;
+ *         }
+ *     }
+ *
+ * Each call reads the whole book, into memory that it frees before it returns. Fails with 2, 5, 23 or 24, and leaves
+ * `*next_rule` unchanged, too. With 23 `*fault` says which record of the book is invalid; otherwise it is unchanged. */
+uint8_t icu_calendar_holidays(uint8_t years, const uint8_t *book, size_t book_len, int64_t first, int64_t last,
+                              size_t first_rule, icu_calendar_holiday *items, size_t items_len, size_t *written,
+                              int64_t *next, size_t *next_rule, icu_calendar_book_fault *fault);
+
+/* Writes the name of the holiday with a number, from 0, in a book: 1 to 64 bytes of printable ASCII, with no 0 behind
+ * them. It reads the whole book, as above. Fails with 23, 24 or 25, and 0 in `*written`; or with 8, and the number of
+ * bytes needed. */
+uint8_t icu_calendar_holiday_name(const uint8_t *book, size_t book_len, size_t rule, uint8_t *room, size_t room_len,
+                                  size_t *written);
 
 /* Calls on columns. Each chooses the calendar once and does a call on one date at every place: `codes` or `outcomes`
  * has there what that call returns, and an output whose code isn't 0 is unchanged. So an invalid date changes no other
@@ -446,6 +493,12 @@ static inline const char *icu_calendar_code_text(uint8_t code) {
         return "The text isn't a date such as 2024-03-01[u-ca=hebrew], its date doesn't exist, or no text names the calendar.";
     case ICU_CALENDAR_INVALID_RULE:
         return "The text isn't a recurrence rule of the calendar.";
+    case ICU_CALENDAR_INVALID_BOOK:
+        return "A record of the book of holidays is invalid.";
+    case ICU_CALENDAR_NO_MEMORY:
+        return "There isn't enough memory for the book.";
+    case ICU_CALENDAR_UNKNOWN_HOLIDAY:
+        return "The book doesn't have a holiday with the number.";
     default:
         return "No call returns this code.";
     }

@@ -60,6 +60,18 @@ class OccurrenceParts(ctypes.Structure):
     _fields_ = [("day", c_int64), ("index", c_uint32)]
 
 
+class HolidayParts(ctypes.Structure):
+    """`icu_calendar_holiday` of the header."""
+
+    _fields_ = [("day", c_int64), ("rule", c_size_t)]
+
+
+class BookFaultParts(ctypes.Structure):
+    """`icu_calendar_book_fault` of the header."""
+
+    _fields_ = [("number", c_size_t), ("field", c_uint8)]
+
+
 TEXT = [c_char_p, c_size_t]
 COLUMN = [c_void_p, c_size_t]
 TYPES: dict[str, list[Any]] = {
@@ -79,6 +91,11 @@ TYPES: dict[str, list[Any]] = {
         *[c_uint8, c_uint8, c_int64, c_uint8, c_uint32, c_uint8, c_int64, c_int64],
         *[*COLUMN, POINTER(c_size_t), POINTER(c_int64)],
     ],
+    "icu_calendar_holidays": [
+        *[c_uint8, *TEXT, c_int64, c_int64, c_size_t, *COLUMN],
+        *[POINTER(c_size_t), POINTER(c_int64), POINTER(c_size_t), POINTER(BookFaultParts)],
+    ],
+    "icu_calendar_holiday_name": [*TEXT, c_size_t, *TEXT, POINTER(c_size_t)],
     "icu_calendar_week_of_year": [c_int64, POINTER(c_int32), POINTER(c_uint8)],
     "icu_calendar_easter": [c_uint8, c_int32, POINTER(c_int64)],
     "icu_calendar_dates_of_days": [c_uint8, c_uint8, *COLUMN, *COLUMN, *COLUMN],

@@ -91,6 +91,17 @@ class Holidays(unittest.TestCase):
         first = next(holidays("easter,Easter,gregorian,,0,\neaster,Pascha,julian,,0,", datetime.date(2024, 4, 1)))
         self.assertEqual((first.name, first.record, first.date.to_date()), ("Pascha", 1, datetime.date(2024, 5, 5)))
 
+    def test_many_holidays_of_one_day(self):
+        book = "\n".join(f"fixed,New Year {it},iso,M01,1,exact" for it in range(600))
+        found = list(holidays(book, datetime.date(2024, 1, 1), datetime.date(2025, 1, 1)))
+        self.assertEqual([it.record for it in found], 2 * [*range(600)])
+        self.assertEqual({(it.name, it.date.extended_year) for it in found if it.record == 599}, {("New Year 599", 2024), ("New Year 599", 2025)})
+
+    def test_a_rule_without_days(self):
+        book = "fixed,Never,iso,M02,30,exact\nfixed,Leap day,iso,M02,29,exact,2024,2028"
+        self.assertEqual(next(holidays(book, 738886)).name, "Leap day")
+        self.assertEqual([it.record for it in holidays(book, 738886, 748886)], [1, 1])
+
 
 if __name__ == "__main__":
     unittest.main()

@@ -1,4 +1,5 @@
 pub mod ListLemmas
+pub mod HolidayLemmas
 pub mod TextLemmas
 pub mod DayTextLemmas
 pub mod RuleLemmas

@@ -4,10 +4,10 @@ use Rattle.std.proofs.lemmas.Int.{ints}
 use Rattle.cal_types.specs.declared.window.Window.{Window}
 use Rattle.date_calls.specs.Lists.{EndsOn, FillsFirst, IsListed, items_from, items_in, next_day}
 
-in_order : (a b : ℤ) → a ≤ℤ b → int_le a b ≡ true
+pub in_order : (a b : ℤ) → a ≤ℤ b → int_le a b ≡ true
 in_order a b le = grind (arith, ints, le)
 
-behind_last : (last : ℤ) → int_le (last +ℤ pos 1) last ≡ false
+pub behind_last : (last : ℤ) → int_le (last +ℤ pos 1) last ≡ false
 behind_last last = grind (arith, ints)
 
 pub items-left : {O : Type 0} (between : ℤ → ℤ → List O) (last : ℤ) (left : Option Window) → EndsOn last left → items_in between left ≡ items_from between (next_day last left) last

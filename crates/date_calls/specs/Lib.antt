@@ -18,4 +18,5 @@ pub mod Recurrences
 pub mod Texts
 pub mod DayTexts
 pub mod Rules
+pub mod Holidays
 pub mod laws

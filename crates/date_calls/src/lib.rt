@@ -2,15 +2,18 @@
 //! of years and months, eras, weeks and Easter.
 //!
 //! A calendar is a code, a date is a day number (rata die), and the parts of a date come in a plain struct. The calls
-//! keep nothing between them and take no memory. They check every argument and return a code; 0 means success. The
-//! crates `icu_calendar_c` and `icu_calendar_wasm` export them. Start with [`date_of_day`] and [`date_of_fields`].
+//! keep nothing between them and, except those on books of holidays, take no memory. They check every argument and return
+//! a code; 0 means success. The crates `icu_calendar_c` and `icu_calendar_wasm` export them. Start with [`date_of_day`]
+//! and [`date_of_fields`].
 //!
 //! Calls on columns, such as [`dates_of_days`], choose the calendar once and do a call on one date at every place. Every
 //! place has a code of its own, so an invalid date changes no other.
 //!
-//! Calls that list days, such as [`anniversaries`], fill a caller's column and say from which day the list goes on.
+//! Calls that list days, such as [`anniversaries`], fill a caller's column and say from which day the list goes on;
+//! [`holidays`] says from which rule, too.
 #![tactic(auto)]
 
+mod books;
 mod calendars;
 mod calls;
 mod codes;
@@ -38,6 +41,7 @@ mod weeks;
 mod yearly;
 mod years;
 
+pub use books::{CalendarBookFault, CalendarHoliday, holiday_name, holidays};
 pub use calls::{add, date_of_day, date_of_fields, era_of_day, until};
 pub use codes::tables_of;
 pub use column_calls::{add_each, add_to_each, dates_of_days, dates_of_fields, until_each};

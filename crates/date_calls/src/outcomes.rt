@@ -35,6 +35,15 @@ pub(crate) const INVALID_TEXT: u8 = 21;
 /// The text isn't a recurrence rule of the calendar.
 pub(crate) const INVALID_RULE: u8 = 22;
 
+/// A record of the book is invalid.
+pub(crate) const INVALID_BOOK: u8 = 23;
+
+/// There isn't enough memory for the book.
+pub(crate) const NO_MEMORY: u8 = 24;
+
+/// The book doesn't have a holiday with the number.
+pub(crate) const UNKNOWN_HOLIDAY: u8 = 25;
+
 /// What a call returned: a code, and the greatest valid number, which is 0 if the code has none.
 #[repr(C)]
 #[derive(Clone, Copy, Debug, PartialEq, Eq, Drop)]

@@ -4,14 +4,15 @@ use crate::exports::{
     icu_calendar_add, icu_calendar_date_of_day, icu_calendar_date_of_fields, icu_calendar_easter,
     icu_calendar_era_of_day, icu_calendar_rule_days, icu_calendar_until, icu_calendar_week_of_year,
 };
+use crate::holiday_exports::{icu_calendar_holiday_name, icu_calendar_holidays};
 use crate::more_exports::{
     icu_calendar_anniversaries, icu_calendar_dates_of_days, icu_calendar_day_of_text,
     icu_calendar_lengths_of_day, icu_calendar_recurrences, icu_calendar_text_of_day,
 };
 use crate::program::calspan;
 use date_calls::{
-    CalendarDate, CalendarDuration, CalendarFields, CalendarLengths, CalendarOccurrence,
-    CalendarRuleFault,
+    CalendarBookFault, CalendarDate, CalendarDuration, CalendarFields, CalendarHoliday,
+    CalendarLengths, CalendarOccurrence, CalendarRuleFault,
 };
 
 const HEBREW: u8 = 7;
@@ -522,4 +523,131 @@ fn texts_that_are_no_rules(rt: HostRuntime) {
         &mut fault,
     );
     assert!(rt; code == 2 && written == 0);
+}
+
+/// Easter of both calendars, which was on one day in 2025.
+const EASTERS: &[u8] = b"easter,Easter,gregorian,,0,\neaster,Pascha,julian,,0,\n";
+
+#[test]
+fn holidays_of_one_day_go_on_by_rules(rt: HostRuntime) {
+    let mut items = [CalendarHoliday { day: 7, rule: 7 }; 2];
+    let mut written = 7;
+    let mut next = 739252;
+    let mut rule = 0;
+    let mut fault = CalendarBookFault {
+        number: 7,
+        field: 7,
+    };
+    let code = icu_calendar_holidays(
+        rt.alloc(),
+        0,
+        EASTERS,
+        739252,
+        739616,
+        0,
+        &mut items[..1],
+        &mut written,
+        &mut next,
+        &mut rule,
+        &mut fault,
+    );
+    assert!(rt; code == 0 && written == 1 && next == 739361 && rule == 1);
+    assert!(rt; items[0].day == 739361 && items[0].rule == 0 && items[1].day == 7);
+    let code = icu_calendar_holidays(
+        rt.alloc(),
+        0,
+        EASTERS,
+        next,
+        739616,
+        rule,
+        &mut items,
+        &mut written,
+        &mut next,
+        &mut rule,
+        &mut fault,
+    );
+    assert!(rt; code == 0 && written == 1 && next == 739617 && rule == 0);
+    assert!(rt; items[0].day == 739361 && items[0].rule == 1 && items[1].day == 7);
+    assert!(rt; fault.number == 7 && fault.field == 7);
+}
+
+#[test]
+fn books_that_have_no_holidays(rt: HostRuntime) {
+    let mut items = [CalendarHoliday { day: 7, rule: 7 }; 1];
+    let mut written = 7;
+    let mut next = 7;
+    let mut rule = 7;
+    let mut fault = CalendarBookFault {
+        number: 7,
+        field: 7,
+    };
+    let code = icu_calendar_holidays(
+        rt.alloc(),
+        2,
+        b"spam",
+        739616,
+        739252,
+        0,
+        &mut items,
+        &mut written,
+        &mut next,
+        &mut rule,
+        &mut fault,
+    );
+    assert!(rt; code == 2 && written == 0);
+    let code = icu_calendar_holidays(
+        rt.alloc(),
+        1,
+        b"spam",
+        739616,
+        739252,
+        0,
+        &mut items,
+        &mut written,
+        &mut next,
+        &mut rule,
+        &mut fault,
+    );
+    assert!(rt; code == 5 && fault.number == 7 && fault.field == 7);
+    let code = icu_calendar_holidays(
+        rt.alloc(),
+        1,
+        b"easter,Easter,gregorian,,0,\n\nfixed,Founding day,klingon,M01,1,exact",
+        739252,
+        739616,
+        0,
+        &mut items,
+        &mut written,
+        &mut next,
+        &mut rule,
+        &mut fault,
+    );
+    assert!(rt; code == 23 && fault.number == 2 && fault.field == 3);
+    assert!(rt; written == 0 && next == 7 && rule == 7 && items[0].day == 7);
+}
+
+#[test]
+fn holidays_have_names(rt: HostRuntime) {
+    let mut room = [b'.'; 8];
+    let mut written = 7;
+    assert_eq!(rt;
+        icu_calendar_holiday_name(rt.alloc(), EASTERS, 1, &mut room, &mut written),
+        0
+    );
+    assert!(rt; written == 6 && room[0] == b'P' && room[5] == b'a' && room[6] == b'.');
+    assert_eq!(rt;
+        icu_calendar_holiday_name(rt.alloc(), EASTERS, 0, &mut room[..5], &mut written),
+        8
+    );
+    assert!(rt; written == 6 && room[0] == b'P');
+    assert_eq!(rt;
+        icu_calendar_holiday_name(rt.alloc(), EASTERS, 2, &mut room, &mut written),
+        25
+    );
+    assert_eq!(rt; written, 0);
+    assert_eq!(rt;
+        icu_calendar_holiday_name(rt.alloc(), b"spam", 0, &mut room, &mut written),
+        23
+    );
+    assert!(rt; written == 0 && room[0] == b'P');
 }
