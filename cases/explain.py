@@ -3,13 +3,16 @@
 
 The reference knows whole requests and whole rows only, by regular expressions. Words begin a line if some words behind them make one, so the
 first bad word is the first one with which no line begins. What may stand there has to be what makes one: each word that the program lists.
+For a row that is whole, it works out by its own rules whether the numbers have a year or an era, and whether it comes too late. `span` has to
+stop at the first row that is explained, with the kind of fault that the reference has for it.
 """
 
 import argparse
 import random
 import re
 import sys
-from itertools import chain
+from dataclasses import dataclass
+from fractions import Fraction
 
 import lists
 from grammar import BYTE, CALENDARS, FIELD, FIELDS, INT, OVERFLOWS, REQUEST, STRATEGIES, UNITS, WORDS, has_each_key_once
@@ -56,18 +59,95 @@ def first_bad(words: list[bytes]) -> int | None:
     return next((n for n in range(1, len(words) + 1) if not begins(words[:n])), len(words) + 1)
 
 
-def explained(number: int, line: bytes) -> bytes | None:
-    """The beginning of the text about a line, up to what may stand there."""
-    text = line.removesuffix(b"\r")
-    if not text or line.startswith(b"#"):
-        return None
-    if len(line) > LONGEST:
-        return b"line %d: at most 512 bytes" % number
-    words = text.split(b" ")
-    bad = first_bad(words)
-    if bad is None:
-        return None
-    return b"line %d word %d%s: " % (number, bad, b" " + words[bad - 1] if bad <= len(words) else b"")
+def january_19(year: int) -> int:
+    """Its day number, by the leap years of the proleptic Gregorian calendar before it."""
+    past = year - 1
+    return 365 * past + past // 4 - past // 100 + past // 400 + 19
+
+
+def mean_start(year: int) -> int:
+    """The day on which a mean year of 10631 thirtieths of a day starts, without what is less than a day."""
+    return 227015 + int(Fraction(10631 * (year - 1), 30))
+
+
+def is_rule_year(year: int) -> bool:
+    return abs(year) <= 8_000_000
+
+
+@dataclass(frozen=True)
+class Fault:
+    """A fault of a row that is whole: the number of its word, what may stand there, and what `span` says of the row."""
+
+    word: int
+    what: bytes
+    kind: bytes
+
+
+def wrong_number(words: list[bytes]) -> Fault | None:
+    """The first number of a whole row with which there is no year or no era."""
+    table, numbers = words[1], [int(it) if re.fullmatch(INT, it) else 0 for it in words[2:]]
+    rules = []
+    if table in (b"china", b"korea", b"hijri"):
+        rules.append((3, is_rule_year(numbers[0]), b"YEAR, -8000000 to 8000000"))
+    if table in (b"china", b"korea"):
+        rules.append((4, 0 <= numbers[1] - january_19(numbers[0]) <= 34, b"START, 0 to 34 days after January 19 of the year"))
+        rules.append((6, numbers[3] in (0, *range(2, 14)), b"LEAP, 2 to 13 after 13 lengths"))
+    if table == b"hijri":
+        rules.append((4, abs(numbers[1] - mean_start(numbers[0])) <= 5, b"START, at most 5 days from the start of the mean year"))
+    if table == b"era" and numbers[0] >= 2026:
+        rules += [(3, numbers[0] < 2090, b"YEAR, up to 2089"), (4, numbers[1] in range(1, 16), b"MONTH, 1 to 15")]
+        rules += [(5, numbers[2] in range(1, 32), b"DAY, 1 to 31"), (7, numbers[4] in (7, 8), b"INDEX, 7 or 8")]
+    return next((Fault(word, what, b"range") for word, is_right, what in rules if not is_right), None)
+
+
+class Walk:
+    """Walks over the lines of an input, and says the text about each."""
+
+    def __init__(self) -> None:
+        self.has_ended = False
+        self.has_era = False
+
+    def fault_of_place(self, words: list[bytes]) -> Fault | None:
+        """What is wrong with a row or with another line that isn't malformed where it stands, or with its first word."""
+        if self.has_ended and words[0] == b"row":
+            return Fault(1, b"span, since rows come before the first request", b"late")
+        if self.has_ended and words[0] != b"span":
+            return Fault(1, b"span", b"")
+        if words[0] != b"row" or not is_line(words):
+            return None
+        if words[1] == b"era" and self.has_era:
+            return Fault(2, b"china, korea, hijri or persian, since an earlier row has an era", b"syntax")
+        return wrong_number(words)
+
+    def explained(self, number: int, line: bytes) -> "Explained | None":
+        text = line.removesuffix(b"\r")
+        if not text or line.startswith(b"#"):
+            return None
+        if len(line) > LONGEST:
+            self.has_ended = True
+            return Explained(number, b"line %d: at most 512 bytes" % number, b"", None)
+        words = text.split(b" ")
+        fault = self.fault_of_place(words)
+        bad = fault.word if fault else first_bad(words)
+        if words[0] != b"row":
+            self.has_ended = True
+        elif bad is None and words[1] == b"era":
+            self.has_era = True
+        if bad is None:
+            return None
+        start = b"line %d word %d%s: " % (number, bad, b" " + words[bad - 1] if bad <= len(words) else b"")
+        kind = b"" if words[0] != b"row" else fault.kind if fault else b"syntax"
+        return Explained(number, start + fault.what if fault else start, kind, None if fault else (words, bad))
+
+
+@dataclass(frozen=True)
+class Explained:
+    """The text about a line, up to what may stand there if it is malformed, and what `span` says of a row."""
+
+    number: int
+    text: bytes
+    kind: bytes
+    malformed: tuple[list[bytes], int] | None
 
 
 def listed(what: bytes) -> list[bytes]:
@@ -89,21 +169,33 @@ def fault_of_what(words: list[bytes], bad: int, what: bytes) -> str | None:
     return None
 
 
+def fault_of_span(source: bytes, wanted: list[Explained]) -> str | None:
+    """`span` stops at the first row that is explained, unless a table is refused before, and at no other one."""
+    answers = lists.run(lists.PROGRAM, [b"span"], source).stdout.split(b"\n")
+    refused = next((it for it in wanted if it.kind), None)
+    stops = [it for it in answers if it.startswith(b"table line ")]
+    tables = [it for it in answers if it.startswith(b"table ") and it not in stops]
+    named = [b"table line %d %s" % (refused.number, refused.kind)] if refused else []
+    if stops != named and not (tables and not stops and (refused is None or refused.kind == b"late")):
+        return f"{source!r}: span says {stops} in place of {named}"
+    return None
+
+
 def fault_of(lines: list[bytes]) -> str | None:
     source = b"\n".join(lines)
     ran = lists.run(lists.PROGRAM, [b"explain"], source)
-    wanted = [(it, n) for n, it in ((n, explained(n, line)) for n, line in enumerate(lines, 1)) if it is not None]
+    walk = Walk()
+    wanted = [it for it in (walk.explained(n, line) for n, line in enumerate(lines, 1)) if it is not None]
     got = ran.stdout.split(b"\n")
     if got.pop() or len(got) != len(wanted) or ran.returncode != int(bool(wanted)):
         return f"{source!r}: {len(got)} lines in place of {len(wanted)}, status {ran.returncode}"
-    for (want, number), have in zip(wanted, got):
-        if not have.startswith(want):
-            return f"{lines[number - 1]!r}:\n  wanted {want!r}\n  got    {have!r}"
-        words = lines[number - 1].removesuffix(b"\r").split(b" ")
-        fault = None if want.endswith(b"bytes") else fault_of_what(words, first_bad(words), have[len(want) :])
+    for want, have in zip(wanted, got):
+        if have != want.text if want.malformed is None else not have.startswith(want.text):
+            return f"{lines[want.number - 1]!r}:\n  wanted {want.text!r}\n  got    {have!r}"
+        fault = fault_of_what(*want.malformed, have[len(want.text) :]) if want.malformed else None
         if fault:
-            return f"{lines[number - 1]!r}: {fault}"
-    return None
+            return f"{lines[want.number - 1]!r}: {fault}"
+    return fault_of_span(source, wanted)
 
 
 def request_line(chance: random.Random) -> bytes:
@@ -127,10 +219,34 @@ def row_line(chance: random.Random) -> bytes:
     return b" ".join(words[: chance.choice([len(words), chance.randrange(1, len(words) + 1)])])
 
 
+def as_word(day: int) -> int:
+    """The day if a word has room for its number, and otherwise another."""
+    return day if abs(day) < 10**9 else 0
+
+
+def numbered_row(chance: random.Random) -> bytes:
+    """A whole row whose numbers are right, or nearly so."""
+    year = chance.choice([-8_000_001, -8_000_000, -500_000, 0, 1, 1445, 2024, 2024, 2_000_000, 8_000_000, 8_000_001])
+    table = chance.choice([b"china", b"korea", b"hijri", b"persian", b"era"])
+    if table in (b"china", b"korea"):
+        day, leap = as_word(january_19(year) + chance.choice([-1, 0, 17, 34, 35])), chance.choice([0, 0, 1, 2, 13, 14, 255])
+        return b"row %s %d %d %s %d" % (table, year, day, LONG if leap else SHORT, leap)
+    if table == b"hijri":
+        return b"row hijri %d %d %s" % (year, as_word(mean_start(year) + chance.choice([-6, -5, 0, 5, 6])), SHORT)
+    if table == b"persian":
+        return b"row persian %d" % year
+    start = [chance.choice([1, 2025, 2026, 2089, 2090]), chance.choice([0, 1, 12, 15, 16]), chance.choice([0, 1, 31, 32])]
+    return b"row era %d %d %d abc %d" % (*start, chance.choice([6, 7, 8, 9]))
+
+
 def compare_explanations(count: int = 200) -> str:
     chance = random.Random(20261201)
     others = [b"", b"#", b"\r", b"span\r", b"row\r", b"x" * 512, b"x" * 513, b"#" * 600, b" ", b"span ", b"\x00", b"\xff span"]
-    inputs = [[chance.choice([request_line, row_line])(chance) for _ in range(50)] for _ in range(count)] + [others]
+    anything = [request_line, row_line, numbered_row]
+    rows = [[chance.choice([row_line, numbered_row, numbered_row])(chance) for _ in range(chance.randrange(50))] for _ in range(count)]
+    inputs = [[*it, *[chance.choice(anything)(chance) for _ in range(50 - len(it))]] for it in rows] + [others]
+    # Rows of which each may be the first that is refused.
+    inputs += [[numbered_row(chance) for _ in range(3)] for _ in range(count)]
     stop_at_first(fault_of, [[*it[:-1], it[-1] or b"#"] for it in inputs])
     return f"{sum(map(len, inputs))} lines are explained as a reference wants"
 

@@ -41,7 +41,7 @@ RUNS = [
     Run(0, ["gen", "1"], None, b"gen 1 ok 1 err 0 "),
     Run(0, ["span"], REQUEST % 1, b"ok 2024/"),
     Run(1, ["span"], REQUEST % 30, b"err to InvalidDay 29\n"),
-    Run(0, ["explain"], REQUEST % 30 + b"row persian 1\n", b""),
+    Run(0, ["explain"], b"row persian 1\n" + REQUEST % 30, b""),
     Run(1, ["explain"], b"row\n", b"line 1 word 2: china, "),
     Run(0, ["explain", "holidays"], b"row persian 1\n#\neaster,Easter,gregorian,,0,\n", b""),
     Run(1, ["explain", "holidays"], b"easter,Easter,iso,,0,\n", b"record 1 field 3 iso: gregorian or julian\n"),

@@ -1,43 +1,55 @@
 -- The line about a line of `explain`, as it is pushed.
-use Rattle.std.proofs.Common.{◌≡◌, ℕ, ◌-◌, Bool, true, false, cond, nat_lt, List, [], ◌∷◌, ◌++◌, length, take, drop, Option, Some, None, Result, refl, ◌∙◌, sym, ap, subst}
+use Rattle.std.proofs.Common.{◌≡◌, ℕ, ◌-◌, true, false, cond, nat_lt, List, [], ◌∷◌, ◌++◌, length, drop, Option, Some, Result, ◌∙◌, sym, ap, subst}
 use Rattle.std.proofs.lemmas.List.{append-nil, append_assoc, take_all}
 use Rattle.std.specs.Str.Lines.{strip_carriage_return}
 use borrow.Author.Tests.{ltb-false}
 use Rattle.byte_io.specs.Buffer.{Holds}
 use Rattle.byte_io.specs.declared.Failed.{Failed}
 use Rattle.byte_io.specs.declared.buffer.LineBuffer.{LineBuffer}
-use Rattle.request_lines.specs.Lines.{is_silent}
+use Rattle.request_lines.specs.Lines.{is_silent, line_of}
 use Rattle.request_lines.specs.Words.{words_of}
-use Rattle.line_faults.specs.Faults.{first_fault, first_of}
-use Rattle.line_faults.specs.declared.faults.LineFault.{LineFault}
+use Rattle.line_faults.specs.Faults.{first_of}
+use Rattle.row_faults.specs.Stages.{line_fault, said_fault, word_of}
+use Rattle.row_faults.specs.declared.faults.Fault.{Fault}
+use Rattle.row_faults.specs.declared.stages.Stage.{Stage}
 use Rattle.calspan_run.specs.Converted.{Answer}
-use Rattle.calspan_run.specs.Explained.{explained_line, fault_explained, fault_text, long_text, text_explained}
+use Rattle.calspan_run.specs.Explained.{explained_line, fault_explained, fault_text, long_text}
 use Rattle.calspan_run.specs.TextSoFar.{TextSoFar, Pushed}
 use Rattle.calspan_run.specs.Written.{WrotePrefix}
 
 pub silent_so_far : (before now : Option (List ℕ)) (pending text : List ℕ) → TextSoFar before now pending text → TextSoFar before now pending (text ++ [])
 silent_so_far before now pending text h = subst (λ (x : List ℕ). TextSoFar before now pending x) (sym (append-nil text)) h
 
-pub silent_line : (n : ℕ) (line : List ℕ) → is_silent line ≡ true → explained_line n line ≡ ([], false)
-silent_line n line silent =
-    ap (λ t. cond t ([], false) (cond (nat_lt 512 (length line)) (long_text n, true) (text_explained n (words_of (strip_carriage_return line))))) silent
+-- what is said of a line that isn't ignored, and isn't long
+abbrev short_text : Stage → ℕ → List ℕ → Answer
+short_text stage n line = fault_explained n (words_of (strip_carriage_return line)) (line_fault stage line)
 
-not_silent : (n : ℕ) (line : List ℕ) → is_silent line ≡ false
-    → explained_line n line ≡ cond (nat_lt 512 (length line)) (long_text n, true) (text_explained n (words_of (strip_carriage_return line)))
-not_silent n line silent =
-    ap (λ t. cond t ([], false) (cond (nat_lt 512 (length line)) (long_text n, true) (text_explained n (words_of (strip_carriage_return line))))) silent
+pub silent_line : (stage : Stage) (n : ℕ) (line : List ℕ) → is_silent line ≡ true → explained_line stage n line ≡ ([], false)
+silent_line stage n line silent =
+    ap (λ t. cond t ([], false) (cond (nat_lt 512 (length line)) (long_text n, true) (short_text stage n line))) silent
 
-pub long_line : (n : ℕ) (line : List ℕ) → is_silent line ≡ false → nat_lt 512 (length line) ≡ true → explained_line n line ≡ (long_text n, true)
-long_line n line silent long =
-    not_silent n line silent ∙ ap (λ t. cond t (long_text n, true) (text_explained n (words_of (strip_carriage_return line)))) long
+not_silent : (stage : Stage) (n : ℕ) (line : List ℕ) → is_silent line ≡ false
+    → explained_line stage n line ≡ cond (nat_lt 512 (length line)) (long_text n, true) (short_text stage n line)
+not_silent stage n line silent =
+    ap (λ t. cond t ([], false) (cond (nat_lt 512 (length line)) (long_text n, true) (short_text stage n line))) silent
 
-pub short_line : (n : ℕ) (line prefix text : List ℕ) {buffer : LineBuffer} → Holds buffer line → is_silent line ≡ false → nat_lt 512 (length line) ≡ false
-    → prefix ≡ buffer.prefix.items → text ≡ strip_carriage_return prefix → explained_line n line ≡ text_explained n (words_of text)
-short_line n line prefix text {buffer} holds silent short is stripped =
-    let whole : prefix ≡ line = is ∙ (holds.prefix ∙ take_all 512 line (ltb-false 512 (length line) short)) in
-    not_silent n line silent
-    ∙ (ap (λ t. cond t (long_text n, true) (text_explained n (words_of (strip_carriage_return line)))) short
-    ∙ ap (λ (x : List ℕ). text_explained n (words_of x)) (sym (stripped ∙ ap strip_carriage_return whole)))
+pub long_line : (stage : Stage) (n : ℕ) (line : List ℕ) → is_silent line ≡ false → nat_lt 512 (length line) ≡ true → explained_line stage n line ≡ (long_text n, true)
+long_line stage n line silent long =
+    not_silent stage n line silent ∙ ap (λ t. cond t (long_text n, true) (short_text stage n line)) long
+
+pub whole_text : (line prefix text : List ℕ) {buffer : LineBuffer} → Holds buffer line → nat_lt 512 (length line) ≡ false
+    → prefix ≡ buffer.prefix.items → text ≡ strip_carriage_return prefix → text ≡ strip_carriage_return line
+whole_text line prefix text {buffer} holds short is stripped =
+    stripped ∙ ap strip_carriage_return (is ∙ (holds.prefix ∙ take_all 512 line (ltb-false 512 (length line) short)))
+
+pub short_line : (stage : Stage) (n : ℕ) (line text : List ℕ) (fault : Option Fault) → is_silent line ≡ false → nat_lt 512 (length line) ≡ false
+    → text ≡ strip_carriage_return line → fault ≡ said_fault (line_of line) stage (words_of text)
+    → explained_line stage n line ≡ fault_explained n (words_of text) fault
+short_line stage n line text fault silent short is found =
+    not_silent stage n line silent
+    ∙ (ap (λ t. cond t (long_text n, true) (short_text stage n line)) short
+    ∙ (ap (λ (x : List ℕ). fault_explained n (words_of x) (said_fault (line_of line) stage (words_of x))) (sym is)
+    ∙ ap (fault_explained n (words_of text)) (sym found)))
 
 -- a text that is grouped otherwise
 pub regrouped : (before now : Option (List ℕ)) (pending text a b : List ℕ) → TextSoFar before now pending ((text ++ a) ++ b) → TextSoFar before now pending (text ++ (a ++ b))
@@ -58,10 +70,10 @@ pub regrouped_pushed : {T : Type 0} (r : Result T Failed) (before now : Option (
 regrouped_pushed r before now pending text a b h = subst (λ (x : List ℕ). Pushed r before now pending x) (append_assoc text a b) h
 
 -- a fault was found, and the word that stands there
-abbrev pub malformed : ℕ → LineFault → Option (List ℕ) → Answer
+abbrev pub malformed : ℕ → Fault → Option (List ℕ) → Answer
 malformed n fault word = (fault_text n fault word, true)
 
-pub fault_found : (n : ℕ) (words : List (List ℕ)) (fault : LineFault) (word : Option (List ℕ)) (k : ℕ) → Some fault ≡ first_fault words → word ≡ first_of (drop k words) → k ≡ fault.word - 1
-    → text_explained n words ≡ malformed n fault word
-fault_found n words fault word k found is count =
-    ap (fault_explained n words) (sym found) ∙ ap (malformed n fault) (sym (is ∙ ap (λ m. first_of (drop m words)) count))
+pub fault_found : (n : ℕ) (words : List (List ℕ)) (fault : Fault) (word : Option (List ℕ)) (number k : ℕ) → number ≡ word_of fault
+    → word ≡ first_of (drop k words) → k ≡ number - 1 → fault_explained n words (Some fault) ≡ malformed n fault word
+fault_found n words fault word number k counted is count =
+    ap (malformed n fault) (sym (is ∙ ap (λ m. first_of (drop m words)) (count ∙ ap (λ m. m - 1) counted)))

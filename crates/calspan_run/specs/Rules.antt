@@ -12,6 +12,7 @@ use Rattle.calspan_run.specs.HolidayLines.{holidays_written}
 use Rattle.calspan_run.specs.ListAnswers.{end_behind, list_end}
 use Rattle.calspan_run.specs.RecordsExplained.{book_explained}
 use Rattle.calspan_run.specs.Refusals.{status_of}
+use Rattle.row_faults.specs.declared.stages.Stage.TheVariants.{Rows}
 use Rattle.table_rows.specs.RowLines.{RowTakesMemory}
 use Rattle.calspan_run.specs.Serving.{Rules}
 use Rattle.calspan_run.specs.Answers.{IsAnswers}
@@ -31,7 +32,8 @@ span_rules = record {
 abbrev pub explain_rules : Rules
 explain_rules = record {
   Says = λ bytes whole text status.
-      (text ≡ explained 1 (lines_in bytes whole)) × (status ≡ status_of (any_malformed false 1 (lines_in bytes whole)));
+      (text ≡ explained Rows 1 (lines_in bytes whole))
+      × (status ≡ status_of (any_malformed false Rows 1 (lines_in bytes whole)));
   EndsAtLine = λ status. ⊥;
   MayLack = λ bytes whole. ⊥;
   KeepsInput = ⊥;

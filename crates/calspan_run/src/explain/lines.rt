@@ -7,16 +7,17 @@ ghost use Rattle.byte_io.specs.Buffer.{Holds};
 ghost use Rattle.byte_io.specs.Faults.{HasCause};
 ghost use Rattle.request_lines.specs.Words.{words_of};
 ghost use Rattle.calspan_run.specs.Converting.{AnsweredLine};
-ghost use Rattle.calspan_run.specs.Explained.{ending_of, explained_line, fault_text, long_text, place_text, standing, text_explained, word_bytes};
+ghost use Rattle.calspan_run.specs.Explained.{allowed_ending, ending_of, explained_line, fault_ending, fault_explained, fault_text, long_text, place_text, standing, word_bytes};
 ghost use Rattle.calspan_run.specs.TextSoFar.{TextSoFar, Pushed};
 
 use crate::writer::{make_room, push};
 use byte_io::{Failed, LineBuffer, Sink};
-use line_faults::{Expected, LineFault, line_fault, word_after};
+use line_faults::{Expected, word_after};
 use reply_texts::{Pending, push_all, push_number};
-use request_lines::is_silent;
+use request_lines::{is_silent, line_kind};
+use row_faults::{Allowed, Fault, Stage, fault_behind};
 
-/// Returns the end of the line about a fault: what may stand there.
+/// Returns the end of the line about a malformed word: what may stand there.
 pub(crate) fn ending(at: Expected) -> &'static [u8]
     ensures { result.now ≡ ending_of at }
 {
@@ -60,6 +61,36 @@ pub(crate) fn ending(at: Expected) -> &'static [u8]
         Expected::EraCode => b": CODE, 1 to 8 letters a to z\n",
         Expected::EraIndex => b": INDEX, 1 to 3 digits up to 255\n",
         Expected::End => b": the end of the line\n",
+    }
+}
+
+/// Returns the end of the line about a word that its form allows: what may stand in its place.
+fn allowed_ending(allowed: Allowed) -> &'static [u8]
+    ensures { result.now ≡ allowed_ending allowed }
+{
+    match allowed {
+        Allowed::Span => b": span\n",
+        Allowed::SpanForRow => b": span, since rows come before the first request\n",
+        Allowed::YearTable =>
+            b": china, korea, hijri or persian, since an earlier row has an era\n",
+        Allowed::RuleYear => b": YEAR, -8000000 to 8000000\n",
+        Allowed::LunisolarStart => b": START, 0 to 34 days after January 19 of the year\n",
+        Allowed::HijriStart => b": START, at most 5 days from the start of the mean year\n",
+        Allowed::LeapMonth => b": LEAP, 2 to 13 after 13 lengths\n",
+        Allowed::EraYear => b": YEAR, up to 2089\n",
+        Allowed::EraMonth => b": MONTH, 1 to 15\n",
+        Allowed::EraDay => b": DAY, 1 to 31\n",
+        Allowed::EraIndex => b": INDEX, 7 or 8\n",
+    }
+}
+
+/// Returns the end of the line about a fault: what may stand there.
+fn fault_ending(fault: Fault) -> &'static [u8]
+    ensures { result.now ≡ fault_ending fault }
+{
+    match fault {
+        Fault::Malformed(fault) => ending(fault.expected),
+        Fault::Misplaced(allowed) => allowed_ending(allowed),
     }
 }
 
@@ -158,7 +189,7 @@ fn push_standing<K: Sink>(
 /// Appends the line about a fault.
 fn explain_fault<K: Sink>(
     number: u64,
-    fault: LineFault,
+    fault: Fault,
     word: Option<&[u8]>,
     pending: &mut Pending,
     sink: &mut K,
@@ -170,14 +201,15 @@ fn explain_fault<K: Sink>(
         (text ++ fault_text number fault (word_bytes word.entry)) }
     ensures cause { HasCause (K.faults sink.old) (K.faults sink.new) result }
 {
-    push_standing(number, fault.word, word, pending, sink)?;
-    push(pending, ending(fault.expected), sink)
+    push_standing(number, fault.word(), word, pending, sink)?;
+    push(pending, fault_ending(fault), sink)
 }
 
-/// Appends the line about a line of at most 512 bytes that isn't ignored, if it is malformed. Returns whether it is.
+/// Appends the line about the fault of a line, if it has one. Returns whether it has.
 fn explain_text<K: Sink>(
     number: u64,
     text: &[u8],
+    fault: Option<Fault>,
     pending: &mut Pending,
     sink: &mut K,
 ) -> Result<bool, Failed>
@@ -185,12 +217,12 @@ fn explain_text<K: Sink>(
     ensures answered { (before : Option (List ℕ)) (so_far : List ℕ)
         → TextSoFar before (K.taken sink.old) pending.old.items so_far
         → AnsweredLine result before (K.taken sink.new) pending.new.items so_far
-        (text_explained number (words_of text.now)) }
+        (fault_explained number (words_of text.now) fault) }
     ensures cause { HasCause (K.faults sink.old) (K.faults sink.new) result }
 {
-    match line_fault(text) {
+    match fault {
         Some(fault) => {
-            let word = word_after(text, fault.word.saturating_sub(1));
+            let word = word_after(text, fault.word().saturating_sub(1));
             explain_fault(number, fault, word, pending, sink)?;
             Ok(true)
         }
@@ -198,13 +230,14 @@ fn explain_text<K: Sink>(
     }
 }
 
-/// Appends the line about a line, if it is malformed. Writes the pending text first if there might be no room. Returns
-/// whether the line is malformed.
+/// Appends the line about a line, if it has a fault behind the lines before it. Writes the pending text first if there
+/// might be no room. Returns whether the line has a fault.
 ///
 /// # Errors
 ///
 /// - [`Failed`] if the sink counted a fault. A prefix of the text with this line is written.
 pub(crate) fn explain_line<K: Sink>(
+    stage: Stage,
     number: u64,
     line: &LineBuffer,
     pending: &mut Pending,
@@ -212,7 +245,7 @@ pub(crate) fn explain_line<K: Sink>(
 ) -> Result<bool, Failed>
     ensures answered { (before : Option (List ℕ)) (text whole : List ℕ) → Holds line.now whole
         → TextSoFar before (K.taken sink.old) pending.old.items text
-        → AnsweredLine result before (K.taken sink.new) pending.new.items text (explained_line number whole) }
+        → AnsweredLine result before (K.taken sink.new) pending.new.items text (explained_line stage number whole) }
     ensures cause { HasCause (K.faults sink.old) (K.faults sink.new) result }
 {
     make_room(pending, sink)?;
@@ -223,5 +256,7 @@ pub(crate) fn explain_line<K: Sink>(
         push_long(pending, number);
         return Ok(true);
     }
-    explain_text(number, without_return(&line.prefix), pending, sink)
+    let text = without_return(&line.prefix);
+    let fault = fault_behind(stage, line_kind(line), text);
+    explain_text(number, text, fault, pending, sink)
 }

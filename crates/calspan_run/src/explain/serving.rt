@@ -9,6 +9,8 @@ ghost use Rattle.calspan_run.specs.Rules.{explain_rules};
 ghost use Rattle.calspan_run.specs.Run.{Outside, outside};
 ghost use Rattle.calspan_run.specs.Serving.{Serves};
 ghost use Rattle.calspan_run.specs.TextSoFar.{TextSoFar};
+ghost use Rattle.row_faults.specs.Stages.{after_lines};
+ghost use Rattle.row_faults.specs.declared.stages.Stage.TheVariants.{Rows};
 ghost use Rattle.table_rows.specs.Gathering.{with_open_line};
 
 use crate::convert::serving::{conclude, either};
@@ -17,10 +19,12 @@ use crate::status::Status;
 use crate::writer::flush;
 use byte_io::{Filled, LineBuffer, Next, Reader, Sink, Source};
 use reply_texts::Pending;
+use row_faults::Stage;
 
 /// Ends the run after `lines` lines. A last line without an LF is explained too.
 fn finish<K: Sink>(
     is_malformed: bool,
+    stage: Stage,
     lines: u64,
     line: &LineBuffer,
     pending: &mut Pending,
@@ -28,15 +32,15 @@ fn finish<K: Sink>(
 ) -> Status
     requires { lines ≤ 16777216 }
     ensures { (before : Option (List ℕ)) (closed : List (List ℕ)) (last : List ℕ) → lines ≡ length closed
-        → is_malformed ≡ any_malformed false 1 closed → Holds line.now last
-        → TextSoFar before (K.taken sink.old) pending.old.items (explained 1 closed)
-        → EndsWith result (status_of (any_malformed false 1 (with_open_line closed last))) before (K.taken sink.new)
-        (K.faults sink.old) (K.faults sink.new) (explained 1 (with_open_line closed last)) }
+        → is_malformed ≡ any_malformed false Rows 1 closed → stage ≡ after_lines Rows closed → Holds line.now last
+        → TextSoFar before (K.taken sink.old) pending.old.items (explained Rows 1 closed)
+        → EndsWith result (status_of (any_malformed false Rows 1 (with_open_line closed last))) before
+        (K.taken sink.new) (K.faults sink.old) (K.faults sink.new) (explained Rows 1 (with_open_line closed last)) }
 {
     if line.is_empty() {
         return conclude(is_malformed, pending, sink);
     }
-    match explain_line(lines + 1, line, pending, sink) {
+    match explain_line(stage, lines + 1, line, pending, sink) {
         Ok(this) => conclude(either(is_malformed, this), pending, sink),
         Err(_) => Status::WriteFault,
     }
@@ -52,18 +56,20 @@ fn serve_from<S: Source, K: Sink>(
 ) -> Status
     ensures { (old : Outside)
         → IsExplaining old (outside (S.left source.old) (K.taken sink.old) (S.faults source.old) (K.faults sink.old))
-        reader.old line.old pending.old.items false
+        reader.old line.old pending.old.items false Rows
         → Serves explain_rules result old
         (outside (S.left source.new) (K.taken sink.new) (S.faults source.new) (K.faults sink.new)) }
 {
     let mut is_malformed = false;
+    let mut stage = Stage::Rows;
     'lines: loop {
         match reader.next_line(line) {
             Next::Line => {
-                match explain_line(reader.lines(), line, pending, sink) {
+                match explain_line(stage, reader.lines(), line, pending, sink) {
                     Ok(this) => is_malformed = either(is_malformed, this),
                     Err(_) => return Status::WriteFault,
                 }
+                stage = stage.after(line);
                 line.clear();
                 continue;
             }
@@ -80,13 +86,13 @@ fn serve_from<S: Source, K: Sink>(
         };
         match reader.fill(source) {
             Filled::Some => {}
-            Filled::End => return finish(is_malformed, reader.lines(), line, pending, sink),
+            Filled::End => return finish(is_malformed, stage, reader.lines(), line, pending, sink),
             Filled::Fault => return Status::ReadFault,
         }
     }
 }
 
-/// Runs `explain`: reads lines, and writes a line about each malformed one.
+/// Runs `explain`: reads lines, and writes a line about each that is malformed or misplaced.
 pub(crate) fn serve_explain<S: Source, K: Sink>(source: &mut S, sink: &mut K) -> Status
     ensures { Serves explain_rules result
         (outside (S.left source.old) (K.taken sink.old) (S.faults source.old) (K.faults sink.old))

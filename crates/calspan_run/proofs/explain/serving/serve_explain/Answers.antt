@@ -1,5 +1,3 @@
-use Rattle.std.proofs.Common.{[], refl, arith}
-use Rattle.std.proofs.KnownBytes.{Consumes-nil}
 use Rattle.calspan_run.proofs.ExplainLemmas.{explaining_begins}
 use Rattle.calspan_run.proofs.explain.serving.serve_explain.Goals as goal
 

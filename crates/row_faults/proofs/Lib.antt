@@ -1,0 +1,4 @@
+mod LetterBits
+mod YearLemmas
+mod FormLemmas
+mod AgreementLemmas

@@ -1,0 +1,3 @@
+pub mod RowFaults
+pub mod Stages
+pub mod Refusals
