@@ -47,6 +47,12 @@ ghost use Rattle.request_lines.specs.RequestSaid.{header_said, request_said};
 fn next_calendar(words: &mut Words) -> Option<AnyCalendarKind>
     ensures { IsReading (next_word kind_named (words_left words.old)) result (words_left words.new) }
 {
+    if words.take(b"iso") {
+        return Some(AnyCalendarKind::Iso);
+    }
+    if words.take_by_letter(b"gregorian") {
+        return Some(AnyCalendarKind::Gregorian);
+    }
     AnyCalendarKind::from_program_name(words.next()?)
 }
 
@@ -75,14 +81,14 @@ fn next_unit(words: &mut Words) -> Option<Option<DateDurationUnit>>
 fn next_overflow(words: &mut Words) -> Option<Option<Overflow>>
     ensures { IsReading (next_word overflow_named (words_left words.old)) result (words_left words.new) }
 {
-    if words.take(b"constrain") {
-        return Some(Some(Overflow::Constrain));
-    }
     if words.take(b"reject") {
         return Some(Some(Overflow::Reject));
     }
     if words.take(b"none") {
-        Some(None)
+        return Some(None);
+    }
+    if words.take(b"constrain") {
+        Some(Some(Overflow::Constrain))
     } else {
         None
     }

@@ -1,8 +1,9 @@
 //! A cursor over the words of a line.
-ghost use Rattle.std.specs.Prelude.{◌≡◌, ◌≤◌, ◌<◌, ◌==◌, IfSome, position, length, take, ◌∷◌};
+ghost use Rattle.std.specs.Prelude.{◌≡◌, ◌≤◌, ◌<◌, ◌==◌, IfSome, Some, position, length, take, ◌∷◌};
 ghost use Rattle.request_lines.specs.WordsLeft.{words_from};
 ghost use Rattle.word_values.specs.Numbers.{number_of};
 ghost use Rattle.request_lines.specs.Words.{words_of};
+ghost use Rattle.request_lines.specs.Reading.{next_word};
 
 use word_values::leading_digits;
 
@@ -34,6 +35,51 @@ fn first_bytes(text: &[u8], most: usize) -> &[u8]
     }
 }
 
+/// Returns the number that four digits spell, and the text behind the space after them. `None` if the text doesn't
+/// begin with four digits and a space.
+fn four_digits(text: &[u8]) -> Option<(u32, &[u8])>
+    ensures value { IfSome result (λ r. next_word (number_of 9) (words_of text.now) ≡ Some (r.0, words_of r.1.now)) }
+    ensures small { IfSome result (λ r. r.0 < 10000) }
+{
+    let [a, b, c, d, e, others @ ..] = text else {
+        return None;
+    };
+    if !(a.is_ascii_digit() && b.is_ascii_digit() && c.is_ascii_digit() && d.is_ascii_digit()) {
+        return None;
+    }
+    if *e != b' ' {
+        return None;
+    }
+    let high = u32::from(*a - b'0') * 10 + u32::from(*b - b'0');
+    let low = u32::from(*c - b'0') * 10 + u32::from(*d - b'0');
+    Some((high * 100 + low, others))
+}
+
+/// Returns the number that two digits spell, and the text behind the space after them, or `None` at the end of the
+/// text. `None` if the text doesn't begin with two digits and a space, or is two digits.
+fn two_digits(text: &[u8]) -> Option<(u32, Option<&[u8]>)>
+    ensures value { IfSome result (λ r. next_word (number_of 3) (words_of text.now) ≡ Some (r.0, words_from r.1)) }
+    ensures small { IfSome result (λ r. r.0 < 100) }
+{
+    let [a, b, rest @ ..] = text else {
+        return None;
+    };
+    if !(a.is_ascii_digit() && b.is_ascii_digit()) {
+        return None;
+    }
+    let number = u32::from(*a - b'0') * 10 + u32::from(*b - b'0');
+    match rest {
+        [] => Some((number, None)),
+        [c, others @ ..] => {
+            if *c == b' ' {
+                Some((number, Some(others)))
+            } else {
+                None
+            }
+        }
+    }
+}
+
 /// A cursor over the words of a line. One space separates two words, so there is an empty word between two spaces and
 /// after a space at the line's end. An empty line is one empty word.
 #[derive(Drop)]
@@ -42,10 +88,10 @@ pub struct Words<'a> {
 }
 
 impl<'a> Words<'a> {
-    ghost use Rattle.std.specs.Prelude.{[], MatchOption, IsTrue, ◌↔◌, true};
+    ghost use Rattle.std.specs.Prelude.{[], MatchOption, IsTrue, ◌↔◌, true, false};
     ghost use Rattle.std.specs.List.{list_all};
     ghost use Rattle.request_lines.specs.WordsLeft.{words_left};
-    ghost use Rattle.request_lines.specs.Reading.{IsReading, next_word};
+    ghost use Rattle.request_lines.specs.Reading.{IsReading};
     ghost use Rattle.request_lines.specs.Taking.{is_no_space, after_key, after_word, IsTaken};
 
     /// Creates a cursor before the first word of a line.
@@ -90,6 +136,30 @@ impl<'a> Words<'a> {
                 Some(value)
             }
         }
+    }
+
+    /// Takes the next word if it is four digits, and others come behind it. Returns their number.
+    #[inline(always)]
+    pub(crate) fn take_four_digits(&mut self) -> Option<u32>
+        ensures value { MatchOption result (words_left self.new ≡ words_left self.old)
+            (λ n. next_word (number_of 9) (words_left self.old) ≡ Some (n, words_left self.new)) }
+        ensures small { IfSome result (λ n. n < 10000) }
+    {
+        let (number, others) = four_digits(self.rest?)?;
+        self.rest = Some(others);
+        Some(number)
+    }
+
+    /// Takes the next word if it is two digits. Returns their number.
+    #[inline(always)]
+    pub(crate) fn take_two_digits(&mut self) -> Option<u32>
+        ensures value { MatchOption result (words_left self.new ≡ words_left self.old)
+            (λ n. next_word (number_of 3) (words_left self.old) ≡ Some (n, words_left self.new)) }
+        ensures small { IfSome result (λ n. n < 100) }
+    {
+        let (number, others) = two_digits(self.rest?)?;
+        self.rest = others;
+        Some(number)
     }
 
     /// Returns whether no word is left.
@@ -143,5 +213,21 @@ impl<'a> Words<'a> {
                 true
             }
         }
+    }
+
+    /// Takes the next word if it is `word`, as `take` does. Tests the first letter first, so that other words don't pay
+    /// for the comparison.
+    pub(crate) fn take_by_letter(&mut self, word: &[u8]) -> bool
+        requires { list_all is_no_space word.now ≡ true }
+        ensures taken { IsTrue result → after_word word.now (words_left self.old) ≡ Some (words_left self.new) }
+        ensures stays { result ≡ false → words_left self.new ≡ words_left self.old }
+    {
+        let Some(text) = self.rest else {
+            return false;
+        };
+        if text.first() != word.first() {
+            return false;
+        }
+        self.take(word)
     }
 }
