@@ -1,7 +1,6 @@
 -- What a list of holidays leaves at each step, and what is listed from its first day and rule on.
-use Rattle.std.proofs.Common.{◌≡◌, ◌∙◌, ℕ, ◌+◌, ℤ, pos, ◌+ℤ◌, ◌≤ℤ◌, int_le, Bool, cond, if◌then◌else◌, true, false, List, [], ◌∷◌, take, Option, Some, None, refl, sym, ap, subst, arith}
+use Rattle.std.proofs.Common.{◌≡◌, ◌∙◌, ℕ, ◌+◌, ℤ, pos, ◌+ℤ◌, ◌≤ℤ◌, Bool, cond, if◌then◌else◌, true, false, List, [], ◌∷◌, take, Option, Some, None, refl, sym, ap, subst}
 use Rattle.std.specs.Prelude.{MatchOption, int_lt, nat_lt}
-use Rattle.std.proofs.lemmas.Int.{ints}
 use Rattle.cal_holidays.specs.BookNames.{holidays_in}
 use Rattle.cal_holidays.specs.Books.{named_rules}
 use Rattle.cal_holidays.specs.Found.{stretch_of}
