@@ -84,12 +84,7 @@ fn push_field(text: &mut Vec<u8>, field: &[u8]) -> Option<()>
 }
 
 /// Appends the line about a fault of a record. `None` if there is no memory for it.
-fn push_fault(
-    text: &mut Vec<u8>,
-    number: u64,
-    row: &ByteRecord,
-    fault: RecordFault,
-) -> Option<()>
+fn push_fault(text: &mut Vec<u8>, number: u64, row: &ByteRecord, fault: RecordFault) -> Option<()>
     ensures { OnSome result (text.new.items ≡ text.old.items ++ field_line number (fields_of row.now) fault) }
 {
     text.extend_from_slice(&field_place(number, fault.field))
