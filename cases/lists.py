@@ -23,6 +23,8 @@ MOST_DAYS = 4000
 LAST_DAY = {b"anniversary": 7, b"recur": 7, b"rrule": 4, b"holidays": 2}
 SHORT = [[b"span"], [b"explain"], [b"explain", b"holidays"], [b"gen", b"100"], [b"convert", b"hebrew", b"iso", b"reject"]]
 PROCESSES = os.cpu_count() or 1
+# What Rust's `escape_debug` writes for some characters.
+ESCAPES = {"\\": "\\\\", "\n": "\\n", "\r": "\\r", "\t": "\\t", "'": "\\'", '"': '\\"'}
 
 
 @dataclass(frozen=True)
@@ -120,12 +122,18 @@ def fault_of_words(case: Case) -> str | None:
     return None
 
 
+def escaped(word: bytes) -> bytes:
+    """A word with its quotes, backslashes and what isn't printable escaped, as Rust's `escape_debug` does."""
+    text = "".join(ESCAPES.get(it, it if it.isprintable() else f"\\u{{{ord(it):x}}}") for it in word.decode())
+    return text.encode()
+
+
 def begin_of_refusal(words: list[bytes]) -> bytes:
     """What the program's line about words that are no command begins with: it names the first bad word."""
     if not all(map(is_text, words)):
         return b"calspan: a word isn't UTF-8; "
     bad = first_bad_word(words)
-    return b"calspan: word %d %s: " % (bad, words[bad - 1] if bad <= len(words) else b"is missing")
+    return b"calspan: word %d %s: " % (bad, escaped(words[bad - 1]) if bad <= len(words) else b"is missing")
 
 
 def compare_words(chance: random.Random, cases: list[Case], count: int) -> None:
