@@ -1,4 +1,4 @@
-mod ApartLemmas
+pub mod ApartLemmas
 mod AskedLemmas
 mod AskingLemmas
 mod BlockLemmas
@@ -29,7 +29,7 @@ mod WeekdayLemmas
 mod WeekdayMaskLemmas
 mod WeeklyDayLemmas
 mod WeeklyLemmas
-mod WeeklyStartLemmas
+pub mod WeeklyStartLemmas
 mod WeeksBlockLemmas
 mod WordLemmas
 mod YearDayLemmas
