@@ -50,7 +50,7 @@ field_is word f e =
     (keyed_or OrdinalMonth (codes "ordinal=") byte_of word None f (λ x h. h) (λ r. cc))))))) e
 
 -- what a word says is read of it
-field_reads : (word : List ℕ) (f : Field) → SaysField word f → field_read word ≡ Some f
+pub field_reads : (word : List ℕ) (f : Field) → SaysField word f → field_read word ≡ Some f
 field_reads word (Era x) h = ap field_read h.is ∙ ap (option_map Era) h.reads
 field_reads word (EraYear x) h = ap field_read h.is ∙ ap (option_map EraYear) h.reads
 field_reads word (ExtendedYear x) h = ap field_read h.is ∙ ap (option_map ExtendedYear) h.reads

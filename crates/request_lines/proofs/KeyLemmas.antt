@@ -8,7 +8,7 @@ use Rattle.request_lines.specs.Bags.{Field, has_key, with_field, with_word, bag_
 use Rattle.request_lines.specs.Taking.{after_word, after_key, IsTaken}
 
 -- what was read, beside the words that are left
-abbrev with_words : {T : Type 0} → List (List ℕ) → Option T → Option (T × List (List ℕ))
+abbrev pub with_words : {T : Type 0} → List (List ℕ) → Option T → Option (T × List (List ℕ))
 with_words {T} words o = option_map {U = T × List (List ℕ)} (λ y. (y, words)) o
 
 -- a choice by a key

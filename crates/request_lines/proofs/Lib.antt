@@ -3,8 +3,10 @@ pub mod TakingLemmas
 pub mod WholeWordLemmas
 pub mod NumberLemmas
 pub mod KeyLemmas
+pub mod PlainWordLemmas
 pub mod FieldLemmas
 pub mod BagLemmas
+pub mod PlainDateLemmas
 pub mod LineLemmas
 pub mod FormLemmas
 pub mod RowLemmas

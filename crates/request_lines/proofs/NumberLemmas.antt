@@ -13,7 +13,7 @@ use Rattle.request_lines.specs.Reading.{next_word}
 use Rattle.request_lines.specs.Taking.{is_no_space}
 use Rattle.request_lines.proofs.TakingLemmas.{parted, key_before}
 
-digit-no_space : (b : ℕ) → is_ascii_digit b ≡ true → is_no_space b ≡ true
+pub digit-no_space : (b : ℕ) → is_ascii_digit b ≡ true → is_no_space b ≡ true
 digit-no_space b h = grind (arith, nat_tests)
 
 digits-no_space : (word : List ℕ) → list_all is_ascii_digit word ≡ true → list_all is_no_space word ≡ true

@@ -1,9 +1,9 @@
 -- Words that are known, and keys, at the head of a text.
-use Rattle.std.proofs.Common.{◌≡◌, ◌≢◌, eqb, ⊎_elim, ℕ, Bool, true, false, not, cond, ◌==◌, ◌&&◌, List, [], ◌∷◌, ◌++◌, Option, Some, None, length, take, drop, is_some, IsTrue, refl, ◌∙◌, sym, ap}
+use Rattle.std.proofs.Common.{◌≡◌, ◌≢◌, ◌<◌, eqb, ⊎_elim, ℕ, Bool, true, false, not, cond, ◌==◌, ◌&&◌, List, [], ◌∷◌, ◌++◌, Option, Some, None, length, take, drop, is_some, IsTrue, refl, ◌∙◌, sym, ap}
 use Rattle.std.proofs.Common.{arith}
 use Rattle.std.proofs.lemmas.Bool.{false≢true}
 use Rattle.std.proofs.lemmas.Bool.Decides.{eqb_tells}
-use Rattle.std.proofs.lemmas.List.{take-append-drop, append_assoc, append-nil, length-append}
+use Rattle.std.proofs.lemmas.List.{take-append-drop, append_assoc, append-nil, length-append, length-take}
 use Rattle.std.proofs.Math.Seq.{take-append_seam, drop-append_seam, take-length}
 use Rattle.std.specs.Borrow.{Bor}
 use Rattle.std.specs.List.{onto_first, list_all}
@@ -139,6 +139,28 @@ other_word_stays name text lacks = ap (after_word name) p.is ∙ by (is_text p.w
         let same = same_text p.word name (sym e) in
         let has : has_key name p.word ≡ true = is_same_text (take (length name) p.word) name (ap (take (length name)) same ∙ take-length name) in
         absurd (false≢true (sym (key_of_word name text lacks) ∙ has))
+    by false e = refl
+
+-- the first bytes of a text are compared with as many bytes of a word
+pub first_bytes_are : (name text first : List ℕ) (n : ℕ) (differs same : Bool) → length name ≡ n → first ≡ take n text
+    → differs ≡ not (is_text first name) → differs ≡ not same → is_text (take (length name) text) name ≡ same
+first_bytes_are name text first n differs same long is means told =
+    ap (λ l. is_text l name) (ap (λ k. take k text) long ∙ sym is) ∙ by (is_text first name) same (sym means ∙ told)
+  where
+    by : (a b : Bool) → not a ≡ not b → a ≡ b
+    by true true e = refl
+    by false false e = refl
+    by true false e = cc
+    by false true e = cc
+
+-- a text with fewer bytes than a word doesn't begin with it
+pub too_short : (name text : List ℕ) (n : ℕ) → length name ≡ n → length text < n → is_text (take (length name) text) name ≡ false
+too_short name text n long short = by (is_text (take (length name) text) name) refl
+  where
+    by : (t : Bool) → t ≡ is_text (take (length name) text) name → t ≡ false
+    by true e =
+        let same = same_text (take (length name) text) name (sym e) in
+        absurd (omega (arith, ap length same, length-take (length name) text, long, short))
     by false e = refl
 
 -- words are left exactly where a text is

@@ -6,6 +6,7 @@ pub mod LineSaid
 pub mod Reading
 pub mod Bags
 pub mod FieldSaid
+pub mod PlainDates
 pub mod Requests
 pub mod BagForms
 pub mod Forms

@@ -6,6 +6,7 @@ ghost use Rattle.cal_types.specs.Bag.{bag_of};
 ghost use Rattle.cal_types.specs.Month.{month_read};
 ghost use Rattle.cal_types.specs.MonthParts.{month_parts};
 ghost use Rattle.request_lines.specs.Bags.{with_field, with_word, with_whole_word, with_rarer_word, bag_before_to, bag_of_all, is_word_byte};
+ghost use Rattle.request_lines.specs.PlainDates.{GoesOn};
 ghost use Rattle.request_lines.specs.Reading.{IsReading, next_word};
 ghost use Rattle.request_lines.specs.WordsLeft.{words_left};
 
@@ -99,13 +100,74 @@ fn set_next_field<'a>(fields: &mut DateFields<'a>, words: &mut Words<'a>) -> Opt
     set_next_rarer_field(fields, words)
 }
 
+/// Sets the year of the next word if this is `year=` with four digits, others come behind it, and no year is set. Returns
+/// whether it did.
+#[inline(always)]
+fn set_plain_year(fields: &mut DateFields, words: &mut Words) -> bool
+    ensures { GoesOn (bag_of fields.old) (words_left words.old) (bag_of fields.new) (words_left words.new) }
+{
+    if fields.extended_year.is_some() {
+        return false;
+    }
+    let Some(year) = words.take_plain_year() else {
+        return false;
+    };
+    fields.extended_year = Some(year);
+    true
+}
+
+/// Sets the month of the next word if this is `month=` with `M` and two digits, others come behind it, and no month is
+/// set. Returns whether it did.
+#[inline(always)]
+fn set_plain_month(fields: &mut DateFields, words: &mut Words) -> bool
+    ensures { GoesOn (bag_of fields.old) (words_left words.old) (bag_of fields.new) (words_left words.new) }
+{
+    if fields.month.is_some() {
+        return false;
+    }
+    let Some(month) = words.take_plain_month() else {
+        return false;
+    };
+    fields.month = Some(month);
+    true
+}
+
+/// Sets the day of the next word if this is `day=` with two digits, and no day is set.
+#[inline(always)]
+fn set_plain_day(fields: &mut DateFields, words: &mut Words)
+    ensures { GoesOn (bag_of fields.old) (words_left words.old) (bag_of fields.new) (words_left words.new) }
+{
+    if fields.day.is_some() {
+        return;
+    }
+    if let Some(day) = words.take_plain_day() {
+        fields.day = Some(day);
+    }
+}
+
+/// Sets the fields of the next words if these are a year, a month and a day in the forms that most have, or of as many
+/// of the three as are.
+#[inline(always)]
+fn set_plain_date(fields: &mut DateFields, words: &mut Words)
+    ensures { GoesOn (bag_of fields.old) (words_left words.old) (bag_of fields.new) (words_left words.new) }
+{
+    if !set_plain_year(fields, words) {
+        return;
+    }
+    if !set_plain_month(fields, words) {
+        return;
+    }
+    set_plain_day(fields, words);
+}
+
 /// Sets the fields of the words before `to`, and takes the word `to`. `None` if no word is `to`, or a word before it
 /// isn't `KEY=VALUE` with a known key and a valid value, or a key occurs twice.
 pub fn read_bag_to<'a>(fields: &mut DateFields<'a>, words: &mut Words<'a>) -> Option<()>
     ensures { let reading = bag_before_to (Some (bag_of fields.old)) (words_left words.old) in
         IsReading reading (option_map (λ _. bag_of fields.new) result) (words_left words.new) }
 {
-    while !words.take(b"to") {
+    set_plain_date(fields, words);
+    while !words.take_known(b"to") {
         set_next_field(fields, words)?;
     }
     Some(())
@@ -117,6 +179,7 @@ pub fn read_bag<'a>(fields: &mut DateFields<'a>, words: &mut Words<'a>) -> Optio
     ensures { let read = bag_of_all (Some (bag_of fields.old)) (words_left words.old) in
         option_map (λ _. bag_of fields.new) result ≡ read }
 {
+    set_plain_date(fields, words);
     while !words.is_done() {
         set_next_field(fields, words)?;
     }

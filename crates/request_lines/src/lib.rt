@@ -9,6 +9,7 @@ mod bag;
 mod era_row;
 pub mod laws;
 mod line;
+mod plain_words;
 mod reading;
 mod request;
 mod row;

@@ -11,11 +11,15 @@ use crate::words::Words;
 
 /// Takes the next word if it is `name`, which must not contain a space. `None` if it is another word.
 #[inline(always)]
-pub fn next_is(words: &mut Words, name: &[u8]) -> Option<()>
+pub fn next_is<const N: usize>(words: &mut Words, name: &[u8; N]) -> Option<()>
     requires { list_all is_no_space name.now ≡ true }
     ensures { IsReading (next_word (fixed_word name.now) (words_left words.old)) result (words_left words.new) }
 {
-    if words.take(name) { Some(()) } else { None }
+    if words.take_known(name) {
+        Some(())
+    } else {
+        None
+    }
 }
 
 /// Returns the number of the next word, of any length: an optional `-` and one to nine digits.

@@ -47,10 +47,10 @@ ghost use Rattle.request_lines.specs.RequestSaid.{header_said, request_said};
 fn next_calendar(words: &mut Words) -> Option<AnyCalendarKind>
     ensures { IsReading (next_word kind_named (words_left words.old)) result (words_left words.new) }
 {
-    if words.take(b"iso") {
+    if words.take_known(b"iso") {
         return Some(AnyCalendarKind::Iso);
     }
-    if words.take_by_letter(b"gregorian") {
+    if words.take_known(b"gregorian") {
         return Some(AnyCalendarKind::Gregorian);
     }
     AnyCalendarKind::from_program_name(words.next()?)
@@ -59,19 +59,19 @@ fn next_calendar(words: &mut Words) -> Option<AnyCalendarKind>
 fn next_unit(words: &mut Words) -> Option<Option<DateDurationUnit>>
     ensures { IsReading (next_word unit_named (words_left words.old)) result (words_left words.new) }
 {
-    if words.take(b"years") {
+    if words.take_known(b"years") {
         return Some(Some(DateDurationUnit::Years));
     }
-    if words.take(b"months") {
+    if words.take_known(b"months") {
         return Some(Some(DateDurationUnit::Months));
     }
-    if words.take(b"weeks") {
+    if words.take_known(b"weeks") {
         return Some(Some(DateDurationUnit::Weeks));
     }
-    if words.take(b"days") {
+    if words.take_known(b"days") {
         return Some(Some(DateDurationUnit::Days));
     }
-    if words.take(b"none") {
+    if words.take_known(b"none") {
         Some(None)
     } else {
         None
@@ -81,13 +81,13 @@ fn next_unit(words: &mut Words) -> Option<Option<DateDurationUnit>>
 fn next_overflow(words: &mut Words) -> Option<Option<Overflow>>
     ensures { IsReading (next_word overflow_named (words_left words.old)) result (words_left words.new) }
 {
-    if words.take(b"reject") {
+    if words.take_known(b"reject") {
         return Some(Some(Overflow::Reject));
     }
-    if words.take(b"none") {
+    if words.take_known(b"none") {
         return Some(None);
     }
-    if words.take(b"constrain") {
+    if words.take_known(b"constrain") {
         Some(Some(Overflow::Constrain))
     } else {
         None
@@ -97,13 +97,13 @@ fn next_overflow(words: &mut Words) -> Option<Option<Overflow>>
 fn next_missing_fields(words: &mut Words) -> Option<Option<MissingFieldsStrategy>>
     ensures { IsReading (next_word missing_fields_named (words_left words.old)) result (words_left words.new) }
 {
-    if words.take(b"reject") {
+    if words.take_known(b"reject") {
         return Some(Some(MissingFieldsStrategy::Reject));
     }
-    if words.take(b"ecma") {
+    if words.take_known(b"ecma") {
         return Some(Some(MissingFieldsStrategy::Ecma));
     }
-    if words.take(b"none") {
+    if words.take_known(b"none") {
         Some(None)
     } else {
         None

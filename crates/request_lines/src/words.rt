@@ -5,6 +5,8 @@ ghost use Rattle.word_values.specs.Numbers.{number_of};
 ghost use Rattle.request_lines.specs.Words.{words_of};
 ghost use Rattle.request_lines.specs.Reading.{next_word};
 
+use crate::plain_words::{four_digits, plain_day, plain_month, plain_year, two_digits};
+use cal_types::Month;
 use word_values::leading_digits;
 
 fn first_space(text: &[u8]) -> Option<usize>
@@ -35,51 +37,6 @@ fn first_bytes(text: &[u8], most: usize) -> &[u8]
     }
 }
 
-/// Returns the number that four digits spell, and the text behind the space after them. `None` if the text doesn't
-/// begin with four digits and a space.
-fn four_digits(text: &[u8]) -> Option<(u32, &[u8])>
-    ensures value { IfSome result (λ r. next_word (number_of 9) (words_of text.now) ≡ Some (r.0, words_of r.1.now)) }
-    ensures small { IfSome result (λ r. r.0 < 10000) }
-{
-    let [a, b, c, d, e, others @ ..] = text else {
-        return None;
-    };
-    if !(a.is_ascii_digit() && b.is_ascii_digit() && c.is_ascii_digit() && d.is_ascii_digit()) {
-        return None;
-    }
-    if *e != b' ' {
-        return None;
-    }
-    let high = u32::from(*a - b'0') * 10 + u32::from(*b - b'0');
-    let low = u32::from(*c - b'0') * 10 + u32::from(*d - b'0');
-    Some((high * 100 + low, others))
-}
-
-/// Returns the number that two digits spell, and the text behind the space after them, or `None` at the end of the
-/// text. `None` if the text doesn't begin with two digits and a space, or is two digits.
-fn two_digits(text: &[u8]) -> Option<(u32, Option<&[u8]>)>
-    ensures value { IfSome result (λ r. next_word (number_of 3) (words_of text.now) ≡ Some (r.0, words_from r.1)) }
-    ensures small { IfSome result (λ r. r.0 < 100) }
-{
-    let [a, b, rest @ ..] = text else {
-        return None;
-    };
-    if !(a.is_ascii_digit() && b.is_ascii_digit()) {
-        return None;
-    }
-    let number = u32::from(*a - b'0') * 10 + u32::from(*b - b'0');
-    match rest {
-        [] => Some((number, None)),
-        [c, others @ ..] => {
-            if *c == b' ' {
-                Some((number, Some(others)))
-            } else {
-                None
-            }
-        }
-    }
-}
-
 /// A cursor over the words of a line. One space separates two words, so there is an empty word between two spaces and
 /// after a space at the line's end. An empty line is one empty word.
 #[derive(Drop)]
@@ -92,6 +49,9 @@ impl<'a> Words<'a> {
     ghost use Rattle.std.specs.List.{list_all};
     ghost use Rattle.request_lines.specs.WordsLeft.{words_left};
     ghost use Rattle.request_lines.specs.Reading.{IsReading};
+    ghost use Rattle.request_lines.specs.Bags as bags;
+    ghost use Rattle.request_lines.specs.Bags.{field_read};
+    ghost use Rattle.cal_types.specs.MonthParts.{month_parts};
     ghost use Rattle.request_lines.specs.Taking.{is_no_space, after_key, after_word, IsTaken};
 
     /// Creates a cursor before the first word of a line.
@@ -162,6 +122,39 @@ impl<'a> Words<'a> {
         Some(number)
     }
 
+    /// Takes the next word if it is `year=` with four digits, and others come behind it. Returns the year.
+    #[inline(always)]
+    pub(crate) fn take_plain_year(&mut self) -> Option<i32>
+        ensures { MatchOption result (words_left self.new ≡ words_left self.old)
+            (λ y. next_word field_read (words_left self.old) ≡ Some (bags.ExtendedYear y, words_left self.new)) }
+    {
+        let (year, others) = plain_year(self.rest?)?;
+        self.rest = Some(others);
+        Some(year)
+    }
+
+    /// Takes the next word if it is `month=` with `M` and two digits, and others come behind it. Returns the month.
+    #[inline(always)]
+    pub(crate) fn take_plain_month(&mut self) -> Option<Month>
+        ensures { MatchOption result (words_left self.new ≡ words_left self.old)
+            (λ m. next_word field_read (words_left self.old) ≡ Some (bags.Month (month_parts m), words_left self.new)) }
+    {
+        let (month, others) = plain_month(self.rest?)?;
+        self.rest = Some(others);
+        Some(month)
+    }
+
+    /// Takes the next word if it is `day=` with two digits. Returns the day.
+    #[inline(always)]
+    pub(crate) fn take_plain_day(&mut self) -> Option<u8>
+        ensures { MatchOption result (words_left self.new ≡ words_left self.old)
+            (λ d. next_word field_read (words_left self.old) ≡ Some (bags.Day d, words_left self.new)) }
+    {
+        let (day, rest) = plain_day(self.rest?)?;
+        self.rest = rest;
+        Some(day)
+    }
+
     /// Returns whether no word is left.
     pub fn is_done(&self) -> bool
         ensures { IsTrue result ↔ (words_left self.now ≡ []) }
@@ -215,19 +208,35 @@ impl<'a> Words<'a> {
         }
     }
 
-    /// Takes the next word if it is `word`, as `take` does. Tests the first letter first, so that other words don't pay
-    /// for the comparison.
-    pub(crate) fn take_by_letter(&mut self, word: &[u8]) -> bool
+    /// Takes the next word if it is `word`, as `take` does. Its length is known when the program is built, so that the
+    /// comparison becomes a test or two.
+    #[inline(always)]
+    pub(crate) fn take_known<const N: usize>(&mut self, word: &[u8; N]) -> bool
         requires { list_all is_no_space word.now ≡ true }
-        ensures taken { IsTrue result → after_word word.now (words_left self.old) ≡ Some (words_left self.new) }
-        ensures stays { result ≡ false → words_left self.new ≡ words_left self.old }
+        ensures { let old = words_left self.old in
+            IsTaken result (after_word word.now old) old (words_left self.new) }
     {
         let Some(text) = self.rest else {
             return false;
         };
-        if text.first() != word.first() {
+        let Some((first, behind)) = text.split_first_chunk::<N>() else {
+            return false;
+        };
+        if *first != *word {
             return false;
         }
-        self.take(word)
+        match behind.split_first() {
+            None => {
+                self.rest = None;
+                true
+            }
+            Some((next, others)) => {
+                if *next != b' ' {
+                    return false;
+                }
+                self.rest = Some(others);
+                true
+            }
+        }
     }
 }

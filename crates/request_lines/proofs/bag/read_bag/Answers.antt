@@ -19,4 +19,4 @@ loop-fields-preserved c =
 pub returns-in_err-set_next_field : goal.returns-in_err-set_next_field
 returns-in_err-set_next_field c =
     let fails = all_fail (bag_of c.loop-fields.fields) (words_left c.loop-fields.words) (λ e. false≢true (c.loop-fields-test.ensures.1 e)) c.in_err-set_next_field.ensures in
-    ap (option_map (λ _. bag_of c.set_next_field.new.fields)) c.from_residual.ensures ∙ sym (c.loop-fields.invariant ∙ fails)
+    ap (option_map (λ _. bag_of c.set_next_field.new.fields)) c.from_residual.ensures ∙ sym (c.set_plain_date.ensures.of_all ∙ c.loop-fields.invariant ∙ fails)

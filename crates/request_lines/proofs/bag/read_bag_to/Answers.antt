@@ -24,4 +24,4 @@ pub returns-in_err-set_next_field : goal.returns-in_err-set_next_field
 returns-in_err-set_next_field c =
     let stays = c.loop-fields-test.ensures in
     let fails = ap (next_word (with_word (bag_of c.loop-fields.fields))) (sym stays.1) ∙ c.in_err-set_next_field.ensures in
-    sets_nothing _ _ _ _ c.from_residual.ensures (c.loop-fields.invariant ∙ bag_fails (bag_of c.loop-fields.fields) (words_left c.loop-fields.words) stays.0 fails)
+    sets_nothing _ _ _ _ c.from_residual.ensures (c.set_plain_date.ensures.before_to ∙ c.loop-fields.invariant ∙ bag_fails (bag_of c.loop-fields.fields) (words_left c.loop-fields.words) stays.0 fails)
