@@ -1,0 +1,13 @@
+pub mod AlikeRules
+pub mod DayCounts
+pub mod DayDeciding
+pub mod Deciding
+pub mod ListLemmas
+pub mod ListedSets
+pub mod MonthDeciding
+pub mod OccurrenceLists
+pub mod PeriodDeciding
+pub mod RuleTexts
+pub mod SetDeciding
+pub mod TextDeciding
+pub mod YearDeciding

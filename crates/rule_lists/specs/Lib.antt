@@ -1,0 +1,2 @@
+pub mod RuleLists
+pub mod TextOccurrences
