@@ -3,9 +3,12 @@
 
 The definition is applied day by day, over all days of a window and some weeks beside it: whether a day is a rule's own day in a year in which
 the rule is kept, and where its weekday moves it. Nothing is shared with the program. Dates are counted from the lengths of years and months
-here; those of China, Korea and Umm al-Qura are read from the rows of published years.
+here; those of China, Korea and Umm al-Qura are read from the rows of published years. The occurrences of recurrence rules are those of
+`rrule.jsonl`, which an independent implementation made.
 """
 
+import datetime
+import json
 import random
 import re
 import subprocess
@@ -23,6 +26,10 @@ SEED, BOOKS, RULES = 20261201, 60, 12
 FIRST, LAST = 699500, 764500
 MARGIN = 900
 LINE = re.compile(r"-?\d+/default\.-?\d+/M\d\d/\d\d@(-?\d+) rule (\d+)")
+# An occurrence in a list of `rrule`: the extended year and the day number of its date.
+OCCURRENCE = re.compile(r"\d+ (-?\d+)/[^@]*@(-?\d+) ")
+# A day moves by at most so many days.
+REACH = 6
 
 # A year's months by their codes, with their lengths, in order.
 Months = list[tuple[str, int]]
@@ -272,9 +279,9 @@ def record(rng: random.Random, number: int, first: int, last: int) -> list[str]:
     return fields
 
 
-def listed(book: str, first: int, last: int) -> list[tuple[int, int]]:
+def listed(book: str, first: int, last: int, rows: str = BEFORE) -> list[tuple[int, int]]:
     words = [*PROGRAM, str(first), str(last)]
-    run = subprocess.run(words, input=(BEFORE + book).encode(), capture_output=True, check=False)
+    run = subprocess.run(words, input=(rows + book).encode(), capture_output=True, check=False)
     if run.returncode or run.stderr:
         raise SystemExit(f"{words}: status {run.returncode}, {run.stdout[:80]!r} and {run.stderr[-200:]!r} on\n{book}")
     return [tuple(map(int, LINE.fullmatch(line).groups())) for line in run.stdout.decode().splitlines()]
@@ -294,10 +301,36 @@ def compare(rng: random.Random) -> int:
     return len(got)
 
 
+def repeated_days(rng: random.Random, case: dict) -> int | None:
+    """How many days agree of a record with the recurrence rule of a case, or `None` if a book can't have the case's start or window."""
+    words = case["words"]
+    if case["status"] or len(words) != 7 or not words[5].lstrip("-").isdigit() or not 1 <= int(words[5]) <= datetime.date.max.toordinal():
+        return None
+    _, calendar, _, first, last, start, rule = words
+    first, last = int(first) + REACH, int(last) - REACH
+    if first > last:
+        return None
+    occurrences = [tuple(map(int, OCCURRENCE.match(line).groups())) for line in case["out"].splitlines()]
+    years = [year for year, _ in occurrences] or [0]
+    tail = [*year_fields(rng, min(years), max(years)), moved(rng)]
+    date = datetime.date.fromordinal(int(start)).isoformat()
+    kept = Rule(["rule", "rule 0", "iso", "", "", "", *tail])
+    named = {day + kept.moves.get(day % 7, 0) for year, day in occurrences if kept.is_kept(year)}
+    wanted = sorted((day, 0) for day in named if first <= day <= last)
+    book = f'rule,rule 0,{calendar},,"{rule}",{date},{",".join(tail)}\n'
+    got = listed(book, first, last, case["source"])
+    if got != wanted:
+        raise SystemExit(f"{first} to {last}: {got[:9]} in place of {wanted[:9]} in\n{case['source']}{book}")
+    return len(got)
+
+
 def main() -> int:
     rng = random.Random(SEED)
     counts = [compare(rng) for _ in range(BOOKS)]
     print(f"holidays: {sum(counts)} days of {len(counts)} made books agree with the definition of their rules")
+    cases = map(json.loads, (TOP / "cases/rrule.jsonl").read_text(encoding="utf-8").splitlines())
+    repeated = [it for it in (repeated_days(rng, case) for case in cases) if it is not None]
+    print(f"holidays: {sum(repeated)} days of {len(repeated)} recurrence rules in books agree with lists of their occurrences")
     return 0
 
 

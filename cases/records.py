@@ -27,6 +27,9 @@ WEEKDAY = "|".join(WEEKDAYS)
 DAY, NTH, OFFSET = r"0?[1-9]|[12][0-9]|3[01]", r"[1-5]|-1", r"-?0*([0-9]{1,2}|[123][0-9]{2}|400)"
 YEAR, EVERY = r"(-?[0-9]{1,6})?", r"(0*([1-9]|[1-9][0-9]|[123][0-9]{2}|400))?"
 MOVE = rf"({WEEKDAY})[-+][0-6]"
+# Recurrence rules for any calendar, and texts that are none.
+RECURRENCES = ["FREQ=DAILY", "freq=yearly;interval=4", "FREQ=MONTHLY;BYDAY=-1FR,2MO", "FREQ=WEEKLY;COUNT=3;BYDAY=SU"]
+STARTS = ["2024-02-29", "0000-01-01", "9999-12-31"]
 # What may stand in the fields 3 to 6 of each kind: patterns, and what the program says of them.
 CALENDAR = "|".join(NAMES)
 A_CALENDAR = "a calendar: " + ", ".join(NAMES[:-1]) + " or " + NAMES[-1]
@@ -36,12 +39,19 @@ KINDS = {
     "easter": [("gregorian|julian", "gregorian or julian"), ("", "nothing"), (OFFSET, "days after Easter, -400 to 400"), ("", "nothing")],
     "weekday": [(CALENDAR, A_CALENDAR), (None, A_MONTH), (NTH, "1 to 5, or -1 for the last"), (WEEKDAY, "monday to sunday")],
     "span": [(CALENDAR, A_CALENDAR), (None, A_MONTH), (DAY, "a day, 1 to 31"), (rf"-?({WEEKDAY})", "monday to sunday, or with a - before it")],
+    "rule": [
+        (CALENDAR, A_CALENDAR),
+        ("", "nothing"),
+        ("|".join(map(re.escape, RECURRENCES)), "a recurrence rule for the calendar"),
+        ("|".join(STARTS), "a date, YYYY-MM-DD"),
+    ],
 }
 A_YEAR = "nothing, or a year, an optional - and 1 to 6 digits"
 NEAR = [
     *["", " ", "0", "1", "5", "6", "-1", "7", "09", "31", "32", "031", "400", "401", "-400", "-401", "1000000", "-999999", "a\nb", 'a"b', "é"],
-    *["fixed", "easter", "weekday", "span", "Fixed", "gregorian", "julian", "iso", "hebrew", "chinese", "coptic", "iso8601", "exact", "constrain"],
+    *["fixed", "easter", "weekday", "span", "rule", "Fixed", "gregorian", "julian", "iso", "hebrew", "chinese", "coptic", "iso8601", "exact", "constrain"],
     *["M00", "M01", "M05L", "M12", "M13", "M1", "m01", "M01L", "monday", "-sunday", "--monday", "Sunday", "saturday-1", "sunday+6 monday-0"],
+    *[*RECURRENCES, *STARTS, "FREQ=DAILY;", "FREQ=HOURLY", "COUNT=3", "2023-02-29", "2024-2-29", "2024-02-30", "20240229", "+024-01-01"],
     *["sunday+7", "sunday+1 sunday+2", "sunday+1  monday+1", "sunday", "x" * 64, "x" * 65],
 ]
 
@@ -63,7 +73,7 @@ def fault_of(fields: list[str]) -> tuple[int, str] | None:
     kind, name, calendar, month = fields[:4]
     since, until, every, moves = [*fields[6:], "", "", "", ""][:4]
     if kind not in KINDS:
-        return 1, "fixed, easter, weekday or span"
+        return 1, "fixed, easter, weekday, span or rule"
     if not fits(r"[ -~]{1,64}", name):
         return 2, "a name, 1 to 64 printable ASCII characters"
     for number, (pattern, what) in enumerate(KINDS[kind], 3):
@@ -93,12 +103,13 @@ def record(chance: random.Random) -> list[str]:
     """A valid record, or one with a field or two exchanged, left out or put in."""
     kind = chance.choice(list(KINDS))
     calendar = chance.choice(["gregorian", "julian"] if kind == "easter" else NAMES)
-    month = "" if kind == "easter" else chance.choice(MONTHS.get(calendar, PLAIN))
+    month = "" if kind in ("easter", "rule") else chance.choice(MONTHS.get(calendar, PLAIN))
     rest = {
         "fixed": [str(chance.randint(1, 31)), chance.choice(["exact", "constrain"])],
         "easter": [str(chance.randint(-400, 400)), ""],
         "weekday": [chance.choice(["1", "5", "-1"]), chance.choice(WEEKDAYS)],
         "span": [str(chance.randint(1, 31)), chance.choice(["", "-"]) + chance.choice(WEEKDAYS)],
+        "rule": [chance.choice(RECURRENCES), chance.choice(STARTS)],
     }[kind]
     since = chance.choice(["", "2000", "-5"])
     years = [since, chance.choice(["", "2030"]), chance.choice(["", "4"]) if since else "", chance.choice(["", "saturday-1 sunday+1"])]

@@ -15,5 +15,7 @@ mod ObservedLemmas
 mod OwnDayLemmas
 mod PairLemmas
 pub mod RecordLemmas
+mod RepeatedLemmas
 mod SplitLemmas
+mod StartLemmas
 pub mod YieldLemmas

@@ -27,14 +27,16 @@ use Rattle.cal_types.proofs.DayDateLemmas.{date_on-on}
 use Rattle.cal_types.proofs.ListLemmas.{on-unique}
 use Rattle.cal_holidays.specs.BookNames.{holidays_in, names_if, names_in_book}
 use Rattle.cal_holidays.specs.Merging.{Stretch}
-use Rattle.cal_holidays.specs.NamedDays.{AreHolidays, IsEasterOf, IsInWeek, IsInYear, IsNthWeekday, IsSpanDay, MovesTo, Names, NamesIn, NamesInBook, OwnDay}
-use Rattle.cal_holidays.specs.Naming.{easter_list, easter_moon, has_weekday, is_date_in, is_easter, is_month, is_nth, is_nth_day, is_own, is_own_on, names_day, names_in, seven, week_end, year_on}
+use Rattle.cal_holidays.specs.NamedDays.{AreHolidays, IsEasterOf, IsInWeek, IsInYear, IsNthWeekday, IsSpanDay, MovesTo, Names, NamesBy, NamesIn, NamesInBook, OwnDay}
+use Rattle.cal_holidays.specs.Naming.{easter_list, easter_moon, has_weekday, is_date_in, is_easter, is_month, is_nth, is_nth_day, is_own, is_own_on, is_yes, names_by, names_day, names_in, recurs_on, repeats_on, repeats_own, seven, week_end, year_on}
 use Rattle.cal_holidays.specs.Observing.{IsKept, is_kept, move_on}
-use Rattle.cal_holidays.specs.Rules.{Easter, Fixed, NamedRule, Nth, Observed, Rule, Span, rule_calendar}
+use Rattle.cal_holidays.specs.RepeatedDays.{RepeatsOn}
+use Rattle.cal_holidays.specs.Rules.{DayRule, Easter, Fixed, Kept, NamedRule, Nth, Observed, Recurring, Repeated, Rule, Span, Yearly, rule_calendar}
 use Rattle.cal_holidays.specs.declared.holiday_rule.SpanWeek.{SpanWeek}
 use Rattle.cal_holidays.specs.declared.holiday_rule.SpanWeek.TheVariants.{From, UpTo}
 use Rattle.cal_holidays.proofs.EasterLemmas.{easter-of, easter_year, of-easter, sunday_tested, tested_sunday}
 use Rattle.cal_holidays.proofs.NthLemmas.{nth-true, true-nth}
+use Rattle.cal_holidays.specs.declared.rule_years.RuleYears.{RuleYears}
 use Rattle.cal_holidays.proofs.ObservingLemmas.{kept-true, true-kept}
 use Rattle.cal_holidays.proofs.PairLemmas.{listed-has, listed-of, listed-rises}
 
@@ -193,13 +195,60 @@ module _ (c : CalendarList) (law : IsLawful c) where
       let passes : is_own_on c kept t.own d ≡ true = true-and _ _ weekday (true-and _ _ (true-is_between _ _ t.own t.valid) there) in
       of_one (λ k. is_own_on c kept (n -ℤ move_on kept.moves k) k) d (floor_parts t.own 7 (omega arith)).1 (ap (λ (z : ℤ). is_own_on c kept z d) own ∙ passes)
 
+-- ---- recurrence rules
+
+yes-is : {A : Type 0} (d : Dec A) → is_yes d ≡ true → A
+yes-is (yes a) e = a
+yes-is (no never) e = absurd cc
+
+is-yes : {A : Type 0} (d : Dec A) → A → is_yes d ≡ true
+is-yes (yes a) b = refl
+is-yes (no never) b = absurd (never b)
+
+module _ (c : CalendarList) (law : IsLawful c) (r : Repeated) (years : RuleYears) (moves : List (Option ℤ)) where
+  -- a recurrence rule names a day by its test
+  pub repeats-by : (n : ℤ) → repeats_on c law r years moves n ≡ true → RepeatsOn c r years moves n
+  repeats-by n h =
+      let found = one_of (λ d. repeats_own c law r years (n -ℤ move_on moves d) d) h in
+      let d = found.0 in
+      let own = n -ℤ move_on moves d in
+      let rest = and-right (nat_eq (floor_mod own 7) d) _ found.2 in
+      let weekday : floor_mod own 7 ≡ d = eqb-true _ _ (and-left (nat_eq (floor_mod own 7) d) _ found.2) in
+      record {
+        own = own;
+        occurs = yes-is _ (and-left (recurs_on c law r own) _ rest);
+        year = year_on c own;
+        in_year = in-year c law own;
+        kept = kept-true years (year_on c own) (and-right (recurs_on c law r own) _ rest);
+        moved = omega (arith, signed, ap (move_on moves) weekday);
+      }
+
+  pub by-repeats : (n : ℤ) → RepeatsOn c r years moves n → repeats_on c law r years moves n ≡ true
+  by-repeats n h =
+      let d = floor_mod h.own 7 in
+      let own : n -ℤ move_on moves d ≡ h.own = omega (arith, signed, h.moved) in
+      let weekday : nat_eq (floor_mod h.own 7) d ≡ true = grind (arith, nat_tests) in
+      let year : is_kept years (year_on c h.own) ≡ true = ap (is_kept years) (year-in c law h.year h.own h.in_year) ∙ true-kept years h.year h.kept in
+      let passes : repeats_own c law r years h.own d ≡ true = true-and _ _ weekday (true-and _ _ (is-yes _ h.occurs) year) in
+      of_one (λ k. repeats_own c law r years (n -ℤ move_on moves k) k) d (floor_parts h.own 7 (omega arith)).1 (ap (λ (z : ℤ). repeats_own c law r years z d) own ∙ passes)
+
 -- ---- rules
 
-rule-named : (t : TableContents) (kept : Observed) (n : ℤ) → names_day t kept n ≡ true → Names t kept n
-rule-named t kept n h = rule-in (kind_system t (rule_calendar kept.rule)).list (kind_lawful t (rule_calendar kept.rule)) kept n h
+rule-by : (t : TableContents) (rule : DayRule) (years : RuleYears) (moves : List (Option ℤ)) (n : ℤ) → names_by t rule years moves n ≡ true → NamesBy t rule years moves n
+rule-by t (Yearly rule) years moves n h =
+    rule-in (kind_system t (rule_calendar rule)).list (kind_lawful t (rule_calendar rule)) (record { rule = rule; years = years; moves = moves }) n h
+rule-by t (Recurring r) years moves n h = repeats-by (kind_system t r.calendar).list (kind_lawful t r.calendar) r years moves n h
 
-named-rule : (t : TableContents) (kept : Observed) (n : ℤ) → Names t kept n → names_day t kept n ≡ true
-named-rule t kept n h = in-rule (kind_system t (rule_calendar kept.rule)).list (kind_lawful t (rule_calendar kept.rule)) kept n h
+by-rule : (t : TableContents) (rule : DayRule) (years : RuleYears) (moves : List (Option ℤ)) (n : ℤ) → NamesBy t rule years moves n → names_by t rule years moves n ≡ true
+by-rule t (Yearly rule) years moves n h =
+    in-rule (kind_system t (rule_calendar rule)).list (kind_lawful t (rule_calendar rule)) (record { rule = rule; years = years; moves = moves }) n h
+by-rule t (Recurring r) years moves n h = by-repeats (kind_system t r.calendar).list (kind_lawful t r.calendar) r years moves n h
+
+rule-named : (t : TableContents) (kept : Kept) (n : ℤ) → names_day t kept n ≡ true → Names t kept n
+rule-named t kept n h = rule-by t kept.rule kept.years kept.moves n h
+
+named-rule : (t : TableContents) (kept : Kept) (n : ℤ) → Names t kept n → names_day t kept n ≡ true
+named-rule t kept n h = by-rule t kept.rule kept.years kept.moves n h
 
 module _ (t : TableContents) (rules : List NamedRule) where
   book-by : (r : ℕ) (n : ℤ) (o : Option NamedRule) → slice_get rules r ≡ o → names_in_book t rules r n ≡ names_if t o n

@@ -1,23 +1,24 @@
 -- The first day that a rule names, from the years in which it is kept.
-use Rattle.std.proofs.Common.{◌≡◌, ℕ, Option, Some, None, sym, subst, arith, ℤ, pos, ◌-ℤ◌, ◌+ℤ◌, ◌≤ℤ◌}
+use Rattle.std.proofs.Common.{◌≡◌, ℕ, List, Option, Some, sym, subst, arith, ℤ, pos, ◌-ℤ◌, ◌+ℤ◌, ◌≤ℤ◌}
 use Rattle.cal_days.specs.Day.{IsBetween}
 use Rattle.cal_days.specs.Division.{floor_mod}
 use Rattle.cal_days.proofs.Signed.{signed}
-use Rattle.std.specs.Prelude.{option_map}
 use Rattle.cal_tables.specs.Kinds.{TableContents}
 use Rattle.cal_types.specs.CalendarList.{CalendarList, IsLawful}
 use Rattle.cal_holidays.specs.BookNames.{names_if}
 use Rattle.cal_holidays.specs.Merging.{IsFirstDay}
 use Rattle.cal_holidays.specs.Moving.{AreSteps, IsLeast, MovesIn, step_year}
 use Rattle.cal_holidays.specs.NamedDays.{MovesTo, NamesIn, OwnDay}
-use Rattle.cal_holidays.specs.Naming.{names_day, names_in}
+use Rattle.cal_holidays.specs.Naming.{names_day, names_in, repeats_on}
 use Rattle.cal_holidays.specs.Observing.{move_on}
 use Rattle.cal_holidays.specs.OwnDays.{AreYearsOf}
-use Rattle.cal_holidays.specs.Rules.{NamedRule, Observed}
+use Rattle.cal_holidays.specs.RepeatedDays.{RepeatsOn}
+use Rattle.cal_holidays.specs.Rules.{NamedRule, Observed, Repeated}
 use Rattle.cal_holidays.specs.declared.own_days.YearSpan.{YearSpan}
+use Rattle.cal_holidays.specs.declared.rule_years.RuleYears.{RuleYears}
 use Rattle.cal_holidays.specs.declared.rule_years.YearSteps.{YearSteps}
 use Rattle.cal_holidays.proofs.MovingLemmas.{least-first, least-same}
-use Rattle.cal_holidays.proofs.NamedDaysLemmas.{in-rule, rule-in}
+use Rattle.cal_holidays.proofs.NamedDaysLemmas.{by-repeats, in-rule, repeats-by, rule-in}
 
 pub first-observed : (c : CalendarList) → IsLawful c → (kept : Observed) (first last from to reach : ℤ) (span : YearSpan) (steps : YearSteps) (day : Option ℤ)
     → ((d : ℕ) → IsBetween (pos 0 -ℤ reach) reach (move_on kept.moves d)) → from ≡ first -ℤ reach → to ≡ last +ℤ reach
@@ -36,14 +37,13 @@ first-observed c law kept first last from to reach span steps day near begin end
     (on.0, omega (arith, signed, on.1, on.2), subst (λ (y : ℤ). MovesTo (OwnDay c kept.rule) kept.moves y n) on.1 t))
     is)
 
+-- the first day of a recurrence rule, by its test
+pub first-repeated : (c : CalendarList) (law : IsLawful c) (r : Repeated) (years : RuleYears) (moves : List (Option ℤ)) (first last : ℤ) (day : Option ℤ)
+    → IsLeast (RepeatsOn c r years moves) first last day → IsFirstDay (repeats_on c law r years moves) first last day
+first-repeated c law r years moves first last day is =
+    least-first first last (RepeatsOn c r years moves) (repeats_on c law r years moves) day (repeats-by c law r years moves) (by-repeats c law r years moves) is
+
 -- the same of a rule of a book
-pub first-of_rule : (t : TableContents) (o : Option NamedRule) (kept : Observed) (first last : ℤ) (day : Option ℤ) → option_map (λ named. named.kept) o ≡ Some kept
-    → IsFirstDay (names_day t kept) first last day → IsFirstDay (names_if t o) first last day
-first-of_rule t None kept first last day e h = absurd (no kept e)
-  where
-    no : (k : Observed) → ◌≡◌ {A = Option Observed} None (Some k) → ⊥
-    no k e = cc
-first-of_rule t (Some named) kept first last day e h = subst (λ (k : Observed). IsFirstDay (names_day t k) first last day) (sym (same named.kept kept e)) h
-  where
-    same : (a b : Observed) → ◌≡◌ {A = Option Observed} (Some a) (Some b) → a ≡ b
-    same a b e = cc
+pub first-of_rule : (t : TableContents) (o : Option NamedRule) (named : NamedRule) (first last : ℤ) (day : Option ℤ) → o ≡ Some named
+    → IsFirstDay (names_day t named.kept) first last day → IsFirstDay (names_if t o) first last day
+first-of_rule t o named first last day e h = subst (λ (p : Option NamedRule). IsFirstDay (names_if t p) first last day) (sym e) h

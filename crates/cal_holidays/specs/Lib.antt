@@ -1,6 +1,8 @@
 pub mod BookNames
 pub mod Books
+pub mod EntryRules
 pub mod Fields
+pub mod FirstRepeated
 pub mod Found
 pub mod Items
 pub mod Kept
@@ -14,7 +16,11 @@ pub mod Naming
 pub mod Observing
 pub mod OwnDays
 pub mod RecordMoves
+pub mod RecordStarts
 pub mod RecordWords
 pub mod RecordYears
 pub mod Records
+pub mod RecurrencesTold
+pub mod RepeatedDays
 pub mod Rules
+pub mod YearOfDay

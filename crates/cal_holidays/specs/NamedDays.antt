@@ -11,19 +11,18 @@ use Rattle.cal_types.specs.Month.{MonthParts}
 use Rattle.cal_types.specs.Weekday.{days_since_sunday}
 use Rattle.cal_types.specs.declared.leaping.Leaping.TheVariants.{Exact}
 use Rattle.cal_types.specs.declared.weekday.Weekday.{Weekday}
+pub use Rattle.cal_holidays.specs.YearOfDay.{IsInYear}
 use Rattle.cal_holidays.specs.Merging.{IsBefore}
 use Rattle.cal_holidays.specs.Observing.{IsKept, move_on}
-use Rattle.cal_holidays.specs.Rules.{Easter, Fixed, NamedRule, Nth, Observed, Rule, Span, rule_calendar}
+use Rattle.cal_holidays.specs.RepeatedDays.{RepeatsOn}
+use Rattle.cal_holidays.specs.Rules.{DayRule, Easter, Fixed, Kept, NamedRule, Nth, Observed, Recurring, Rule, Span, Yearly, rule_calendar}
 use Rattle.cal_holidays.specs.declared.holiday_rule.SpanWeek.{SpanWeek}
+use Rattle.cal_holidays.specs.declared.rule_years.RuleYears.{RuleYears}
 use Rattle.cal_holidays.specs.declared.holiday_rule.SpanWeek.TheVariants.{From, UpTo}
 
 -- a day is a weekday; day number 0 is a Sunday
 abbrev pub HasWeekday : Weekday → ℤ → Type 0
 HasWeekday weekday n = floor_mod n 7 ≡ days_since_sunday weekday
-
--- a day lies in a year of a calendar
-abbrev pub IsInYear : CalendarList → ℤ → ℤ → Type 0
-IsInYear c y n = (t : Date) × IsOn c n t × (t.year ≡ y)
 
 -- a day of a month of some days is the nth of its weekday: the first of it are the days 1 to 7, the second 8 to 14, and
 -- so on; and for -1 it is the last of its weekday, since a week later is past the month
@@ -78,8 +77,13 @@ abbrev pub NamesIn : CalendarList → Observed → ℤ → Type 0
 NamesIn c kept n = (y : ℤ) × IsKept kept.years y × MovesTo (OwnDay c kept.rule) kept.moves y n
 
 -- the same in the rule's calendar
-abbrev pub Names : TableContents → Observed → ℤ → Type 0
-Names t kept n = NamesIn (kind_system t (rule_calendar kept.rule)).list kept n
+abbrev pub NamesBy : TableContents → DayRule → RuleYears → List (Option ℤ) → ℤ → Type 0
+NamesBy t (Yearly rule) years moves n =
+    NamesIn (kind_system t (rule_calendar rule)).list (record { rule = rule; years = years; moves = moves }) n
+NamesBy t (Recurring r) years moves n = RepeatsOn (kind_system t r.calendar).list r years moves n
+
+abbrev pub Names : TableContents → Kept → ℤ → Type 0
+Names t kept n = NamesBy t kept.rule kept.years kept.moves n
 
 -- the rule of a number, counted from 0, names a day
 abbrev pub NamesInBook : TableContents → List NamedRule → ℕ → ℤ → Type 0

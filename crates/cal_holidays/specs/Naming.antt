@@ -1,6 +1,6 @@
 -- Which days a rule names: tests of a day.
 -- Source: the days of Easter are those of Reingold and Dershowitz, Calendrical Calculations, chapter 9.
-use Rattle.std.specs.Prelude.{ℕ, zero, suc, negsuc, ◌+◌, ◌-◌, ◌/◌, Bool, true, false, ◌&&◌, nat_eq, nat_lt, int_lt, int_le, List, [], ◌∷◌, ℤ, pos, ◌+ℤ◌, ◌-ℤ◌}
+use Rattle.std.specs.Prelude.{ℕ, zero, suc, negsuc, ◌+◌, ◌-◌, ◌/◌, Bool, true, false, ◌&&◌, nat_eq, nat_lt, int_lt, int_le, List, [], ◌∷◌, Option, ℤ, pos, ◌+ℤ◌, ◌-ℤ◌}
 use Rattle.std.specs.List.{list_any}
 use Rattle.cal_base.specs.OffsetList.{offset_list}
 use Rattle.cal_days.specs.Day.{is_valid_day}
@@ -10,15 +10,19 @@ use Rattle.cal_days.specs.Gregorian.{gregorian_start}
 use Rattle.cal_days.specs.Julian.{julian_start}
 use Rattle.cal_julian.specs.JulianList.{julian_list}
 use Rattle.cal_types.specs.Anniversary.{is_anniversary}
-use Rattle.cal_types.specs.CalendarList.{CalendarList, month_at, month_length}
+use Rattle.cal_types.specs.CalendarList.{CalendarList, IsLawful, month_at, month_length}
 use Rattle.cal_tables.specs.Kinds.{TableContents, kind_system}
 use Rattle.cal_types.specs.Month.{MonthParts, month_rank}
 use Rattle.cal_types.specs.Weekday.{days_since_sunday}
 use Rattle.cal_types.specs.declared.leaping.Leaping.TheVariants.{Exact}
 use Rattle.cal_types.specs.declared.weekday.Weekday.{Weekday}
 use Rattle.cal_types.specs.DayDates.{date_on}
+use Rattle.cal_types.proofs.DayDateLemmas.{date_on-on}
+use Rattle.cal_tables.proofs.KindLemmas.{kind_lawful}
+use Rattle.rule_lists.proofs.TextDeciding.{by_text}
 use Rattle.cal_holidays.specs.Observing.{is_kept, move_on}
-use Rattle.cal_holidays.specs.Rules.{Easter, Fixed, Nth, Observed, Rule, Span, rule_calendar}
+use Rattle.cal_holidays.specs.Rules.{DayRule, Easter, Fixed, Kept, Nth, Observed, Recurring, Repeated, Rule, Span, Yearly, rule_calendar}
+use Rattle.cal_holidays.specs.declared.rule_years.RuleYears.{RuleYears}
 use Rattle.cal_holidays.specs.declared.holiday_rule.SpanWeek.{SpanWeek}
 use Rattle.cal_holidays.specs.declared.holiday_rule.SpanWeek.TheVariants.{From, UpTo}
 
@@ -100,6 +104,32 @@ is_own_on c kept n d =
 abbrev pub names_in : CalendarList → Observed → ℤ → Bool
 names_in c kept n = list_any (λ d. is_own_on c kept (n -ℤ move_on kept.moves d) d) seven
 
+-- what is decided, as a test
+abbrev pub is_yes : {A : Type 0} → Dec A → Bool
+is_yes (yes _) = true
+is_yes (no _) = false
+
+-- whether the text of a recurrence rule has an occurrence on a day, from the day of its start on
+abbrev pub recurs_on : (c : CalendarList) → IsLawful c → Repeated → ℤ → Bool
+recurs_on c law r n =
+    is_yes (by_text c law r.calendar r.text (date_on c r.start) (date_on-on c law r.start).date n)
+
+-- whether a day lies so many days after a Sunday and is an occurrence in a year in which the rule is kept
+abbrev pub repeats_own : (c : CalendarList) → IsLawful c → Repeated → RuleYears → ℤ → ℕ → Bool
+repeats_own c law r years n d =
+    nat_eq (floor_mod n 7) d && (recurs_on c law r n && is_kept years (year_on c n))
+
+-- whether such a day moves to a day
+abbrev pub repeats_on : (c : CalendarList) → IsLawful c → Repeated → RuleYears → List (Option ℤ) → ℤ → Bool
+repeats_on c law r years moves n =
+    list_any (λ d. repeats_own c law r years (n -ℤ move_on moves d) d) seven
+
 -- the same in the rule's calendar
-abbrev pub names_day : TableContents → Observed → ℤ → Bool
-names_day t kept n = names_in (kind_system t (rule_calendar kept.rule)).list kept n
+abbrev pub names_by : TableContents → DayRule → RuleYears → List (Option ℤ) → ℤ → Bool
+names_by t (Yearly rule) years moves n =
+    names_in (kind_system t (rule_calendar rule)).list (record { rule = rule; years = years; moves = moves }) n
+names_by t (Recurring r) years moves n =
+    repeats_on (kind_system t r.calendar).list (kind_lawful t r.calendar) r years moves n
+
+abbrev pub names_day : TableContents → Kept → ℤ → Bool
+names_day t kept n = names_by t kept.rule kept.years kept.moves n

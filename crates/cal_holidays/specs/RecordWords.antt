@@ -24,7 +24,7 @@ among words text = option_map (λ word. word.1) (find (λ word. is_code text wor
 abbrev pub rule_kind : List ℕ → Option RuleKind
 rule_kind = among (
     (codes "fixed", way.Fixed) ∷ (codes "easter", way.Easter) ∷ (codes "weekday", way.Nth)
-    ∷ (codes "span", way.Span) ∷ [])
+    ∷ (codes "span", way.Span) ∷ (codes "rule", way.Recurring) ∷ [])
 
 abbrev pub leaping_named : List ℕ → Option Leaping
 leaping_named = among ((codes "exact", Exact) ∷ (codes "constrain", Constrain) ∷ [])

@@ -1,5 +1,5 @@
 -- Rules of holidays, the years in which they are kept, and the moves of their days.
-use Rattle.std.specs.Prelude.{ℕ, zero, suc, ℤ, pos, negsuc, neg_ℤ, Bool, true, false, ◌&&◌, nat_le, int_le, List, Option}
+use Rattle.std.specs.Prelude.{ℕ, zero, suc, ℤ, pos, negsuc, neg_ℤ, Bool, true, false, ◌&&◌, nat_le, int_le, List, Option, Some, None}
 use Rattle.cal_kinds.specs.declared.any_calendar_kind.AnyCalendarKind.{AnyCalendarKind}
 use Rattle.cal_kinds.specs.declared.any_calendar_kind.AnyCalendarKind.TheVariants as kind
 use Rattle.cal_types.specs.Month.{MonthParts}
@@ -73,7 +73,42 @@ observed o = record { rule = rule_said o.rule; years = o.years; moves = o.moves.
 abbrev pub is_proper_observed : Observed → Bool
 is_proper_observed kept = is_proper kept.rule && (are_proper_years kept.years && are_proper_moves kept.moves)
 
+-- a recurrence rule for a kind of calendar, by its text, and the day on which it starts
+pub record Repeated : Type 0 where
+  pub calendar : AnyCalendarKind
+  pub text : List ℕ
+  pub start : ℤ
+
+-- the rule of a record: one with at most one day in each year, or a recurrence rule
+pub data DayRule : Type 0 where
+  Yearly : Rule → DayRule
+  Recurring : Repeated → DayRule
+
+-- a rule, the years in which it is kept, and by how many days its days move, by weekdays from Sunday on
+pub record Kept : Type 0 where
+  pub rule : DayRule
+  pub years : RuleYears
+  pub moves : List (Option ℤ)
+
+-- whether the numbers of a rule are in their ranges; a recurrence rule has none that could be out of them
+abbrev pub is_proper_rule : DayRule → Bool
+is_proper_rule (Yearly rule) = is_proper rule
+is_proper_rule (Recurring r) = true
+
+-- whether all numbers are in their ranges
+abbrev pub is_proper_kept : Kept → Bool
+is_proper_kept kept = is_proper_rule kept.rule && (are_proper_years kept.years && are_proper_moves kept.moves)
+
+-- the rule of a day in each year, or the recurrence rule, if it is one
+abbrev pub yearly_of : DayRule → Option Rule
+yearly_of (Yearly rule) = Some rule
+yearly_of (Recurring r) = None
+
+abbrev pub recurrence_of : DayRule → Option Repeated
+recurrence_of (Yearly rule) = None
+recurrence_of (Recurring r) = Some r
+
 -- a holiday of a book: its name, and what names its days
 pub record NamedRule : Type 0 where
   pub name : List ℕ
-  pub kept : Observed
+  pub kept : Kept

@@ -3,14 +3,17 @@
 ghost use Rattle.std.specs.Prelude.{◌≡◌, option_map, [], get_or, true, IfOk};
 ghost use Rattle.std.specs.Result.{result_map_both};
 ghost use Rattle.cal_holidays.specs.Observing.{are_proper_years};
-ghost use Rattle.cal_holidays.specs.Records.{observed_read, rule_read, ten_fields, years_read};
-ghost use Rattle.cal_holidays.specs.Rules.{is_proper, is_proper_observed, observed, rule_said};
+ghost use Rattle.cal_holidays.specs.EntryRules.{IsSpelled, kept_said, recurring_said, rule_of_reading, yearly_said};
+ghost use Rattle.cal_rule.specs.RuleText.{IsRuleText};
+ghost use Rattle.cal_holidays.specs.Records.{kept_read, rule_read, ten_fields, years_read};
+ghost use Rattle.cal_holidays.specs.Rules.{is_proper, is_proper_kept, is_proper_rule, rule_said};
 ghost use Rattle.cal_holidays.specs.declared.record_words.RuleKind.TheVariants as way;
 ghost use Rattle.csv.specs.Records.{fields_of};
 
 use crate::holiday_rule::HolidayRule;
-use crate::observance::Observance;
+use crate::reading::{ReadRecurrence, ReadRule, Reading};
 use crate::record_moves::moves;
+use crate::record_starts::{recurrence, start};
 use crate::record_words::{
     RuleKind, day, is_julian, leaping, month_of, nth, offset, week, weekday,
 };
@@ -67,32 +70,36 @@ impl<'r> Fields<'r> {
 
     /// Reads the rule of a kind, the years in which it is kept, and the moves of its days. The error is the number of
     /// the first invalid field after the name.
-    pub(crate) fn observance(&self, kind: RuleKind) -> Result<Observance, u8>
-        ensures value { result_map_both observed (λ number. number) result
-            ≡ observed_read kind (fields_said self.now) }
-        ensures proper { IfOk result (λ o. is_proper_observed (observed o) ≡ true) }
+    pub(crate) fn reading(&self, kind: RuleKind) -> Result<Reading, u8>
+        ensures value { result_map_both (kept_said self.now.value.now) (λ number. number) result
+            ≡ kept_read kind (fields_said self.now) }
+        ensures proper { IfOk result (λ r. is_proper_kept (kept_said self.now.value.now r) ≡ true) }
+        ensures spelled { IfOk result (λ r. IsSpelled self.now.value.now r.rule) }
     {
         let rule = self.rule(kind)?;
         let years = self.years()?;
         let moves = moves(self.moved).ok_or(10)?;
-        Ok(Observance { rule, years, moves })
+        Ok(Reading { rule, years, moves })
     }
 
     /// Reads the rule of a kind. The error is the number of the first invalid one of the fields 3 to 6.
-    fn rule(&self, kind: RuleKind) -> Result<HolidayRule, u8>
-        ensures value { result_map_both rule_said (λ number. number) result ≡ rule_read kind (fields_said self.now) }
-        ensures proper { IfOk result (λ rule. is_proper (rule_said rule) ≡ true) }
+    fn rule(&self, kind: RuleKind) -> Result<ReadRule, u8>
+        ensures value { result_map_both (rule_of_reading self.now.value.now) (λ number. number) result
+            ≡ rule_read kind (fields_said self.now) }
+        ensures proper { IfOk result (λ rule. is_proper_rule (rule_of_reading self.now.value.now rule) ≡ true) }
+        ensures spelled { IfOk result (λ rule. IsSpelled self.now.value.now rule) }
     {
         match kind {
-            RuleKind::Fixed => self.fixed(),
-            RuleKind::Easter => self.easter(),
-            RuleKind::Nth => self.nth(),
-            RuleKind::Span => self.span(),
+            RuleKind::Fixed => Ok(ReadRule::Yearly(self.fixed()?)),
+            RuleKind::Easter => Ok(ReadRule::Yearly(self.easter()?)),
+            RuleKind::Nth => Ok(ReadRule::Yearly(self.nth()?)),
+            RuleKind::Span => Ok(ReadRule::Yearly(self.span()?)),
+            RuleKind::Recurring => Ok(ReadRule::Recurring(self.recurring()?)),
         }
     }
 
     fn fixed(&self) -> Result<HolidayRule, u8>
-        ensures value { result_map_both rule_said (λ number. number) result
+        ensures value { result_map_both yearly_said (λ number. number) result
             ≡ rule_read way.Fixed (fields_said self.now) }
         ensures proper { IfOk result (λ rule. is_proper (rule_said rule) ≡ true) }
     {
@@ -109,7 +116,7 @@ impl<'r> Fields<'r> {
     }
 
     fn easter(&self) -> Result<HolidayRule, u8>
-        ensures value { result_map_both rule_said (λ number. number) result
+        ensures value { result_map_both yearly_said (λ number. number) result
             ≡ rule_read way.Easter (fields_said self.now) }
         ensures proper { IfOk result (λ rule. is_proper (rule_said rule) ≡ true) }
     {
@@ -125,7 +132,8 @@ impl<'r> Fields<'r> {
     }
 
     fn nth(&self) -> Result<HolidayRule, u8>
-        ensures value { result_map_both rule_said (λ number. number) result ≡ rule_read way.Nth (fields_said self.now) }
+        ensures value { result_map_both yearly_said (λ number. number) result
+            ≡ rule_read way.Nth (fields_said self.now) }
         ensures proper { IfOk result (λ rule. is_proper (rule_said rule) ≡ true) }
     {
         let calendar = AnyCalendarKind::from_program_name(self.calendar).ok_or(3)?;
@@ -141,7 +149,7 @@ impl<'r> Fields<'r> {
     }
 
     fn span(&self) -> Result<HolidayRule, u8>
-        ensures value { result_map_both rule_said (λ number. number) result
+        ensures value { result_map_both yearly_said (λ number. number) result
             ≡ rule_read way.Span (fields_said self.now) }
         ensures proper { IfOk result (λ rule. is_proper (rule_said rule) ≡ true) }
     {
@@ -155,6 +163,24 @@ impl<'r> Fields<'r> {
             day,
             week,
             weekday,
+        })
+    }
+
+    fn recurring(&self) -> Result<ReadRecurrence, u8>
+        ensures value { result_map_both (recurring_said self.now.value.now) (λ number. number) result
+            ≡ rule_read way.Recurring (fields_said self.now) }
+        ensures spelled { IfOk result (λ r. IsRuleText r.calendar self.now.value.now r.rule) }
+    {
+        let calendar = AnyCalendarKind::from_program_name(self.calendar).ok_or(3)?;
+        if !self.month.is_empty() {
+            return Err(4);
+        }
+        let rule = recurrence(calendar, self.value).ok_or(5)?;
+        let start = start(self.last).ok_or(6)?;
+        Ok(ReadRecurrence {
+            calendar,
+            rule,
+            start,
         })
     }
 

@@ -16,7 +16,7 @@ use cal_base::Calendar;
 use cal_days::RataDie;
 
 /// Returns the earlier of two days, if they are there.
-fn earlier_day(a: Option<RataDie>, b: Option<RataDie>) -> Option<RataDie>
+pub(crate) fn earlier_day(a: Option<RataDie>, b: Option<RataDie>) -> Option<RataDie>
     ensures { result ≡ earlier_day a b }
 {
     match (a, b) {
@@ -27,7 +27,7 @@ fn earlier_day(a: Option<RataDie>, b: Option<RataDie>) -> Option<RataDie>
 }
 
 /// Returns whether a day comes at least `reach` days before an own day. No own day after that one moves before it then.
-fn is_settled(best: &Option<RataDie>, own: &Option<RataDie>, reach: i64) -> bool
+pub(crate) fn is_settled(best: &Option<RataDie>, own: &Option<RataDie>, reach: i64) -> bool
     requires best { IsSomeValid best.now }
     requires reach { IsBetween (pos 0) (pos 6) reach }
     ensures { result ≡ is_settled best.now own.now reach }

@@ -12,6 +12,7 @@
 //! | `easter` | a name | `gregorian` or `julian` | empty | days after Easter, -400 to 400 | empty |
 //! | `weekday` | a name | a calendar | a month | `1` to `5`, or `-1` for the last | `monday` to `sunday` |
 //! | `span` | a name | a calendar | a month | the day, 1 to 31, in one or two digits | `monday` to `sunday`, or with a `-` before it |
+//! | `rule` | a name | a calendar | empty | a recurrence rule for the calendar | the day on which it starts, as an ISO date `YYYY-MM-DD` |
 //!
 //! The other fields may be empty or left out:
 //!
@@ -21,7 +22,9 @@
 //! - 10, by how many days the holiday moves if the rule's own day falls on a weekday: words such as `saturday-1 sunday+1`,
 //!   joined by single spaces, with a sign and a digit up to 6, for each weekday at most once.
 //!
-//! A rule's own day must be a valid day, also if it moves, and so must be the date of `span`.
+//! A rule's own day must be a valid day, also if it moves, and so must be the date of `span`. The own days of a recurrence
+//! rule are its occurrences (RFC 5545, 3.3.10; RFC 7529, 4); their years are those of fields 7 to 9. Quotes enclose a rule
+//! with commas.
 //!
 //! A name is 1 to 64 printable ASCII characters. A calendar is a name that
 //! [`AnyCalendarKind::from_program_name`](cal_kinds::AnyCalendarKind::from_program_name) reads, such as `iso` or
@@ -34,6 +37,7 @@
 //! fixed,Purim,hebrew,M06,14,constrain
 //! fixed,Juneteenth,gregorian,M06,19,exact,2021,,,saturday-1 sunday+1
 //! span,Advent,gregorian,M11,27,sunday
+//! rule,Election Day,gregorian,,"FREQ=YEARLY;INTERVAL=4;BYMONTH=11;BYDAY=TU;BYMONTHDAY=2,3,4,5,6,7,8",2024-11-05
 //! ```
 #![tactic(auto)]
 
@@ -45,6 +49,7 @@ mod entry;
 mod fields;
 mod first;
 mod first_observed;
+mod first_repeated;
 mod holiday_rule;
 mod kind_months;
 mod merged;
@@ -53,9 +58,13 @@ mod moves;
 mod nth;
 mod observance;
 mod own_days;
+mod reading;
 mod record_moves;
+mod record_starts;
 mod record_words;
 mod record_years;
+mod recurrence;
+mod recurring_rule;
 mod rest;
 mod rule_years;
 mod rules;
@@ -69,5 +78,6 @@ pub use book_holidays::{Holidays, holidays};
 pub use holiday_rule::{HolidayRule, SpanWeek};
 pub use merged::Holiday;
 pub use moves::Moves;
+pub use recurrence::Recurrence;
 pub use rest::Rest;
 pub use rule_years::RuleYears;

@@ -92,7 +92,7 @@ pub(crate) fn own_day<C: Calendar>(calendar: &C, rule: HolidayRule, year: i32) -
 }
 
 /// Returns the year that contains a day.
-fn year_on<C: Calendar>(calendar: &C, day: RataDie) -> i32
+pub(crate) fn year_on<C: Calendar>(calendar: &C, day: RataDie) -> i32
     requires { IsValidDay day }
     ensures year { (t : Date) → IsOn (C.system calendar.now).list day t → t.year ≡ result }
     ensures range { IsFieldYear result }

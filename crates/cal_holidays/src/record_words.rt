@@ -25,6 +25,8 @@ pub(crate) enum RuleKind {
     Nth,
     /// A weekday of the week from or up to a month and a day.
     Span,
+    /// A recurrence rule.
+    Recurring,
 }
 
 /// Returns whether a text is a word.
@@ -48,7 +50,10 @@ pub(crate) fn rule_kind(text: &[u8]) -> Option<RuleKind>
         return Some(RuleKind::Nth);
     }
     if is_word(text, b"span") {
-        Some(RuleKind::Span)
+        return Some(RuleKind::Span);
+    }
+    if is_word(text, b"rule") {
+        Some(RuleKind::Recurring)
     } else {
         None
     }

@@ -26,7 +26,7 @@ pub(crate) struct YearSteps {
     pub(crate) every: u16,
 }
 
-ghost use Rattle.cal_holidays.specs.Observing.{are_proper_years};
+ghost use Rattle.cal_holidays.specs.Observing.{are_proper_years, is_every, is_kept, is_since, is_until};
 ghost use Rattle.cal_holidays.specs.Moving.{AreSteps, IsFirstFrom, IsFirstStep, IsLastYear};
 
 /// Returns the first year from `low` on, in steps from `since` on.
@@ -56,7 +56,36 @@ fn earlier_year(until: Option<i32>, high: i32) -> i32
     }
 }
 
+/// Returns whether a year is the first one, or comes some number of steps after it. Each year is, if there is no first.
+fn is_since(since: Option<i32>, every: u16, year: i32) -> bool
+    requires { is_every since every ≡ true }
+    ensures { result ≡ is_since since every year }
+{
+    match since {
+        Some(since) => since <= year && year.abs_diff(since) % u32::from(every) == 0,
+        None => true,
+    }
+}
+
+/// Returns whether a year isn't past the last one.
+fn is_until(until: Option<i32>, year: i32) -> bool
+    ensures { result ≡ is_until until year }
+{
+    match until {
+        Some(last) => year <= last,
+        None => true,
+    }
+}
+
 impl RuleYears {
+    /// Returns whether a rule is kept in a year.
+    pub(crate) fn keeps(self, year: i32) -> bool
+        requires { are_proper_years self ≡ true }
+        ensures { result ≡ is_kept self year }
+    {
+        is_since(self.since, self.every, year) && is_until(self.until, year)
+    }
+
     /// Returns the first of the years from `low` on that come in steps after the first year.
     fn first_from(self, low: i32) -> i32
         requires proper { are_proper_years self ≡ true }

@@ -11,5 +11,6 @@
 //! ```
 
 pub use cal_holidays::{
-    Book, BookError, Holiday, HolidayRule, Holidays, Moves, Rest, RuleYears, SpanWeek, holidays,
+    Book, BookError, Holiday, HolidayRule, Holidays, Moves, Recurrence, Rest, RuleYears, SpanWeek,
+    holidays,
 };
