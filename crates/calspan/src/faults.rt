@@ -50,8 +50,8 @@ fn expected(part: CommandPart) -> &'static str {
     }
 }
 
-/// Writes the line about the first bad word, in which line feeds and the like are escaped. `words` begin with the
-/// program's name.
+/// Writes the line about the first invalid word. Line feeds and other control characters in it are escaped. The first
+/// of `words` is the program's name.
 fn refuse(rt: &HostRuntime, words: &[String]) -> io::Result<()> {
     let behind_name = match words.split_first() {
         Some((_, behind_name)) => behind_name,

@@ -6,7 +6,7 @@ use Rattle.cal_holidays.specs.Books.{book_records}
 use Rattle.cal_tables.specs.Kinds.{TableContents}
 use Rattle.record_faults.specs.RecordFaults.{field_text, record_fault}
 use Rattle.record_faults.specs.declared.expected.FieldExpected.{FieldExpected}
-use Rattle.record_faults.specs.declared.expected.FieldExpected.TheVariants.{Fields, Kind, Name, Calendar, EasterCalendar, Month, Nothing, Day, Offset, Leaping, Nth, Weekday, SpanWeekday, Year, Every, NoEvery, Moves}
+use Rattle.record_faults.specs.declared.expected.FieldExpected.TheVariants.{Fields, Kind, Name, Calendar, EasterCalendar, Month, Nothing, Day, Offset, Leaping, Nth, Weekday, SpanWeekday, Recurrence, Start, Year, Every, NoEvery, Moves}
 use Rattle.record_faults.specs.declared.faults.RecordFault.{RecordFault}
 use Rattle.line_faults.specs.declared.expected.Expected.TheVariants as place
 use Rattle.calspan_run.specs.Converted.{Answer}
@@ -15,7 +15,7 @@ use Rattle.calspan_run.specs.Explained.{ending_of}
 -- what may stand in a field, at the end of a line
 abbrev pub field_ending : FieldExpected → List ℕ
 field_ending Fields = codes ": six to ten fields" ++ 10 ∷ []
-field_ending Kind = codes ": fixed, easter, weekday or span" ++ 10 ∷ []
+field_ending Kind = codes ": fixed, easter, weekday, span or rule" ++ 10 ∷ []
 field_ending Name = codes ": a name, 1 to 64 printable ASCII characters" ++ 10 ∷ []
 field_ending Calendar = ending_of place.Calendar
 field_ending EasterCalendar = codes ": gregorian or julian" ++ 10 ∷ []
@@ -27,6 +27,8 @@ field_ending Leaping = codes ": exact or constrain" ++ 10 ∷ []
 field_ending Nth = codes ": 1 to 5, or -1 for the last" ++ 10 ∷ []
 field_ending Weekday = codes ": monday to sunday" ++ 10 ∷ []
 field_ending SpanWeekday = codes ": monday to sunday, or with a - before it" ++ 10 ∷ []
+field_ending Recurrence = codes ": a recurrence rule for the calendar" ++ 10 ∷ []
+field_ending Start = codes ": a date, YYYY-MM-DD" ++ 10 ∷ []
 field_ending Year = codes ": nothing, or a year, an optional - and 1 to 6 digits" ++ 10 ∷ []
 field_ending Every = codes ": nothing, or years, 1 to 400" ++ 10 ∷ []
 field_ending NoEvery = codes ": nothing, since field 7 is empty" ++ 10 ∷ []

@@ -1,3 +1,4 @@
 pub mod ReadingLemmas
 pub mod RecordOrderLemmas
 pub mod FirstFieldLemmas
+pub mod FieldTextLemmas

@@ -1,2 +1,3 @@
 pub mod FirstFields
+pub mod FieldTexts
 pub mod RecordFaults

@@ -1,12 +1,12 @@
 -- The first invalid field of a record, and what may stand there.
-use Rattle.std.specs.Prelude.{ℕ, ◌-◌, ◌==◌, List, [], ◌∷◌, get_or, length, codes, Option, if◌then◌else◌}
+use Rattle.std.specs.Prelude.{ℕ, ◌-◌, ◌==◌, ◌||◌, List, [], ◌∷◌, get_or, length, codes, Option, if◌then◌else◌}
 use Rattle.std.specs.Option.{option_map, unwrap_or}
 use Rattle.std.specs.Result.{result_err}
 use Rattle.cal_types.specs.YearNames.{is_code}
 use Rattle.csv.specs.Records.{field_at}
 use Rattle.cal_holidays.specs.Records.{record_read}
 use Rattle.record_faults.specs.declared.expected.FieldExpected.{FieldExpected}
-use Rattle.record_faults.specs.declared.expected.FieldExpected.TheVariants.{Fields, Kind, Name, Calendar, EasterCalendar, Month, Nothing, Day, Offset, Leaping, Nth, Weekday, SpanWeekday, Year, Every, NoEvery, Moves}
+use Rattle.record_faults.specs.declared.expected.FieldExpected.TheVariants.{Fields, Kind, Name, Calendar, EasterCalendar, Month, Nothing, Day, Offset, Leaping, Nth, Weekday, SpanWeekday, Recurrence, Start, Year, Every, NoEvery, Moves}
 use Rattle.record_faults.specs.declared.faults.RecordFault.{RecordFault}
 
 -- what may stand in the fields 3 to 6 of a record with this kind of rule
@@ -14,18 +14,20 @@ abbrev pub calendar_field : List ℕ → FieldExpected
 calendar_field kind = if is_code kind (codes "easter") then EasterCalendar else Calendar
 
 abbrev pub month_field : List ℕ → FieldExpected
-month_field kind = if is_code kind (codes "easter") then Nothing else Month
+month_field kind = if is_code kind (codes "easter") || is_code kind (codes "rule") then Nothing else Month
 
 abbrev pub value_field : List ℕ → FieldExpected
 value_field kind =
     if is_code kind (codes "easter") then Offset
-    else (if is_code kind (codes "weekday") then Nth else Day)
+    else (if is_code kind (codes "weekday") then Nth
+    else (if is_code kind (codes "rule") then Recurrence else Day))
 
 abbrev pub last_field : List ℕ → FieldExpected
 last_field kind =
     if is_code kind (codes "easter") then Nothing
     else (if is_code kind (codes "weekday") then Weekday
-    else (if is_code kind (codes "span") then SpanWeekday else Leaping))
+    else (if is_code kind (codes "span") then SpanWeekday
+    else (if is_code kind (codes "rule") then Start else Leaping)))
 
 -- what may stand in the field 9 of a record with this field 7
 abbrev pub every_field : List ℕ → FieldExpected

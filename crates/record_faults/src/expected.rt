@@ -5,7 +5,7 @@
 pub enum FieldExpected {
     /// Six to ten fields.
     Fields,
-    /// A kind of rule: `fixed`, `easter`, `weekday` or `span`.
+    /// A kind of rule: `fixed`, `easter`, `weekday`, `span` or `rule`.
     Kind,
     /// A name of 1 to 64 printable ASCII characters.
     Name,
@@ -29,6 +29,10 @@ pub enum FieldExpected {
     Weekday,
     /// A weekday, with a `-` before it or without.
     SpanWeekday,
+    /// A recurrence rule for the calendar.
+    Recurrence,
+    /// The day on which a recurrence rule starts, as a date `YYYY-MM-DD`.
+    Start,
     /// A year of one to six digits, or nothing.
     Year,
     /// Years from one to the next, 1 to 400, or nothing.

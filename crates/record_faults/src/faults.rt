@@ -61,7 +61,7 @@ fn calendar_field(kind: &[u8]) -> FieldExpected
 fn month_field(kind: &[u8]) -> FieldExpected
     ensures { result ≡ month_field kind.now }
 {
-    if is_word(kind, b"easter") {
+    if is_word(kind, b"easter") || is_word(kind, b"rule") {
         FieldExpected::Nothing
     } else {
         FieldExpected::Month
@@ -76,7 +76,10 @@ fn value_field(kind: &[u8]) -> FieldExpected
         return FieldExpected::Offset;
     }
     if is_word(kind, b"weekday") {
-        FieldExpected::Nth
+        return FieldExpected::Nth;
+    }
+    if is_word(kind, b"rule") {
+        FieldExpected::Recurrence
     } else {
         FieldExpected::Day
     }
@@ -93,7 +96,10 @@ fn last_field(kind: &[u8]) -> FieldExpected
         return FieldExpected::Weekday;
     }
     if is_word(kind, b"span") {
-        FieldExpected::SpanWeekday
+        return FieldExpected::SpanWeekday;
+    }
+    if is_word(kind, b"rule") {
+        FieldExpected::Start
     } else {
         FieldExpected::Leaping
     }

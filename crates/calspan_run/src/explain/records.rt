@@ -25,7 +25,7 @@ fn field_ending(expected: FieldExpected) -> &'static [u8]
 {
     match expected {
         FieldExpected::Fields => b": six to ten fields\n",
-        FieldExpected::Kind => b": fixed, easter, weekday or span\n",
+        FieldExpected::Kind => b": fixed, easter, weekday, span or rule\n",
         FieldExpected::Name => b": a name, 1 to 64 printable ASCII characters\n",
         FieldExpected::Calendar => ending(Expected::Calendar),
         FieldExpected::EasterCalendar => b": gregorian or julian\n",
@@ -37,6 +37,8 @@ fn field_ending(expected: FieldExpected) -> &'static [u8]
         FieldExpected::Nth => b": 1 to 5, or -1 for the last\n",
         FieldExpected::Weekday => b": monday to sunday\n",
         FieldExpected::SpanWeekday => b": monday to sunday, or with a - before it\n",
+        FieldExpected::Recurrence => b": a recurrence rule for the calendar\n",
+        FieldExpected::Start => b": a date, YYYY-MM-DD\n",
         FieldExpected::Year => b": nothing, or a year, an optional - and 1 to 6 digits\n",
         FieldExpected::Every => b": nothing, or years, 1 to 400\n",
         FieldExpected::NoEvery => b": nothing, since field 7 is empty\n",
