@@ -25,6 +25,7 @@ mod ListYieldLemmas
 mod ProgramLemmas
 mod RecordLineLemmas
 mod RuleListLemmas
+mod RuleTextLemmas
 mod RuleYieldLemmas
 mod SameDayLemmas
 mod ServingLemmas

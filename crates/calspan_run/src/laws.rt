@@ -2,8 +2,10 @@
 ghost use Rattle.calspan_run.specs.Answers.{IsAnswers};
 ghost use Rattle.command_line.specs.Asked.{AnniversaryAsked, HolidaysAsked, RecurAsked};
 ghost use Rattle.command_line.specs.ConvertAsked.{ConvertAsked};
+ghost use Rattle.command_line.specs.RruleAsked.{RruleAsked};
 ghost use Rattle.calspan_run.specs.Laws.{AnniversariesAreMeant, HolidaysAreMeant, OccurrencesAreMeant, EveryInputHas, IsUnique, PrefixesHavePrefixes, EveryNumberHasOneLine, EndsAsConvert, EndsAsHolidays, EndsAsList};
 ghost use Rattle.calspan_run.specs.ListTexts.{ListsAnniversaries, ListsOccurrences};
+ghost use Rattle.calspan_run.specs.RuleLists.{ListsRule};
 ghost use Rattle.calspan_run.specs.Rules.{holiday_rules, list_rules, record_rules};
 ghost use Rattle.calspan_run.specs.Streaming.{convert_rules};
 
@@ -49,6 +51,13 @@ pub fn recurrences_have_one_text()
 /// each once and in order.
 pub fn occurrences_are_meant()
     ensures { OccurrencesAreMeant }
+{}
+
+/// Every input has exactly one text and one status with any arguments of `rrule`: every text of a rule spells one rule or
+/// has one first error, and every rule has one list.
+pub fn rules_have_one_text()
+    ensures exists { (asked : RruleAsked) → EveryInputHas (list_rules (ListsRule asked)).Says }
+    ensures unique { (asked : RruleAsked) → IsUnique (list_rules (ListsRule asked)).Says }
 {}
 
 /// Every input has exactly one text and one status with any arguments of `holidays`.
