@@ -16,7 +16,15 @@ fn show_holidays_of_a_book(rt: &impl Abort, alloc: Global) -> Option<()> {
     let book = Book::try_read(alloc, b"weekday,Thanksgiving,gregorian,M11,4,thursday").ok()?;
     assert!(rt; book.len() == 1);
     assert!(rt; book.name(0).first() == Some(&b'T'));
-    let rule = book.rule(0);
+    let rule = book.rule(0)?;
+
+    let text = b"rule,Election Day,gregorian,,FREQ=YEARLY;INTERVAL=4,2024-11-05";
+    let book = Book::try_read(alloc, text).ok()?;
+    assert!(rt; book.len() == 1);
+    let Some(rule) = book.recurrence(0) else {
+        return None;
+    };
+    assert!(rt; rule.start.to_i64_date() == 739195);
     Some(())
 }
 
