@@ -9,6 +9,7 @@ fixed,Purim,hebrew,M06,14,constrain
 easter,Easter,gregorian,,0,
 easter,Pascha,julian,,0,
 weekday,Thanksgiving,gregorian,M11,4,thursday
+rule,Election Day,gregorian,,\"FREQ=YEARLY;INTERVAL=4;BYMONTH=11;BYDAY=TU;BYMONTHDAY=2,3,4,5,6,7,8\",2024-11-05
 ";
 
 fn main() -> Result<(), Box<dyn std::error::Error>> {

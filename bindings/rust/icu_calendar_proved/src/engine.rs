@@ -1,6 +1,8 @@
 //! The calls with the types of this crate. A [`Chosen`] names a calendar of the engine, so no call fails for it.
 
 use crate::error::{DateAddError, DateFromFieldsError};
+#[cfg(feature = "alloc")]
+use crate::ffi::RawOccurrence;
 use crate::ffi::{self, Bag, RawDate, RawDuration, RawFields, Refusal};
 use crate::options::{
     DateAddOptions, DateDifferenceOptions, DateFromFieldsOptions, MissingFieldsStrategy, Overflow,
@@ -126,6 +128,10 @@ impl Parts {
         }
     }
 }
+
+/// The code for a text that is no recurrence rule of the calendar.
+#[cfg(feature = "alloc")]
+const INVALID_RULE: u8 = 22;
 
 /// The code of a call that can't fail for arguments of this module.
 #[cold]
@@ -296,6 +302,32 @@ impl Chosen {
                 weeks: raw.weeks,
                 days: raw.days,
             },
+            Err(code) => impossible(code),
+        }
+    }
+
+    /// Writes the first occurrences of a recurrence rule from one valid day to another to a room. Returns how many, and
+    /// the day from which the list goes on, or `None` if the text is no rule of the calendar. The start is a valid day,
+    /// too.
+    #[cfg(feature = "alloc")]
+    pub(crate) fn rule_days(
+        self,
+        start: RataDie,
+        rule: &[u8],
+        (first, last): (RataDie, RataDie),
+        items: &mut [RawOccurrence],
+    ) -> Option<(usize, RataDie)> {
+        let days = (first.to_i64_date(), last.to_i64_date());
+        match ffi::rule_days(
+            self.code,
+            self.years,
+            start.to_i64_date(),
+            rule,
+            days,
+            items,
+        ) {
+            Ok((written, next)) => Some((written, RataDie::new(next))),
+            Err(INVALID_RULE) => None,
             Err(code) => impossible(code),
         }
     }

@@ -48,10 +48,32 @@ pub(crate) struct RawDuration {
     pub(crate) is_negative: u8,
 }
 
+/// An occurrence of a recurrence rule (`icu_calendar_occurrence`).
+#[cfg(feature = "alloc")]
+#[repr(C)]
+#[derive(Clone, Copy, Debug, Default)]
+pub(crate) struct RawOccurrence {
+    pub(crate) day: i64,
+    _index: u32,
+}
+
+/// Why a text is no recurrence rule (`icu_calendar_rule_fault`).
+#[cfg(feature = "alloc")]
+#[repr(C)]
+#[derive(Clone, Copy, Default)]
+struct RawRuleFault {
+    _cause: u8,
+    _part: u8,
+}
+
 // The sizes that the header asserts.
 const _: () = assert!(core::mem::size_of::<RawDate>() == 24);
 const _: () = assert!(core::mem::size_of::<RawFields>() == 20);
 const _: () = assert!(core::mem::size_of::<RawDuration>() == 20);
+#[cfg(feature = "alloc")]
+const _: () = assert!(core::mem::size_of::<RawOccurrence>() == 16);
+#[cfg(feature = "alloc")]
+const _: () = assert!(core::mem::size_of::<RawRuleFault>() == 2);
 
 /// A call that failed: its code, and the greatest valid number or 0.
 #[derive(Clone, Copy)]
@@ -63,6 +85,8 @@ pub(crate) struct Refusal {
 /// The declarations of the header.
 mod raw {
     use super::{RawDate, RawDuration, RawFields};
+    #[cfg(feature = "alloc")]
+    use super::{RawOccurrence, RawRuleFault};
 
     extern "C" {
         pub(super) fn icu_calendar_date_of_day(
@@ -111,6 +135,21 @@ mod raw {
         ) -> u8;
         pub(super) fn icu_calendar_week_of_year(day: i64, year: *mut i32, week: *mut u8) -> u8;
         pub(super) fn icu_calendar_easter(rule: u8, year: i32, day: *mut i64) -> u8;
+        #[cfg(feature = "alloc")]
+        pub(super) fn icu_calendar_rule_days(
+            calendar: u8,
+            years: u8,
+            start: i64,
+            rule: *const u8,
+            rule_len: usize,
+            first: i64,
+            last: i64,
+            items: *mut RawOccurrence,
+            items_len: usize,
+            written: *mut usize,
+            next: *mut i64,
+            fault: *mut RawRuleFault,
+        ) -> u8;
         #[cfg(feature = "alloc")]
         pub(super) fn calspan(
             words: *const u8,
@@ -271,6 +310,44 @@ pub(crate) fn easter(rule: u8, year: i32) -> Result<i64, u8> {
     let code = unsafe { raw::icu_calendar_easter(rule, year, &mut day) };
     if code == 0 {
         Ok(day)
+    } else {
+        Err(code)
+    }
+}
+
+/// Writes the first occurrences of a recurrence rule in a window to the start of a room. Returns how many, and the day
+/// from which the list goes on.
+#[cfg(feature = "alloc")]
+pub(crate) fn rule_days(
+    calendar: u8,
+    years: u8,
+    start: i64,
+    rule: &[u8],
+    (first, last): (i64, i64),
+    items: &mut [RawOccurrence],
+) -> Result<(usize, i64), u8> {
+    let (mut written, mut next) = (0, first);
+    let mut fault = RawRuleFault::default();
+    // SAFETY: the text is borrowed, and the room is borrowed for writing, each with its own length; `written`, `next`
+    // and `fault` are three locals of the header's layout. The pointers aren't null even if a slice is empty.
+    let code = unsafe {
+        raw::icu_calendar_rule_days(
+            calendar,
+            years,
+            start,
+            rule.as_ptr(),
+            rule.len(),
+            first,
+            last,
+            items.as_mut_ptr(),
+            items.len(),
+            &mut written,
+            &mut next,
+            &mut fault,
+        )
+    };
+    if code == 0 {
+        Ok((written, next))
     } else {
         Err(code)
     }

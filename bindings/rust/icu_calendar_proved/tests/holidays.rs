@@ -127,9 +127,37 @@ fn year_near(numbers: &mut common::Numbers, year: i32, spread: u64) -> String {
     year.clamp(-999_999, 999_999).to_string()
 }
 
+/// Recurrence rules of all calendars.
+const RULES: [&str; 12] = [
+    "FREQ=YEARLY",
+    "FREQ=YEARLY;BYMONTH=2;BYMONTHDAY=30;SKIP=FORWARD",
+    "FREQ=YEARLY;BYMONTHDAY=-1;INTERVAL=3",
+    "FREQ=YEARLY;BYYEARDAY=1,-1",
+    "FREQ=YEARLY;BYWEEKNO=1,-1;BYDAY=MO",
+    "FREQ=MONTHLY;BYDAY=1MO,-1FR",
+    "FREQ=MONTHLY;BYDAY=MO,TU,WE,TH,FR;BYSETPOS=-1;COUNT=60",
+    "FREQ=MONTHLY;BYMONTHDAY=29;UNTIL=20240203",
+    "FREQ=WEEKLY;INTERVAL=2;BYDAY=TU,SA;WKST=SU",
+    "FREQ=DAILY;INTERVAL=40",
+    "FREQ=DAILY;COUNT=30",
+    "FREQ=HOURLY",
+];
+
+/// Makes what a record with a recurrence rule has after its calendar. The start may be near a day.
+fn repeated(numbers: &mut common::Numbers, near: i64) -> String {
+    let before = [0, 30, 4000, 90_000][numbers.below(4) as usize];
+    let start = near + 30 - numbers.below(before + 60) as i64;
+    let start = Date::from_rata_die(RataDie::new(start.clamp(-365, 3_652_059)), Iso);
+    let (year, month) = (start.extended_year(), start.month().ordinal);
+    let day = start.day_of_month().0;
+    let rule = RULES[numbers.below(RULES.len() as u64) as usize];
+    format!(",\"{rule}\",{year:04}-{month:02}-{day:02}")
+}
+
 /// Makes a record whose days may be near a day.
 fn record(numbers: &mut common::Numbers, number: usize, near: i64) -> String {
-    let kind = ["fixed", "easter", "weekday", "span", "span"][numbers.below(5) as usize];
+    let kinds = ["fixed", "easter", "weekday", "span", "rule"];
+    let kind = kinds[numbers.below(kinds.len() as u64) as usize];
     let calendar = match kind {
         "easter" => ["gregorian", "julian"][numbers.below(2) as usize],
         _ => common::NAMES[numbers.below(20) as usize],
@@ -149,6 +177,7 @@ fn record(numbers: &mut common::Numbers, number: usize, near: i64) -> String {
             let nth = ["1", "2", "3", "4", "5", "-1"][numbers.below(6) as usize];
             format!("{month},{nth},{weekday}")
         }
+        "rule" => repeated(numbers, near),
         _ => format!(
             "{month},{day},{}{weekday}",
             ["", "-"][numbers.below(2) as usize]
@@ -181,7 +210,7 @@ fn changed(numbers: &mut common::Numbers, text: &str) -> Vec<u8> {
 fn books_are_listed_as_by_the_program() {
     let mut numbers = common::Numbers(66);
     let mut lines = 0;
-    for turn in 0..300 {
+    for turn in 0..400 {
         let length = [0, 30, 400, 1500, 4000][numbers.below(5) as usize];
         let first = match turn % 10 {
             0 => ENDS.0 + numbers.below(400) as i64,
@@ -342,9 +371,33 @@ fn the_first_invalid_field_is_named() {
         ("span,X,iso,M11,0,sunday", 5),
         ("span,X,iso,M11,27,--sunday", 6),
         ("span,X,iso,M11,27,+sunday", 6),
+        ("rules,X,iso,,FREQ=DAILY,2024-01-01", 1),
+        ("rule,,klingon,,FREQ=DAILY,2024-01-01", 2),
+        ("rule,X,klingon,M01,FREQ=DAILY,2024-01-01", 3),
+        ("rule,X,iso,M01,FREQ=HOURLY,2024-01-01", 4),
+        ("rule,X,iso,,,2024-01-01", 5),
+        ("rule,X,iso,,FREQ=HOURLY,2024-02-30", 5),
+        ("rule,X,iso,,FREQ=YEARLY;BYMONTH=5L,2024-01-01", 5),
+        ("rule,X,hebrew,,RSCALE=CHINESE;FREQ=DAILY,2024-01-01", 5),
+        ("rule,X,iso,,FREQ=WEEKLY;BYDAY=MO,TU,2024-01-01", 6),
+        ("rule,X,iso,,FREQ=DAILY,", 6),
+        ("rule,X,iso,,FREQ=DAILY,2023-02-29", 6),
+        ("rule,X,iso,,FREQ=DAILY,2024-13-01,x", 6),
+        ("rule,X,iso,,FREQ=DAILY,2024-00-01", 6),
+        ("rule,X,iso,,FREQ=DAILY,2024-1-01", 6),
+        ("rule,X,iso,,FREQ=DAILY,02024-01-01", 6),
+        ("rule,X,iso,,FREQ=DAILY,-024-01-01", 6),
+        ("rule,X,iso,,FREQ=DAILY,2024/01/01", 6),
+        ("rule,X,iso,,FREQ=DAILY,2024-01-01 ", 6),
+        ("rule,X,iso,,FREQ=DAILY,2024-01-01,x", 7),
+        ("rule,X,iso,,FREQ=DAILY,2024-01-01,,x", 8),
+        ("rule,X,iso,,FREQ=DAILY,2024-01-01,,,2", 9),
+        ("rule,X,iso,,FREQ=DAILY,2024-01-01,,,,x", 10),
     ] {
         let error = Book::try_read(record.as_bytes()).unwrap_err();
         assert_eq!(error, BookError { number: 1, field }, "{record}");
+        let wanted = listed_by_program(record.as_bytes(), (1, 1));
+        assert_eq!(wanted, format!("err record 1 field {field}\n"), "{record}");
     }
 }
 
@@ -357,7 +410,28 @@ fn the_ends_of_each_range_are_read() {
         "easter,X,gregorian,,0,,000001,-0,001,sunday+0",
         "span,X,iso,M02,31,-saturday,,,,monday-6 tuesday+6",
         "span,X,hebrew,M05L,01,monday,5000",
+        "rule,X,iso,,FREQ=DAILY,0000-01-01",
+        "rule,X,iso,,\"freq=daily\",9999-12-31,1,2,3,sunday+1",
+        "rule,X,chinese,,\"RSCALE=CHINESE;FREQ=YEARLY;BYMONTH=5L;BYMONTHDAY=1,15\",2024-02-29",
     ] {
         assert_eq!(Book::try_read(record.as_bytes()).unwrap().len(), 1);
     }
+}
+
+#[test]
+fn rules_of_books_have_published_years() {
+    let book = b"rule,Spring Festival,chinese,,FREQ=YEARLY;BYMONTH=1;BYMONTHDAY=1,1900-01-01\n\
+                 fixed,Spring Festival,chinese,M01,1,exact,1900\n";
+    let book = Book::try_read(book).unwrap();
+    let window = Window::try_new(RataDie::new(693_000), RataDie::new(770_000)).unwrap();
+    let days = |years, rule| {
+        let days = holidays(&book, years, window, 0);
+        let days = days.filter(|it| it.rule == rule).map(|it| it.day);
+        days.collect::<Vec<_>>()
+    };
+    for years in [Years::Published, Years::Computed] {
+        assert_eq!(days(years, 0), days(years, 1));
+    }
+    assert!(days(Years::Published, 0).len() > 200);
+    assert_ne!(days(Years::Published, 0), days(Years::Computed, 0));
 }

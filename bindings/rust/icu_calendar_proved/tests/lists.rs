@@ -2,11 +2,12 @@
 
 mod common;
 
-use icu_calendar::holidays::{holidays, Book, Years};
+use icu_calendar::holidays::{holidays, Book, BookError, Years};
 use icu_calendar::lists::{anniversaries, AnniversaryError, Leaping, Missing, Rule, Window};
 use icu_calendar::rows::{Rows, RuleError};
 use icu_calendar::types::{Month, RataDie};
 use icu_calendar::{AnyCalendarKind, Date, Iso};
+use std::collections::BTreeSet;
 use std::fs;
 
 /// A case: the words of a command, what it reads and what it writes.
@@ -235,6 +236,89 @@ fn rules_are_the_programs() {
     assert!(compared > 100, "{compared}");
 }
 
+/// The records of a rule in a book: in all years, up to a year, and every third year from it on, when days move.
+fn records(calendar: &str, rule: &str, start: &Date<Iso>, year: i32) -> String {
+    let quoted = rule.replace('"', "\"\"");
+    let (number, month) = (start.extended_year(), start.month().ordinal);
+    let day = start.day_of_month().0;
+    let record = format!("rule,X,{calendar},,\"{quoted}\",{number:04}-{month:02}-{day:02}");
+    format!("{record}\n{record},,{year}\n{record},{year},,3,{MOVED}\n")
+}
+
+/// How days move, and by how many days each weekday from Sunday on.
+const MOVED: &str = "monday+6 tuesday-6 wednesday+1 thursday-1 saturday+3";
+const MOVES: [i64; 7] = [0, 6, -6, 1, -1, 0, 3];
+
+/// Returns the extended year and the day of each line in a list of the program.
+fn years_and_days(out: &str) -> Vec<(i32, i64)> {
+    let date = |line: &str| {
+        let date = line.split(' ').nth(1).unwrap();
+        let (year, _) = date.split_once('/').unwrap();
+        let (_, day) = date.rsplit_once('@').unwrap();
+        (year.parse().unwrap(), day.parse().unwrap())
+    };
+    out.lines().map(date).collect()
+}
+
+/// Returns the days of the three records, with their places.
+fn days_of_records(occurrences: &[(i32, i64)], from: i32, window: Window) -> Vec<(i64, usize)> {
+    let mut days = BTreeSet::new();
+    for &(year, day) in occurrences {
+        days.insert((day, 0));
+        if year <= from {
+            days.insert((day, 1));
+        }
+        if year >= from && (year - from) % 3 == 0 {
+            days.insert((day + MOVES[day.rem_euclid(7) as usize], 2));
+        }
+    }
+    let days = days.into_iter();
+    days.filter(|(day, _)| window.contains(RataDie::new(*day)))
+        .collect()
+}
+
+#[test]
+fn rules_of_books_are_the_programs() {
+    let (mut compared, mut refused) = (0, 0);
+    for case in cases("rrule") {
+        let words: Vec<&str> = case.words.iter().map(String::as_str).collect();
+        let &[_, calendar, _, first, last, start, rule] = &words[..] else {
+            continue;
+        };
+        let Ok(start) = start.parse().map(RataDie::new) else {
+            continue;
+        };
+        let start = Date::from_rata_die(start, Iso);
+        let is_other = ["err InvalidWindow\n", "err Overflow\n"].contains(&case.out.as_str());
+        if is_about_lines(&case) || is_other || !(0..=9999).contains(&start.extended_year()) {
+            continue;
+        }
+        if case.out.starts_with("err ") {
+            let error = Book::try_read(records(calendar, rule, &start, 0).as_bytes()).unwrap_err();
+            let (number, field) = (1, 5);
+            assert_eq!(error, BookError { number, field }, "{words:?}");
+            refused += 1;
+            continue;
+        }
+        // A day moves by at most six days, so all that lead to a day of a window six days smaller are listed.
+        let days = |text: &str| text.parse::<i64>().unwrap();
+        let ends = (RataDie::new(days(first) + 6), RataDie::new(days(last) - 6));
+        let Some(window) = Window::try_new(ends.0, ends.1) else {
+            continue;
+        };
+        let occurrences = years_and_days(&case.out);
+        let middle = occurrences.get(occurrences.len() / 2);
+        let year = middle.map_or(0, |(year, _)| *year);
+        let book = Book::try_read(records(calendar, rule, &start, year).as_bytes()).unwrap();
+        let found = holidays(&book, Years::Computed, window, 0);
+        let found: Vec<_> = found.map(|it| (it.day.to_i64_date(), it.rule)).collect();
+        let wanted = days_of_records(&occurrences, year, window);
+        assert_eq!(found, wanted, "{words:?}");
+        compared += wanted.len();
+    }
+    assert!(compared > 1000 && refused > 50, "{compared}, {refused}");
+}
+
 fn compare(command: &str, list: impl Fn(&[&str], &Case) -> String) {
     let mut compared = 0;
     for case in cases(command) {
@@ -266,7 +350,9 @@ fn holidays_are_the_programs() {
 #[test]
 fn lists_are_resumed() {
     let window = Window::try_new(RataDie::new(700_000), RataDie::new(740_000)).unwrap();
-    let book = Book::try_read(&fs::read(common::top().join("books/jewish.csv")).unwrap()).unwrap();
+    let mut text = fs::read(common::top().join("books/jewish.csv")).unwrap();
+    text.extend(b"rule,Mondays,iso,,FREQ=WEEKLY;BYDAY=MO,1920-01-01\n");
+    let book = Book::try_read(&text).unwrap();
     let mut list = holidays(&book, Years::Published, window, 0);
     let whole: Vec<_> = list.clone().collect();
     let mut resumed = Vec::new();

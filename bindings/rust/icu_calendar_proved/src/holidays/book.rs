@@ -1,8 +1,8 @@
 //! Books of holidays.
 
-use super::entry::Entry;
+use super::entry::{Entry, EntryRule};
 use super::records::{behind_notes, Records};
-use super::rule::{HolidayRule, Moves, RuleYears};
+use super::rule::{HolidayRule, Moves, Recurrence, RuleYears};
 use crate::error::errors;
 use alloc::vec::Vec;
 use core::fmt;
@@ -113,7 +113,7 @@ impl Book {
         self.entries.is_empty()
     }
 
-    /// Returns a rule.
+    /// Returns a rule, or `None` if it is a recurrence rule, which [`Book::recurrence`] returns.
     ///
     /// # Panics
     ///
@@ -126,12 +126,40 @@ impl Book {
     ///
     /// # fn main() -> Result<(), Box<dyn std::error::Error>> {
     /// let book = Book::try_read(b"easter,Good Friday,gregorian,,-2,")?;
-    /// assert_eq!(book.rule(0), HolidayRule::Easter { julian: false, offset: -2 });
+    /// assert_eq!(book.rule(0), Some(HolidayRule::Easter { julian: false, offset: -2 }));
     /// # Ok(())
     /// # }
     /// ```
-    pub fn rule(&self, index: usize) -> HolidayRule {
-        self.entries[index].rule
+    pub fn rule(&self, index: usize) -> Option<HolidayRule> {
+        match self.entries[index].rule {
+            EntryRule::Yearly(rule) => Some(rule),
+            EntryRule::Recurring(_) => None,
+        }
+    }
+
+    /// Returns a recurrence rule, or `None` if the rule is another one, which [`Book::rule`] returns.
+    ///
+    /// # Panics
+    ///
+    /// Panics unless `index` is below [`Book::len`].
+    ///
+    /// # Examples
+    ///
+    /// ```
+    /// use icu_calendar::holidays::Book;
+    ///
+    /// # fn main() -> Result<(), Box<dyn std::error::Error>> {
+    /// let book = Book::try_read(b"rule,Payday,iso,,FREQ=MONTHLY;BYMONTHDAY=-1,2024-01-01")?;
+    /// assert_eq!(book.recurrence(0).unwrap().text, "FREQ=MONTHLY;BYMONTHDAY=-1");
+    /// assert_eq!(book.rule(0), None);
+    /// # Ok(())
+    /// # }
+    /// ```
+    pub fn recurrence(&self, index: usize) -> Option<Recurrence<'_>> {
+        match &self.entries[index].rule {
+            EntryRule::Yearly(_) => None,
+            EntryRule::Recurring(rule) => Some(rule.told()),
+        }
     }
 
     /// Returns the years in which a rule is kept.

@@ -1,8 +1,9 @@
 //! The first day of a rule from a day on.
 
-use super::entry::Entry;
+use super::entry::{Entry, EntryRule};
 use super::list::Years;
-use super::rule::{HolidayRule, SpanWeek};
+use super::occurrences::Occurrences;
+use super::rule::{HolidayRule, Moves, Recurrence, SpanWeek};
 use crate::any_calendar::{AnyCalendar, AnyCalendarKind};
 use crate::calendar::Sealed;
 use crate::engine::{easter, Chosen, Parts, FIRST_DAY, LAST_DAY};
@@ -17,28 +18,82 @@ const YEARS_BESIDE: i32 = 2;
 /// How far a day of `span` lies from its date.
 const DAYS_BESIDE: i64 = 6;
 
+/// The first day of a window to which own days move, of those that were looked at.
+struct First {
+    window: Window,
+    moves: Moves,
+    day: Option<RataDie>,
+}
+
+impl First {
+    /// Looks at an own day.
+    fn add(&mut self, own: RataDie) {
+        let moved = self.moves.moved(own);
+        if self.window.contains(moved) && self.day.map_or(true, |day| moved < day) {
+            self.day = Some(moved);
+        }
+    }
+
+    /// Returns whether the days behind an own day, moved back as far as can be, are no earlier.
+    fn is_settled(&self, own: RataDie) -> bool {
+        self.day.is_some_and(|day| day + self.moves.reach() <= own)
+    }
+}
+
 /// Returns the first day of a record in a window.
 pub(super) fn first_day(entry: &Entry, years: Years, window: Window) -> Option<RataDie> {
-    let chosen = chosen(calendar_of(entry.rule), years);
-    let reach = entry.moves.reach();
-    let (low, high) = years_of(chosen, entry.rule, window, reach);
+    let first = First {
+        window,
+        moves: entry.moves,
+        day: None,
+    };
+    match &entry.rule {
+        EntryRule::Yearly(rule) => first_of_years(entry, *rule, years, first),
+        EntryRule::Recurring(rule) => first_repeated(entry, rule.told(), years, first),
+    }
+}
+
+/// Returns the first day that a rule with at most one day in each year names.
+fn first_of_years(
+    entry: &Entry,
+    rule: HolidayRule,
+    years: Years,
+    mut first: First,
+) -> Option<RataDie> {
+    let chosen = chosen(calendar_of(rule), years);
+    let (low, high) = years_of(chosen, rule, first.window, entry.moves.reach());
     let last_year = entry.years.last_to(high);
     let mut year = entry.years.first_from(low);
-    let mut best = None;
     while year <= last_year {
-        if let Some(own) = own_day(chosen, entry.rule, year) {
-            let moved = entry.moves.moved(own);
-            if window.contains(moved) && best.map_or(true, |day| moved < day) {
-                best = Some(moved);
-            }
-            // The days of later years, moved back as far as can be, are no earlier.
-            if best.is_some_and(|day| day + reach <= own) {
+        if let Some(own) = own_day(chosen, rule, year) {
+            first.add(own);
+            if first.is_settled(own) {
                 break;
             }
         }
         year += i32::from(entry.years.every);
     }
-    best
+    first.day
+}
+
+/// Returns the first day that a recurrence rule names.
+fn first_repeated(
+    entry: &Entry,
+    rule: Recurrence<'_>,
+    years: Years,
+    mut first: First,
+) -> Option<RataDie> {
+    let chosen = chosen(rule.calendar, years);
+    let around = first.window.around(entry.moves.reach());
+    for own in Occurrences::new(chosen, rule, around) {
+        if entry.years.keeps(chosen.date_of_day(own).extended_year) {
+            first.add(own);
+        }
+        if first.is_settled(own) {
+            break;
+        }
+    }
+    first.day
 }
 
 /// Returns the calendar whose years a rule counts.

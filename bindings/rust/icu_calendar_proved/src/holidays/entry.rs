@@ -1,10 +1,12 @@
 //! What is read of a record: six to ten fields, of which the first invalid one is told.
 
-use super::rule::{HolidayRule, Moves, RuleYears, SpanWeek};
+use super::occurrences::is_rule;
+use super::rule::{HolidayRule, Moves, Recurrence, RuleYears, SpanWeek};
 use crate::any_calendar::{AnyCalendar, AnyCalendarKind};
 use crate::calendar::Sealed;
+use crate::date::Date;
 use crate::lists::{knows_month, Leaping};
-use crate::types::{Month, Weekday};
+use crate::types::{Month, RataDie, Weekday};
 use alloc::string::String;
 use alloc::vec::Vec;
 use core::str;
@@ -13,9 +15,37 @@ use core::str;
 #[derive(Clone, Debug, PartialEq, Eq)]
 pub(super) struct Entry {
     pub(super) name: String,
-    pub(super) rule: HolidayRule,
+    pub(super) rule: EntryRule,
     pub(super) years: RuleYears,
     pub(super) moves: Moves,
+}
+
+/// What names the days of a holiday before they move.
+#[derive(Clone, Debug, PartialEq, Eq)]
+pub(super) enum EntryRule {
+    /// A rule that names at most one day in each year.
+    Yearly(HolidayRule),
+    /// A recurrence rule.
+    Recurring(RecurringRule),
+}
+
+/// A recurrence rule of a calendar, and the day on which it starts.
+#[derive(Clone, Debug, PartialEq, Eq)]
+pub(super) struct RecurringRule {
+    calendar: AnyCalendarKind,
+    text: String,
+    start: RataDie,
+}
+
+impl RecurringRule {
+    /// Returns the rule as a book tells it.
+    pub(super) fn told(&self) -> Recurrence<'_> {
+        Recurrence {
+            calendar: self.calendar,
+            text: &self.text,
+            start: self.start,
+        }
+    }
 }
 
 /// Reads a number of at most so many digits.
@@ -86,6 +116,29 @@ fn month_of(calendar: AnyCalendarKind, text: &[u8]) -> Option<Month> {
     knows_month(AnyCalendar::new(calendar).chosen(), month).then_some(month)
 }
 
+/// Reads a recurrence rule of a calendar.
+fn recurrence(calendar: AnyCalendarKind, text: &[u8]) -> Option<String> {
+    let text = str::from_utf8(text).ok()?;
+    is_rule(calendar, text).then(|| String::from(text))
+}
+
+/// Reads the day of an ISO date such as `2024-02-29`.
+fn start(text: &[u8]) -> Option<RataDie> {
+    let [year @ .., b'-', m, mm, b'-', d, dd] = text else {
+        return None;
+    };
+    if year.len() != 4 {
+        return None;
+    }
+    let (year, month, day) = (
+        number(year, 4)?,
+        number(&[*m, *mm], 2)?,
+        number(&[*d, *dd], 2)?,
+    );
+    let date = Date::try_new_iso(year, month as u8, day as u8).ok()?;
+    Some(date.to_rata_die())
+}
+
 /// Reads a year, or nothing.
 fn year(text: &[u8]) -> Option<Option<i32>> {
     if text.is_empty() {
@@ -132,10 +185,15 @@ fn moves(text: &[u8]) -> Option<Moves> {
 }
 
 /// Reads a rule from the fields 3 to 6, or finds the number of the first invalid one.
-fn rule(kind: &[u8], fields: [&[u8]; 4]) -> Result<HolidayRule, u8> {
-    if kind == b"easter" {
-        return easter_rule(fields);
+fn rule(kind: &[u8], fields: [&[u8]; 4]) -> Result<EntryRule, u8> {
+    match kind {
+        b"rule" => Ok(EntryRule::Recurring(recurring_rule(fields)?)),
+        b"easter" => Ok(EntryRule::Yearly(easter_rule(fields)?)),
+        kind => Ok(EntryRule::Yearly(rule_in_month(kind, fields)?)),
     }
+}
+
+fn rule_in_month(kind: &[u8], fields: [&[u8]; 4]) -> Result<HolidayRule, u8> {
     let [calendar, month, value, last] = fields;
     let calendar = AnyCalendarKind::from_program_name(calendar).ok_or(3)?;
     let month = month_of(calendar, month).ok_or(4)?;
@@ -182,6 +240,18 @@ fn easter_rule([calendar, month, value, last]: [&[u8]; 4]) -> Result<HolidayRule
     Ok(HolidayRule::Easter { julian, offset })
 }
 
+fn recurring_rule([calendar, month, value, last]: [&[u8]; 4]) -> Result<RecurringRule, u8> {
+    let calendar = AnyCalendarKind::from_program_name(calendar).ok_or(3)?;
+    if !month.is_empty() {
+        return Err(4);
+    }
+    Ok(RecurringRule {
+        calendar,
+        text: recurrence(calendar, value).ok_or(5)?,
+        start: start(last).ok_or(6)?,
+    })
+}
+
 /// Reads the years from the fields 7 to 9, or finds the number of the first invalid one.
 fn rule_years([since, until, steps]: [&[u8]; 3]) -> Result<RuleYears, u8> {
     let since = year(since).ok_or(7)?;
@@ -206,7 +276,7 @@ impl Entry {
         }
         let at = |place: usize| fields.get(place).map_or(&b""[..], Vec::as_slice);
         let kind = at(0);
-        if ![&b"fixed"[..], b"easter", b"weekday", b"span"].contains(&kind) {
+        if ![&b"fixed"[..], b"easter", b"weekday", b"span", b"rule"].contains(&kind) {
             return Err(1);
         }
         Ok(Entry {

@@ -22,9 +22,10 @@ mod book;
 mod days;
 mod entry;
 mod list;
+mod occurrences;
 mod records;
 mod rule;
 
 pub use book::{Book, BookError};
 pub use list::{holidays, Holiday, Holidays, Rest, Years};
-pub use rule::{HolidayRule, Moves, RuleYears, SpanWeek};
+pub use rule::{HolidayRule, Moves, Recurrence, RuleYears, SpanWeek};

@@ -4,7 +4,7 @@ use crate::any_calendar::AnyCalendarKind;
 use crate::lists::Leaping;
 use crate::types::{Month, RataDie, Weekday};
 
-/// A rule of a book, which names at most one day in each year.
+/// A rule of a book that names at most one day in each year.
 ///
 /// # Examples
 ///
@@ -13,7 +13,7 @@ use crate::types::{Month, RataDie, Weekday};
 ///
 /// # fn main() -> Result<(), Box<dyn std::error::Error>> {
 /// let book = Book::try_read(b"easter,Pascha,julian,,0,")?;
-/// assert_eq!(book.rule(0), HolidayRule::Easter { julian: true, offset: 0 });
+/// assert_eq!(book.rule(0), Some(HolidayRule::Easter { julian: true, offset: 0 }));
 /// # Ok(())
 /// # }
 /// ```
@@ -72,7 +72,7 @@ pub enum HolidayRule {
 ///
 /// # fn main() -> Result<(), Box<dyn std::error::Error>> {
 /// let book = Book::try_read(b"span,Advent Sunday,gregorian,M11,27,sunday")?;
-/// assert!(matches!(book.rule(0), HolidayRule::Span { week: SpanWeek::From, .. }));
+/// assert!(matches!(book.rule(0), Some(HolidayRule::Span { week: SpanWeek::From, .. })));
 /// # Ok(())
 /// # }
 /// ```
@@ -82,6 +82,33 @@ pub enum SpanWeek {
     From,
     /// The seven days up to the date.
     UpTo,
+}
+
+/// A recurrence rule of a book (RFC 5545, 3.3.10; RFC 7529, 4), which names its occurrences from its start on.
+///
+/// # Examples
+///
+/// ```
+/// use icu_calendar::holidays::Book;
+/// use icu_calendar::types::RataDie;
+/// use icu_calendar::AnyCalendarKind;
+///
+/// # fn main() -> Result<(), Box<dyn std::error::Error>> {
+/// let book = Book::try_read(b"rule,Rosh Chodesh,hebrew,,\"FREQ=MONTHLY;BYMONTHDAY=1,30\",2024-03-01")?;
+/// let rule = book.recurrence(0).unwrap();
+/// assert_eq!((rule.calendar, rule.text), (AnyCalendarKind::Hebrew, "FREQ=MONTHLY;BYMONTHDAY=1,30"));
+/// assert_eq!(rule.start, RataDie::new(738946));
+/// # Ok(())
+/// # }
+/// ```
+#[derive(Clone, Copy, Debug, PartialEq, Eq, Hash)]
+pub struct Recurrence<'b> {
+    /// The calendar.
+    pub calendar: AnyCalendarKind,
+    /// The text of the rule, which is one of the calendar.
+    pub text: &'b str,
+    /// The day on which the rule starts.
+    pub start: RataDie,
 }
 
 /// The years in which a rule is kept: extended years of its calendar, or the years of its Easter.
@@ -108,6 +135,11 @@ pub struct RuleYears {
 }
 
 impl RuleYears {
+    /// Returns whether the rule is kept in a year.
+    pub(super) fn keeps(self, year: i32) -> bool {
+        self.first_from(year) == year && self.last_to(year) == year
+    }
+
     /// Returns the first year from `low` on in which the rule is kept, if none is the last.
     pub(super) fn first_from(self, low: i32) -> i32 {
         match self.since {

@@ -106,6 +106,15 @@ impl Window {
         self.first <= day.to_i64_date() && day.to_i64_date() <= self.last
     }
 
+    /// Returns the window with so many days before and behind it, as far as they are valid.
+    #[cfg(feature = "alloc")]
+    pub(crate) fn around(self, days: i64) -> Window {
+        Window {
+            first: FIRST_DAY.max(self.first - days),
+            last: LAST_DAY.min(self.last + days),
+        }
+    }
+
     /// Returns the part of the window after one of its days, or `None` if that day is the last.
     ///
     /// # Examples
