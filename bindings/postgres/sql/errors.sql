@@ -83,6 +83,9 @@ SELECT refusal(format('SELECT %s', call)) FROM unnest(ARRAY[
     'calendar_holidays(''easter,Easter,gregorian,,0,,,,,sunday+7'', ''2024-01-01'', ''2024-12-31'')',
     'calendar_holidays(''easter,Easter,gregorian,,0,,,,,,'', ''2024-01-01'', ''2024-12-31'')',
     'calendar_holidays(''span,Advent,gregorian,M11,27,+sunday'', ''2024-01-01'', ''2024-12-31'')',
+    'calendar_holidays(''rule,Payday,iso,M01,FREQ=DAILY,2024-01-01'', ''2024-01-01'', ''2024-12-31'')',
+    'calendar_holidays(''rule,Payday,iso,,FREQ=HOURLY,2024-01-01'', ''2024-01-01'', ''2024-12-31'')',
+    'calendar_holidays(''rule,Payday,iso,,FREQ=DAILY,2023-02-29'', ''2024-01-01'', ''2024-12-31'')',
     'calendar_holidays(E''# rows\nrow persian 1502\neaster,Easter,gregorian,,0,'', ''2024-01-01'', ''2024-12-31'')',
     'calendar_holidays(''row'', ''2024-01-01'', ''2024-12-31'')',
     'calendar_holidays('''', ''2024-12-31'', ''2024-01-01'')',
@@ -97,4 +100,6 @@ SELECT refusal(format('SELECT %s', call)) FROM unnest(ARRAY[
 SET statement_timeout = '100ms';
 SELECT refusal($$SELECT count(*) FROM calendar_holidays(repeat(E'weekday,Never,coptic,M13,5,monday\n', 5000), '4713-01-01 BC', '999999-12-31')$$);
 SELECT refusal($$SELECT count(*) FROM (SELECT calendar_recurrences('2024-01-01', 'hebrew', 'days', 1, '2024-01-01', '999999-12-31')) AS it$$);
+SELECT refusal($$SELECT count(*)
+                   FROM calendar_holidays(repeat(E'rule,Never,iso,,FREQ=YEARLY;BYMONTH=2;BYMONTHDAY=30,2024-01-01\n', 1000), '2024-01-01', '999999-12-31')$$);
 RESET statement_timeout;

@@ -13,6 +13,15 @@ SELECT calendar_rrule('2024-01-01', 'iso', 'FREQ=DAILY', '2024-01-01', '999999-1
 -- Windows are joined without a gap.
 SELECT count(*), min(index), max(index), min(day), max(day) FROM calendar_rrule('2000-01-01', 'iso', 'FREQ=DAILY', '2000-01-01', '2199-12-31');
 
+-- Rules in a book.
+SELECT * FROM calendar_holidays(E'rule,Election Day,gregorian,,"FREQ=YEARLY;INTERVAL=4;BYMONTH=11;BYDAY=TU;BYMONTHDAY=2,3,4,5,6,7,8",1996-11-05,,2004\n'
+                                'rule,Rosh Chodesh,hebrew,,"FREQ=MONTHLY;BYMONTHDAY=1,30",2000-10-01', '2000-10-01', '2012-12-31') LIMIT 4;
+SELECT count(*) FROM calendar_holidays('rule,Election Day,iso,,FREQ=YEARLY;INTERVAL=4;BYMONTH=11;BYDAY=1TU,1996-11-05,1997,2004', '1990-01-01', '2012-12-31');
+SELECT * FROM calendar_holidays('rule,New Year,chinese,,FREQ=YEARLY;BYMONTH=1;BYMONTHDAY=1,1900-01-01,2023,2024', '1990-01-01', '2100-12-31');
+SELECT * FROM calendar_holidays('rule,New Year,chinese,,FREQ=YEARLY;BYMONTH=1;BYMONTHDAY=1,1900-01-01,2023,2024', '1990-01-01', '2100-12-31',
+                                published => false);
+SELECT count(*), min(day), max(day) FROM calendar_holidays('rule,Day,iso,,FREQ=DAILY,2000-01-01,2002,,4,sunday-6', '1990-01-01', '2007-12-31');
+
 -- The cases of cases/rrule.jsonl that have no rows, against what another program lists.
 CREATE TABLE rule_lines (name text, line integer, words text);
 \copy rule_lines FROM PROGRAM './cases.sh rules'
@@ -59,6 +68,37 @@ CREATE TABLE rule_answers AS
 DELETE FROM rule_answers WHERE got = 'err Overflow' AND status = 0;
 SELECT status, count(*) > 150 AS compared, count(*) FILTER (WHERE got IS DISTINCT FROM wanted) AS differing FROM rule_answers GROUP BY 1 ORDER BY 1;
 SELECT * FROM rule_answers WHERE got IS DISTINCT FROM wanted ORDER BY line LIMIT 5;
+
+-- The same rules in a book: in all years, up to a year, and every third year from it on, when days move. A day moves by at most six days, so all that
+-- lead to a day of a window six days smaller are listed.
+CREATE TABLE ruled AS
+    SELECT line, out, date_of(word[4]::bigint) + 6 AS first, date_of(word[5]::bigint) - 6 AS last,
+           concat(',', word[2], ',,"', replace(rule, '"', '""'), '",', to_char(date_of(word[6]::bigint), 'YYYY-MM-DD')) AS rest
+      FROM rules
+     WHERE len = 7 AND out !~ '^err (InvalidWindow|Overflow)' AND CASE WHEN word[6] ~ '^-?\d+$' THEN word[6]::bigint BETWEEN 1 AND 3652059 END;
+SELECT count(*) > 50 AS refused, count(*) FILTER (WHERE detail IS DISTINCT FROM 'Cause: InvalidRecord 1 field 5.') AS others
+  FROM ruled, split_part(refusal(format('SELECT calendar_holidays(%L, ''2024-01-01'', ''2024-01-01'')', 'rule,All' || rest)), ' | ', 3) AS detail
+ WHERE out ~ '^err';
+CREATE TABLE occurring AS
+    SELECT line, it[1]::integer AS year, it[2]::bigint AS day FROM ruled, regexp_matches(out, '^\d+ (-?\d+)/\S+@(-?\d+) ', 'gn') AS it;
+CREATE TABLE booked AS
+    SELECT line, first, last, middle,
+           format(E'rule,All%1$s\nrule,Until%1$s,,%2$s\nrule,Third%1$s,%2$s,,3,monday+6 tuesday-6 wednesday+1 thursday-1 saturday+3', rest, middle) AS book
+      FROM ruled LEFT JOIN (SELECT line, percentile_disc(0.5) WITHIN GROUP (ORDER BY year) AS year FROM occurring GROUP BY 1) AS it USING (line),
+           coalesce(year, 0) AS middle
+     WHERE out !~ '^err' AND first <= last;
+CREATE TABLE booked_days AS
+    SELECT line, name, day FROM booked, calendar_holidays(book, first, last, published => false);
+CREATE TABLE named_days AS
+    SELECT DISTINCT line, name, moved AS day
+      FROM booked JOIN occurring USING (line),
+           LATERAL (VALUES ('All', true, 0), ('Until', year <= middle, 0),
+                           ('Third', year >= middle AND (year - middle) % 3 = 0, (ARRAY[0, 6, -6, 1, -1, 0, 3])[(day % 7 + 7) % 7 + 1]))
+               AS it(name, is_kept, move),
+           date_of(day + move) AS moved
+     WHERE is_kept AND moved BETWEEN first AND last;
+SELECT name, count(*) > 100 AS days FROM booked_days GROUP BY name ORDER BY name;
+(TABLE booked_days EXCEPT ALL TABLE named_days) UNION ALL (TABLE named_days EXCEPT ALL TABLE booked_days);
 
 -- Published years are those of the other functions.
 SELECT name, count(*) FILTER (WHERE rule.day IS NULL) AS lacking, count(*) FILTER (WHERE shown.day IS NULL) AS more, count(*) > 1000 AS many

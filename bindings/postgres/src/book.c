@@ -182,6 +182,17 @@ static void read_easter(const reader *it, pgcal_rule *rule) {
     rule->offset = number_of(it, 4, -400, 400);
 }
 
+/* Reads what a recurrence rule has. */
+static void read_repeated(const reader *it, pgcal_rule *rule) {
+    pgcal_bytes start = bytes_of_field(it, 5);
+    uint8_t calendar;
+    rule->kind = PGCAL_REPEATED;
+    rule->text = pgcal_bytes_of_word(pstrdup(it->fields[4].data));
+    if (icu_calendar_day_of_text(start.bytes, start.len, &calendar, &rule->start) || calendar != ICU_CALENDAR_ISO) {
+        misread();
+    }
+}
+
 /* Reads what a rule with a month has. */
 static void read_in_month(const reader *it, pgcal_rule *rule) {
     rule->month = pgcal_month_of(rule->chosen, bytes_of_field(it, 3));
@@ -213,6 +224,8 @@ static pgcal_rule rule_of(const reader *it, uint8_t years) {
     }
     if (is_field(it, 0, "easter")) {
         read_easter(it, &rule);
+    } else if (is_field(it, 0, "rule")) {
+        read_repeated(it, &rule);
     } else {
         read_in_month(it, &rule);
     }

@@ -10,6 +10,21 @@ PG_FUNCTION_INFO_V1(pgcal_holidays);
 #define YEARS_BESIDE 2
 /* How far a day of `span` lies from its date. */
 #define DAYS_BESIDE 6
+/* How many occurrences of a recurrence rule a call returns. */
+#define ITEMS 1024
+/* The days of the first window that is asked for occurrences. Windows double. A call can't be cancelled, so a window has at most so many days, or as many
+ * as lie between the start and it, since each call counts from the start on. */
+#define FIRST_DAYS 1024
+#define MOST_DAYS 4194304
+
+/* The first day of a window to which a rule's own days move, of those that were looked at. */
+typedef struct {
+    const pgcal_rule *rule;
+    pgcal_window window;
+    int64_t reach; /* how far a day may move */
+    bool is_found;
+    int64_t day;
+} earliest;
 
 /* The first day of a rule that isn't listed yet. */
 typedef struct {
@@ -99,31 +114,92 @@ static int32_t first_kept(pgcal_rule_years years, int32_t low) {
     return past ? low + years.every - past : low;
 }
 
+/* Looks at an own day of a rule. */
+static void look_at(earliest *it, int64_t own) {
+    int64_t moved = own + it->rule->moves[(own % 7 + 7) % 7];
+    if (moved >= it->window.first && moved <= it->window.last && (!it->is_found || moved < it->day)) {
+        it->is_found = true;
+        it->day = moved;
+    }
+}
+
+/* Returns whether the days behind an own day, moved back as far as can be, are no earlier. */
+static bool is_settled(const earliest *it, int64_t own) {
+    return it->is_found && it->day + it->reach <= own;
+}
+
+/* Looks at the own days of a rule that has at most one in each year. */
+static void look_at_years(earliest *it) {
+    const pgcal_rule *rule = it->rule;
+    int64_t beside = it->reach + (rule->kind == PGCAL_SPAN ? DAYS_BESIDE : 0), own;
+    int32_t more = rule->kind == PGCAL_EASTER ? YEARS_BESIDE : 0;
+    int32_t last_year = Min(year_of(rule->chosen, it->window.last + beside) + more, rule->years.until);
+    for (int32_t year = first_kept(rule->years, year_of(rule->chosen, it->window.first - beside) - more); year <= last_year; year += rule->years.every) {
+        CHECK_FOR_INTERRUPTS();
+        if (!own_day(rule, year, &own) || own < PGCAL_FIRST_DAY || own > PGCAL_LAST_DAY) {
+            continue;
+        }
+        look_at(it, own);
+        if (is_settled(it, own)) {
+            return;
+        }
+    }
+}
+
+/* Lists occurrences of a recurrence rule in a window, and returns how many. The list goes on from the day `next`. */
+static size_t list_repeated(const pgcal_rule *rule, pgcal_window window, icu_calendar_occurrence items[ITEMS], int64_t *next) {
+    icu_calendar_rule_fault fault;
+    size_t count;
+    uint8_t code = icu_calendar_rule_days(rule->chosen.calendar, rule->chosen.years, rule->start, rule->text.bytes, rule->text.len, window.first,
+                                          window.last, items, ITEMS, &count, next, &fault);
+    if (code) {
+        elog(ERROR, "icu_calendar: a call returned the code %u", code);
+    }
+    return count;
+}
+
+/* Returns whether a rule is kept in the year of a day. */
+static bool is_kept(const pgcal_rule *rule, int64_t own) {
+    int32_t year = year_of(rule->chosen, own);
+    return year <= rule->years.until && first_kept(rule->years, year) == year;
+}
+
+/* Looks at the own days of a recurrence rule. None comes before its start. */
+static void look_at_repeated(earliest *it) {
+    const pgcal_rule *rule = it->rule;
+    icu_calendar_occurrence items[ITEMS];
+    int64_t from = Max(Max(it->window.first - it->reach, PGCAL_FIRST_DAY), rule->start);
+    int64_t last = Min(it->window.last + it->reach, PGCAL_LAST_DAY), days = FIRST_DAYS;
+    while (from <= last) {
+        CHECK_FOR_INTERRUPTS();
+        pgcal_window some = {from, Min(from + days - 1, last)};
+        size_t count = list_repeated(rule, some, items, &from);
+        for (size_t place = 0; place < count; place++) {
+            int64_t own = items[place].day;
+            if (is_kept(rule, own)) {
+                look_at(it, own);
+            }
+            if (is_settled(it, own)) {
+                return;
+            }
+        }
+        days = Min(2 * days, Max(MOST_DAYS, from - rule->start));
+    }
+}
+
 /* Finds the first day of a rule in a window, and returns whether there is one. */
 static bool first_day(const pgcal_rule *rule, pgcal_window window, int64_t *day) {
     if (window.first > window.last) {
         return false;
     }
-    int64_t reach = reach_of(rule), beside = reach + (rule->kind == PGCAL_SPAN ? DAYS_BESIDE : 0), own;
-    int32_t more = rule->kind == PGCAL_EASTER ? YEARS_BESIDE : 0;
-    int32_t last_year = Min(year_of(rule->chosen, window.last + beside) + more, rule->years.until);
-    bool is_found = false;
-    for (int32_t year = first_kept(rule->years, year_of(rule->chosen, window.first - beside) - more); year <= last_year; year += rule->years.every) {
-        CHECK_FOR_INTERRUPTS();
-        if (!own_day(rule, year, &own) || own < PGCAL_FIRST_DAY || own > PGCAL_LAST_DAY) {
-            continue;
-        }
-        int64_t moved = own + rule->moves[(own % 7 + 7) % 7];
-        if (moved >= window.first && moved <= window.last && (!is_found || moved < *day)) {
-            is_found = true;
-            *day = moved;
-        }
-        /* The days of later years, moved back as far as can be, are no earlier. */
-        if (is_found && *day + reach <= own) {
-            break;
-        }
+    earliest found = {.rule = rule, .window = window, .reach = reach_of(rule)};
+    if (rule->kind == PGCAL_REPEATED) {
+        look_at_repeated(&found);
+    } else {
+        look_at_years(&found);
     }
-    return is_found;
+    *day = found.day;
+    return found.is_found;
 }
 
 /* Puts the earlier day on top of the heap, and on one day the rule that stands first in the book. */

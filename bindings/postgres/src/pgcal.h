@@ -71,7 +71,7 @@ typedef struct {
     int64_t last;
 } pgcal_window;
 
-typedef enum { PGCAL_FIXED, PGCAL_EASTER, PGCAL_WEEKDAY, PGCAL_SPAN } pgcal_rule_kind;
+typedef enum { PGCAL_FIXED, PGCAL_EASTER, PGCAL_WEEKDAY, PGCAL_SPAN, PGCAL_REPEATED } pgcal_rule_kind;
 
 /* The years in which a rule is kept. The steps are counted from `since`. */
 typedef struct {
@@ -93,6 +93,8 @@ typedef struct {
     int32_t nth;      /* weekday: 1 to 5, or -1 for the last */
     int32_t weekday;  /* weekday, span: 1 for Monday to 6, and 0 for Sunday */
     bool is_before;   /* span: whether the week ends with the day, and doesn't begin with it */
+    pgcal_bytes text; /* repeated: the recurrence rule */
+    int64_t start;    /* repeated: the day on which it starts */
     pgcal_rule_years years;
     int8_t moves[7]; /* by how many days it moves off each weekday from Sunday on */
 } pgcal_rule;
