@@ -1,6 +1,6 @@
 /**
  * Holidays by books: CSV texts with the name and the rule of one holiday in each record, as `books/README.md` and the manual describe them.
- * Each date comes from the module's calls; what is computed here is the weekday, the move off it, and the order.
+ * Each date comes from the module's calls; what is computed here is the weekday, the move off it, and the order. The module reads recurrence rules.
  */
 import { CALENDARS, CalendarError, FIRST_DAY, LAST_DAY } from "./icu_calendar.mjs";
 import { WEEKDAYS } from "./words.mjs";
@@ -10,21 +10,24 @@ import { WEEKDAYS } from "./words.mjs";
  * @typedef {import("./icu_calendar.mjs").CalendarName} CalendarName @typedef {import("./icu_calendar.mjs").Years} Years
  *
  * @typedef {object} HolidayRecord
- * @property {"fixed" | "easter" | "weekday" | "span"} kind
+ * @property {"fixed" | "easter" | "weekday" | "span" | "rule"} kind
  * @property {string} name
  * @property {CalendarName} calendar
  * @property {string} monthCode
- * @property {number} value the day of the month, the days after Easter, or which of the weekdays of the month
- * @property {string} last whether a day that doesn't exist is clamped, or a weekday
+ * @property {number} value the day of the month, the days after Easter, or which of the weekdays of the month; 0 for a recurrence rule
+ * @property {string} last whether a day that doesn't exist is clamped, a weekday, or the ISO date on which a recurrence rule starts
+ * @property {string} rule the text of a recurrence rule, and else an empty one
  * @property {number} since the first year @property {number} until the last one @property {number} every
  * @property {ReadonlyMap<number, number>} moved by how many days a holiday moves off a weekday
  */
 
-const RULE_KINDS = new Set(["fixed", "easter", "weekday", "span"]);
+const RULE_KINDS = new Set(["fixed", "easter", "weekday", "span", "rule"]);
 // Why a year may lack the day of a rule.
 const LACKS_DAY = new Set(["MonthNotInYear", "InvalidDay", "OutOfRange"]);
 // A rule's day lies at most so many days from the dates of its year: 400 days from Easter, six from a weekday, six moved.
 const REACH = 420;
+// The most days by which a holiday moves.
+const MOST_MOVED = 6;
 
 /** From 1 for Monday to 7 for Sunday. @param {number} day */
 function weekdayOf(day) {
@@ -61,13 +64,24 @@ function movesOf(text) {
   return new Map(words.map(([, name, days]) => [weekdayNamed(name), Number(days)]));
 }
 
-/** Reads the records of a book. Throws a `CalendarError` for one that is invalid. @param {string} text @returns {HolidayRecord[]} */
+/** Whether a text is an ISO date with four digits of the year. @param {string} text */
+function isDate(text) {
+  const date = new Date(`${text}T00:00Z`);
+  return /^\d{4}-\d\d-\d\d$/.test(text) && !Number.isNaN(date.getTime()) && date.toISOString().startsWith(text);
+}
+
+/**
+ * Reads the records of a book. Throws a `CalendarError` for one that is invalid. Month codes and recurrence rules are read when days are asked for.
+ * @param {string} text @returns {HolidayRecord[]}
+ */
 export function readBook(text) {
   return fieldsOf(text).map(([kind, name, calendar, month, value, last, since = "", until = "", every = "", moved = ""]) => {
     if (!RULE_KINDS.has(kind) || last === undefined) throw new CalendarError(104);
     if (!CALENDARS.includes(calendar)) throw new CalendarError(1);
+    const isRule = kind === "rule";
+    if (isRule && (month !== "" || !isDate(last))) throw new CalendarError(104);
     return {
-      kind, name, calendar, monthCode: month, value: numberOf(value, Number.NaN), last,
+      kind, name, calendar, monthCode: month, value: isRule ? 0 : numberOf(value, Number.NaN), last, rule: isRule ? value : "",
       since: numberOf(since, -Infinity), until: numberOf(until, Infinity), every: numberOf(every, 1), moved: movesOf(moved),
     };
   });
@@ -92,16 +106,42 @@ function ownDay(calendars, { kind, calendar, monthCode, value, last }, year, yea
   return place < length ? first + place : null;
 }
 
+/** Whether a record's rule is kept in a year. @param {HolidayRecord} record @param {number} year */
+function isKept({ since, until, every }, year) {
+  return since <= year && year <= until && (year - Math.max(since, -1e9)) % every === 0;
+}
+
+/**
+ * Yields the days, before they move, of a rule with at most one in each year.
+ * @param {Calendars} calendars @param {HolidayRecord} record @param {number} first @param {number} last @param {Years} years @returns {Generator<number>}
+ */
+function* yearlyDays(calendars, record, first, last, years) {
+  const [low, high] = [first, last].map((day) => calendars.dateOfDay(day, record.calendar, years).extendedYear);
+  for (let year = Math.max(low, record.since); year <= Math.min(high, record.until); year += 1) {
+    const own = isKept(record, year) ? ownDay(calendars, record, year, years) : null;
+    if (own !== null && FIRST_DAY <= own && own <= LAST_DAY) yield own;
+  }
+}
+
+/**
+ * Yields the days of a recurrence rule, before they move. Throws a `RuleError` for a text that is none.
+ * @param {Calendars} calendars @param {HolidayRecord} record @param {number} first @param {number} last @param {Years} years @returns {Generator<number>}
+ */
+function* repeatedDays(calendars, record, first, last, years) {
+  const [year, month, day] = record.last.split("-").map(Number);
+  const start = calendars.dateOfFields({ calendar: "iso", year, month, day }).toCalendar(record.calendar, years);
+  for (const { date } of calendars.rrule(start, { rule: record.rule, first, last })) {
+    if (isKept(record, date.extendedYear)) yield date.dayNumber;
+  }
+}
+
 /** The days that a record names from one day to another. @param {Calendars} calendars @param {HolidayRecord} record @param {number} first @param {number} last @param {Years} years */
 function daysOf(calendars, record, first, last, years) {
-  const [low, high] = [Math.max(first - REACH, FIRST_DAY), Math.min(last + REACH, LAST_DAY)]
-    .map((day) => calendars.dateOfDay(day, record.calendar, years).extendedYear);
+  const [ownDays, reach] = record.kind === "rule" ? [repeatedDays, MOST_MOVED] : [yearlyDays, REACH];
+  const [low, high] = [Math.max(first - reach, FIRST_DAY), Math.min(last + reach, LAST_DAY)];
   const days = new Set();
-  const { since, until, every, moved } = record;
-  for (let year = Math.max(low, since); year <= Math.min(high, until); year += 1) {
-    const own = (year - Math.max(since, -1e9)) % every === 0 ? ownDay(calendars, record, year, years) : null;
-    if (own === null || own < FIRST_DAY || own > LAST_DAY) continue;
-    const day = own + (moved.get(weekdayOf(own)) ?? 0);
+  for (const own of ownDays(calendars, record, low, high, years)) {
+    const day = own + (record.moved.get(weekdayOf(own)) ?? 0);
     if (first <= day && day <= last) days.add(day);
   }
   return [...days];
