@@ -156,7 +156,11 @@ fn repeated(numbers: &mut common::Numbers, near: i64) -> String {
 
 /// Makes a record whose days may be near a day.
 fn record(numbers: &mut common::Numbers, number: usize, near: i64) -> String {
-    let kinds = ["fixed", "easter", "weekday", "span", "rule"];
+    // A rule starts in the years 0 to 9999, and each of its days is counted from there.
+    let kinds: &[&str] = match near {
+        -365..=4_000_000 => &["fixed", "easter", "weekday", "span", "rule"],
+        _ => &["fixed", "easter", "weekday", "span"],
+    };
     let kind = kinds[numbers.below(kinds.len() as u64) as usize];
     let calendar = match kind {
         "easter" => ["gregorian", "julian"][numbers.below(2) as usize],
