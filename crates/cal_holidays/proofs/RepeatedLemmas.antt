@@ -17,8 +17,9 @@ use Rattle.cal_types.proofs.DayDateLemmas.{date_on-on}
 use Rattle.cal_types.proofs.ListLemmas.{on-unique}
 use Rattle.cal_rule.specs.RuleText.{IsRuleText}
 use Rattle.cal_rule.specs.declared.rule.RecurrenceRule.{RecurrenceRule}
+use Rattle.cal_rrule.specs.Listing.{AreDayItems, day_bounds}
 use Rattle.cal_rrule.specs.Occurrences as rules
-use Rattle.cal_rrule.specs.Occurrences.{IsKept, bounds_of}
+use Rattle.cal_rrule.specs.Occurrences.{IsKept}
 use Rattle.recurrence_sets.specs.Bounds.{IsRestOf}
 use Rattle.recurrence_sets.specs.Listing.{GoesOn}
 use Rattle.recurrence_sets.specs.Occurrences.{AreLeft, IsOfSome, Occurs, Recurs}
@@ -27,6 +28,7 @@ use Rattle.recurrence_sets.specs.declared.occurrence.Occurrence.{Occurrence}
 use Rattle.recurrence_sets.proofs.DayLemmas.{count-like}
 use Rattle.rule_lists.specs.TextOccurrences.{OccursByText}
 use Rattle.rule_lists.proofs.AlikeRules.{alike-occurs, said-alike}
+use Rattle.rule_lists.proofs.NearOccurrences.{far-occurs, near-occurs}
 use Rattle.cal_holidays.specs.FirstRepeated.{IsAround, IsWithin, MovesFrom, OccursOn}
 use Rattle.cal_holidays.specs.Moving.{IsLeast, earlier_day, is_settled, moved_between}
 use Rattle.cal_holidays.specs.Observing as observing
@@ -336,28 +338,34 @@ repeated-none c r years moves first last reach near around n within h =
 -- a rule's list over a window has the occurrences that may move to a day
 module _ (c : CalendarList) (law : IsLawful c) (r : Repeated) (rule : RecurrenceRule) (t : Date)
     (spelled : IsRuleText r.calendar r.text rule) (on : IsOn c r.start t) (Is : ℤ → Type 0) (b : Bounds)
-    (same : HaveSame Is (IsOfSome (IsKept c rule t))) (bounds : b ≡ bounds_of c rule t) (w : Window)
+    (same : HaveSame Is (IsOfSome (IsKept c rule t))) (w : Window) (bounds : b ≡ day_bounds c rule t w.first)
     (rest : Option Window) (rests : ForSome rest (IsRestOf b w))
-    (items : AreLeft Is b rest [] → rules.AreOccurrences c rule t w.first w.last []) where
+    (items : AreLeft Is b rest [] → AreDayItems c rule t w.first w.last []) where
   -- the date of its start
   starts : t ≡ date_on c r.start
   starts = on-unique c r.start t (date_on c r.start) on (date_on-on c law r.start)
 
-  -- the set's occurrences are the rule's
-  to-rule : (index : ℕ) (n : ℤ) → Occurs Is b index n → rules.Occurs c rule t index n
+  -- an occurrence of the set is on a day of one of the rule's
+  to-rule : (index : ℕ) (n : ℤ) → Occurs Is b index n → (i : ℕ) × rules.Occurs c rule t i n
   to-rule index n o =
-      subst (λ (a : Bounds). Occurs (IsOfSome (IsKept c rule t)) a index n) bounds
-      (occurs-like Is (IsOfSome (IsKept c rule t)) b same index n o)
+      far-occurs c law rule t on.date w.first index n
+      (subst (λ (a : Bounds). Occurs (IsOfSome (IsKept c rule t)) a index n) bounds
+      (occurs-like Is (IsOfSome (IsKept c rule t)) b same index n o))
 
-  of-rule : (index : ℕ) (n : ℤ) → rules.Occurs c rule t index n → Occurs Is b index n
-  of-rule index n o =
-      occurs-like (IsOfSome (IsKept c rule t)) Is b (turned Is (IsOfSome (IsKept c rule t)) same) index n
-      (subst (λ (a : Bounds). Occurs (IsOfSome (IsKept c rule t)) a index n) (sym bounds) o)
+  -- and an occurrence of the rule is on a day of one of the set's, from the window's first day on
+  of-rule : (index : ℕ) (n : ℤ) → w.first ≤ℤ n → rules.Occurs c rule t index n → (i : ℕ) × Occurs Is b i n
+  of-rule index n late o =
+      let (i, near) = near-occurs c law rule t on.date w.first index n late o in (
+        i,
+        occurs-like (IsOfSome (IsKept c rule t)) Is b (turned Is (IsOfSome (IsKept c rule t)) same) i n
+            (subst (λ (a : Bounds). Occurs (IsOfSome (IsKept c rule t)) a i n) (sym bounds) near),
+      )
 
   -- those that its text spells, too
   to-text : (index : ℕ) (n : ℤ) → Occurs Is b index n → OccursByText c r.calendar r.text (date_on c r.start) n
   to-text index n o =
-      subst (λ (u : Date). OccursByText c r.calendar r.text u n) starts (rule, spelled, index, to-rule index n o)
+      let (i, occurs) = to-rule index n o in
+      subst (λ (u : Date). OccursByText c r.calendar r.text u n) starts (rule, spelled, i, occurs)
 
   of-text : (n : ℤ) → OccursByText c r.calendar r.text (date_on c r.start) n →
       (index : ℕ) × rules.Occurs c rule t index n
@@ -367,13 +375,14 @@ module _ (c : CalendarList) (law : IsLawful c) (r : Repeated) (rule : Recurrence
 
   -- an occurrence on a day of the window is left at first
   at-first : (days : Option Window) → ForSome days (IsRestOf b w) →
-      (AreLeft Is b days [] → rules.AreOccurrences c rule t w.first w.last []) →
+      (AreLeft Is b days [] → AreDayItems c rule t w.first w.last []) →
       (index : ℕ) (n : ℤ) → rules.Occurs c rule t index n → IsBetween w.first w.last n → IsWithin days n
   at-first None is all index n occurs within =
-      let has = ((all refl).exact (record { index = index; day = n })).1 (occurs, within) in
+      let (i, near) = near-occurs c law rule t on.date w.first index n within.0 occurs in
+      let has = ((all refl).exact (record { index = i; day = n })).1 (near, within) in
       omega (arith, has.1)
   at-first (Some v) is all index n occurs within =
-      let o = of-rule index n occurs in
+      let (i, o) = of-rule index n within.0 occurs in
       ((is v refl).exact n).1 (record { within = within; started = o.recurs.started; ended = o.recurs.ended })
 
   -- the first day to which one of them moves is the first that the rule names
@@ -402,7 +411,7 @@ module _ (c : CalendarList) (law : IsLawful c) (r : Repeated) (rule : Recurrence
           let here = around h.own occurs.recurs.valid (moved-near moves first last reach h.own n near h.moved within) in
           record {
             own = h.own;
-            is_own = (at-first rest rests items index h.own occurs here, index, of-rule index h.own occurs);
+            is_own = (at-first rest rests items index h.own occurs here, of-rule index h.own here.0 occurs);
             year = h.year;
             in_year = h.in_year;
             kept = h.kept;

@@ -18,7 +18,7 @@ use crate::rule_years::RuleYears;
 use crate::valid_days::{first_valid, last_valid};
 use cal_base::Calendar;
 use cal_days::RataDie;
-use cal_rrule::{Listing, Occurrence, rule_occurrences};
+use cal_rrule::{Listing, Occurrence, occurrence_days};
 use cal_types::Window;
 use recurrence_sets::Periods;
 
@@ -114,6 +114,6 @@ pub(crate) fn first_repeated<C: Calendar + Copy>(
 {
     let window = days_around(first, last, moves.reach())?;
     let start = calendar.from_rata_die(repeated.start);
-    let mut items = rule_occurrences(calendar, &start, repeated.rule, window);
+    let mut items = occurrence_days(calendar, &start, repeated.rule, window);
     first_of(&calendar, &mut items, years, moves, first, last)
 }

@@ -23,6 +23,7 @@ mod PlainYearLemmas
 mod PositionLemmas
 mod ProbeLemmas
 mod RowLemmas
+mod SetDayLemmas
 mod WalkLemmas
 mod WeekStartLemmas
 mod WeekdayLemmas

@@ -22,6 +22,7 @@ mod occurrences;
 mod plain_years;
 mod probes;
 mod rule_periods;
+mod set_days;
 mod set_positions;
 mod span;
 mod span_masks;
@@ -38,6 +39,8 @@ mod year_steps;
 mod year_weeks;
 mod yearly;
 
-pub use occurrences::{resume_occurrences, rule_occurrences, rule_occurrences_counted};
+pub use occurrences::{
+    occurrence_days, resume_occurrences, rule_occurrences, rule_occurrences_counted,
+};
 pub use recurrence_sets::{Listing, Occurrence};
 pub use rule_periods::RulePeriods;

@@ -4,7 +4,7 @@ ghost use Rattle.std.specs.Prelude.{◌≡◌, ◌+◌, ◌≤◌, ◌↔◌, Is
 ghost use Rattle.std.specs.Option.{ForSome};
 ghost use Rattle.cal_days.specs.Day.{IsValidDay};
 ghost use Rattle.cal_rrule.specs.Blocks.{IsOfBlock, start_of};
-ghost use Rattle.cal_rrule.specs.Listing.{AreLeftOf, HasBefore, HasBeforeOf};
+ghost use Rattle.cal_rrule.specs.Listing.{AreDayItems, AreLeftOf, HasBefore, HasBeforeOf, day_bounds};
 ghost use Rattle.cal_rrule.specs.NearDays.{IsNearList};
 ghost use Rattle.cal_rrule.specs.Occurrences.{AreOccurrences, IsKept, bounds_of};
 ghost use Rattle.recurrence_sets.specs.Bounds.{IsRestOf};
@@ -12,6 +12,7 @@ ghost use Rattle.recurrence_sets.specs.Occurrences.{IsOfSome};
 ghost use Rattle.recurrence_sets.specs.declared.occurrence.Occurrence.{Occurrence};
 
 use crate::rule_periods::RulePeriods;
+use crate::set_days::{bounds_from_day, list_days};
 use cal_arith::Steps;
 use cal_base::Calendar;
 use cal_days::RataDie;
@@ -169,4 +170,50 @@ pub fn resume_occurrences<C: Calendar>(
     let bounds = bounds_from(&rule, day);
     let periods = RulePeriods::new(calendar, rule, day);
     Listing::resume(periods, bounds, window, index)
+}
+
+/// Returns the days on which a rule recurs in a window, in order and each once: an iterator.
+///
+/// These are the days of the occurrences that [`rule_occurrences`] returns. If the rule has COUNT, an item's index counts
+/// from the start on, as there. Otherwise the days before the window aren't counted, and an index counts from the first
+/// day of the window on: [`rule_occurrences`] returns the indices that count from the start.
+///
+/// The start has to belong to the calendar, which [`Calendar::owns`] checks. No memory is allocated. Each month or year
+/// that is passed is looked at once.
+///
+/// # Examples
+///
+/// ```
+/// let rule = RecurrenceRule::try_from_str("FREQ=DAILY;INTERVAL=10", AnyCalendarKind::Iso)?;
+/// let window = Window::try_new(RataDie::new(738886), RataDie::new(738976))?;
+/// let start = Iso.from_rata_die(RataDie::new(100)); // 0001-04-10
+/// let mut days = occurrence_days(Iso, &start, rule, window);
+/// assert!(rt; days.next()?.day.to_i64_date() == 738890); // 2024-01-05
+/// ```
+pub fn occurrence_days<C: Calendar>(
+    calendar: C,
+    start: &C::DateInner,
+    rule: RecurrenceRule,
+    window: Window,
+) -> Listing<RulePeriods<C>>
+    requires belongs { IsTrue (C.belongs calendar start.now) }
+    requires nearby { IsNearList (C.system calendar).list }
+    ensures items { let list = (C.system calendar).list in let t = C.date_of calendar start.now in
+        let p = result.periods in (xs : List Occurrence) →
+        AreLeftOf (C.system p.calendar).list p.asked result.bounds result.rest xs
+        ↔ AreDayItems list rule t window.first window.last xs }
+    ensures days { let list = (C.system calendar).list in let t = C.date_of calendar start.now in
+        let p = result.periods in (n : ℤ) → IsValidDay n →
+        IsOfSome (IsOfBlock (C.system p.calendar).list p.asked.rule (start_of p.asked)) n
+        ↔ IsOfSome (IsKept list rule t) n }
+    ensures bounds { let t = C.date_of calendar start.now in
+        result.bounds ≡ day_bounds (C.system calendar).list rule t window.first }
+    ensures rest { ForSome result.rest (IsRestOf result.bounds window) }
+    ensures parts { let p = result.periods in (p.calendar ≡ calendar) × (p.asked.rule ≡ rule)
+        × (start_of p.asked ≡ C.date_of calendar start.now) }
+{
+    let day = calendar.to_rata_die(start);
+    let bounds = bounds_from_day(&rule, day, window);
+    let periods = RulePeriods::new(calendar, rule, day);
+    list_days(periods, bounds, window)
 }

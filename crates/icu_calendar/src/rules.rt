@@ -24,7 +24,7 @@ use crate::date::Date;
 pub use crate::rule_calendar::RuleCalendar;
 use cal_base::{AsCalendar, Calendar};
 pub use cal_rrule::{
-    Listing, Occurrence, RulePeriods, resume_occurrences, rule_occurrences,
+    Listing, Occurrence, RulePeriods, occurrence_days, resume_occurrences, rule_occurrences,
     rule_occurrences_counted,
 };
 pub use cal_rule::{

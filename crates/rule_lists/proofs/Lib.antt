@@ -5,6 +5,7 @@ pub mod Deciding
 pub mod ListLemmas
 pub mod ListedSets
 pub mod MonthDeciding
+pub mod NearOccurrences
 pub mod OccurrenceLists
 pub mod PeriodDeciding
 pub mod RuleTexts

@@ -144,7 +144,7 @@ module _ (Is : ℤ → Type 0) (decide : (n : ℤ) → Dec (Is n)) (b : Bounds) 
       (for-decided {P = λ last. n ≤ℤ last} (λ last. is_most_z n last) b.until))))
 
   -- how many days on which the set recurs are before another
-  counted : (n : ℤ) → (i : ℕ) × HasCount (IsBefore Is b n) i
+  pub counted : (n : ℤ) → (i : ℕ) × HasCount (IsBefore Is b n) i
   counted n =
       count-finds (IsBefore Is b n) (λ m. both (recurs-decided m) (is_less_z m n))
       (negsuc 365242498) (pos 365242134) (λ m h. h.0.valid)

@@ -2,6 +2,7 @@
 use Rattle.std.specs.Prelude.{◌≡◌, ◌⊎◌, List, ℤ}
 use Rattle.cal_types.specs.CalendarList.{CalendarList, Date, IsDate, IsLawful}
 use Rattle.cal_rule.specs.declared.rule.RecurrenceRule.{RecurrenceRule}
+use Rattle.cal_rrule.specs.Listing.{AreDayItems, AreOnDays}
 use Rattle.cal_rrule.specs.Occurrences.{AreOccurrences, Recurs}
 use Rattle.recurrence_sets.specs.declared.occurrence.Occurrence.{Occurrence}
 
@@ -22,3 +23,9 @@ abbrev pub RuleListsAreUnique : Type 0
 RuleListsAreUnique =
     (c : CalendarList) (rule : RecurrenceRule) (t : Date) (first last : ℤ) (xs ys : List Occurrence)
     → AreOccurrences c rule t first last xs → AreOccurrences c rule t first last ys → xs ≡ ys
+
+-- a list of days alone has exactly the days of the rule's occurrences from one day to another
+abbrev pub DayListsAreExact : Type 0
+DayListsAreExact =
+    (c : CalendarList) (rule : RecurrenceRule) (t : Date) → IsLawful c → IsDate c t
+    → (first last : ℤ) (xs : List Occurrence) → AreDayItems c rule t first last xs → AreOnDays c rule t first last xs

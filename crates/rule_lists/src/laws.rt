@@ -1,5 +1,5 @@
 //! Laws of the lists of recurrence rules, each proved as the contract of a function that does nothing.
-ghost use Rattle.rule_lists.specs.RuleLists.{RecurrenceIsDecided, RuleListsAreUnique, RulesHaveLists};
+ghost use Rattle.rule_lists.specs.RuleLists.{DayListsAreExact, RecurrenceIsDecided, RuleListsAreUnique, RulesHaveLists};
 
 /// Every recurrence rule has exactly one list of occurrences from one day to another, in every calendar and from every
 /// date on. On every day the rule recurs or doesn't recur, and its definition alone decides which.
@@ -7,4 +7,10 @@ pub fn rules_have_one_list()
     ensures decided { RecurrenceIsDecided }
     ensures exists { RulesHaveLists }
     ensures unique { RuleListsAreUnique }
+{}
+
+/// A list of a rule's days alone, which without COUNT doesn't count what lies before its window, has exactly the days of
+/// the rule's occurrences in the window, in every calendar and from every date on.
+pub fn day_lists_are_exact()
+    ensures exact { DayListsAreExact }
 {}

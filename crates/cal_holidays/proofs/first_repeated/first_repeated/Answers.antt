@@ -26,8 +26,8 @@ returns g c =
     let r = a.repeated.now in
     let start = c.from_rata_die-start in
     let t = g.C.Calendar.date_of a.calendar start.result in
-    let found = c.rule_occurrences-items.result in
-    let says = c.rule_occurrences-items.ensures in
+    let found = c.occurrence_days-items.result in
+    let says = c.occurrence_days-items.ensures in
     let p = found.periods in
     let is = IsOfSome (IsOfBlock (g.C.Calendar.system p.calendar).list p.asked.rule (start_of p.asked)) in
     let w = c.in_ok-window.window in
@@ -35,5 +35,5 @@ returns g c =
     let held : to_z w64 (of_z w64 reach.result) ≡ reach.result = omega (arith, signed, reach.ensures.range) in
     let around = subst (λ (z : ℤ). IsAround a.first a.last z (Some w)) held c.in_ok-window.ensures in
     repeated-first list (g.met.C.Calendar.lawful a.calendar) (repeated_said r) r.rule t r.spelled start.ensures.on is
-    found.bounds says.days says.bounds w found.rest says.rest (says.items []).0 a.years a.moves.days a.first a.last
+    found.bounds says.days w says.bounds found.rest says.rest (says.items []).0 a.years a.moves.days a.first a.last
     reach.result c.first_of.result reach.ensures.reach around c.first_of.ensures
