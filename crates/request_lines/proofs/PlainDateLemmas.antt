@@ -7,7 +7,9 @@ use Rattle.request_lines.specs.Words.{is_text}
 use Rattle.request_lines.specs.Reading.{Read, next_word}
 use Rattle.request_lines.specs.Bags.{Field, ExtendedYear, Month, Day, field_read, with_field, with_word, bag_before_to, bag_of_all}
 use Rattle.request_lines.specs.Taking.{after_word}
-use Rattle.request_lines.specs.PlainDates.{GoesOn}
+use Rattle.cal_types.specs.MonthParts.{month_parts}
+use Rattle.request_lines.specs.PlainDates.{GoesOn, HasNoMonth, SaysMonth}
+use Rattle.request_lines.specs.declared.plain_words.PlainMonth.{PlainMonth}
 use Rattle.request_lines.proofs.BagLemmas.{same_text, some_pair}
 use Rattle.request_lines.proofs.KeyLemmas.{with_words, bag_goes_on, all_go_on}
 
@@ -85,3 +87,13 @@ pub day_goes_on : (bag : Bag) (words left : List (List ℕ)) (d : ℕ) → is_no
 day_goes_on bag words left d none reads =
     let larger : Bag = record bag { day = Some d } in
     goes_on bag larger words left (Day d) reads (ap (λ t. cond t (Some larger) None) none)
+
+-- the year and the month of the next two words are set where neither was
+pub both_go_on : (bag : Bag) (words left : List (List ℕ)) (it : PlainMonth) → HasNoMonth bag → SaysMonth words it left
+    → GoesOn bag words (record bag { extended_year = Some it.year; month = Some (month_parts it.month) }) left
+both_go_on bag words left it none says =
+    let dated : Bag = record bag { extended_year = Some it.year } in
+    let named : Bag = record bag { extended_year = Some it.year; month = Some (month_parts it.month) } in
+    and_goes_on bag dated named words says.behind_year left
+    (year_goes_on bag words says.behind_year it.year none.year says.year)
+    (month_goes_on dated says.behind_year left (month_parts it.month) none.month says.month)

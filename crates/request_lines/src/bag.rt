@@ -1,12 +1,12 @@
 //! Bags of fields, word after word.
-ghost use Rattle.std.specs.Prelude.{◌≡◌, Some, None, MatchOption};
+ghost use Rattle.std.specs.Prelude.{◌≡◌, Some, None, MatchOption, false};
 ghost use Rattle.std.specs.List.{list_all};
 ghost use Rattle.std.specs.Option.{option_map};
 ghost use Rattle.cal_types.specs.Bag.{bag_of};
 ghost use Rattle.cal_types.specs.Month.{month_read};
 ghost use Rattle.cal_types.specs.MonthParts.{month_parts};
 ghost use Rattle.request_lines.specs.Bags.{with_field, with_word, with_whole_word, with_rarer_word, bag_before_to, bag_of_all, is_word_byte};
-ghost use Rattle.request_lines.specs.PlainDates.{GoesOn};
+ghost use Rattle.request_lines.specs.PlainDates.{GoesOn, HasNoMonth};
 ghost use Rattle.request_lines.specs.Reading.{IsReading, next_word};
 ghost use Rattle.request_lines.specs.WordsLeft.{words_left};
 
@@ -100,39 +100,45 @@ fn set_next_field<'a>(fields: &mut DateFields<'a>, words: &mut Words<'a>) -> Opt
     set_next_rarer_field(fields, words)
 }
 
-/// Sets the year of the next word if this is `year=` with four digits, others come behind it, and no year is set. Returns
-/// whether it did.
+/// Sets the year of the next word if this is `year=` with four digits, others come behind it, and no year is set.
 #[inline(always)]
-fn set_plain_year(fields: &mut DateFields, words: &mut Words) -> bool
+fn set_plain_year(fields: &mut DateFields, words: &mut Words)
     ensures { GoesOn (bag_of fields.old) (words_left words.old) (bag_of fields.new) (words_left words.new) }
 {
     if fields.extended_year.is_some() {
-        return false;
+        return;
     }
-    let Some(year) = words.take_plain_year() else {
-        return false;
-    };
-    fields.extended_year = Some(year);
-    true
+    if let Some(year) = words.take_plain_year() {
+        fields.extended_year = Some(year);
+    }
 }
 
-/// Sets the month of the next word if this is `month=` with `M` and two digits, others come behind it, and no month is
-/// set. Returns whether it did.
+/// Returns whether a bag has a year or a month.
+fn has_month(fields: &DateFields) -> bool
+    ensures { result ≡ false → HasNoMonth (bag_of fields.now) }
+{
+    fields.extended_year.is_some() || fields.month.is_some()
+}
+
+/// Sets the year and the month of the next two words if these are `year=` with four digits and `month=` with `M` and two
+/// digits, others come behind them, and neither is set. Otherwise does so for the year alone, if it can.
 #[inline(always)]
-fn set_plain_month(fields: &mut DateFields, words: &mut Words) -> bool
+fn set_plain_month_of_year(fields: &mut DateFields, words: &mut Words)
     ensures { GoesOn (bag_of fields.old) (words_left words.old) (bag_of fields.new) (words_left words.new) }
 {
-    if fields.month.is_some() {
-        return false;
+    if has_month(fields) {
+        return;
     }
-    let Some(month) = words.take_plain_month() else {
-        return false;
-    };
-    fields.month = Some(month);
-    true
+    match words.take_plain_year_and_month() {
+        Some(month) => {
+            fields.extended_year = Some(month.year);
+            fields.month = Some(month.month);
+        }
+        None => set_plain_year(fields, words),
+    }
 }
 
-/// Sets the day of the next word if this is `day=` with two digits, and no day is set.
+/// Sets the day of the next word if this is `day=` with one or two digits, and no day is set.
 #[inline(always)]
 fn set_plain_day(fields: &mut DateFields, words: &mut Words)
     ensures { GoesOn (bag_of fields.old) (words_left words.old) (bag_of fields.new) (words_left words.new) }
@@ -151,12 +157,7 @@ fn set_plain_day(fields: &mut DateFields, words: &mut Words)
 fn set_plain_date(fields: &mut DateFields, words: &mut Words)
     ensures { GoesOn (bag_of fields.old) (words_left words.old) (bag_of fields.new) (words_left words.new) }
 {
-    if !set_plain_year(fields, words) {
-        return;
-    }
-    if !set_plain_month(fields, words) {
-        return;
-    }
+    set_plain_month_of_year(fields, words);
     set_plain_day(fields, words);
 }
 

@@ -5,8 +5,9 @@ ghost use Rattle.word_values.specs.Numbers.{number_of};
 ghost use Rattle.request_lines.specs.Words.{words_of};
 ghost use Rattle.request_lines.specs.Reading.{next_word};
 
-use crate::plain_words::{four_digits, plain_day, plain_month, plain_year, two_digits};
-use cal_types::Month;
+use crate::plain_words::{
+    PlainMonth, four_digits, plain_day, plain_year, plain_year_and_month, two_digits,
+};
 use word_values::leading_digits;
 
 fn first_space(text: &[u8]) -> Option<usize>
@@ -51,7 +52,7 @@ impl<'a> Words<'a> {
     ghost use Rattle.request_lines.specs.Reading.{IsReading};
     ghost use Rattle.request_lines.specs.Bags as bags;
     ghost use Rattle.request_lines.specs.Bags.{field_read};
-    ghost use Rattle.cal_types.specs.MonthParts.{month_parts};
+    ghost use Rattle.request_lines.specs.PlainDates.{SaysMonth};
     ghost use Rattle.request_lines.specs.Taking.{is_no_space, after_key, after_word, IsTaken};
 
     /// Creates a cursor before the first word of a line.
@@ -133,18 +134,19 @@ impl<'a> Words<'a> {
         Some(year)
     }
 
-    /// Takes the next word if it is `month=` with `M` and two digits, and others come behind it. Returns the month.
+    /// Takes the next two words if they are `year=DDDD month=MDD`, each `D` a digit, and others come behind them.
+    /// Returns the year and the month.
     #[inline(always)]
-    pub(crate) fn take_plain_month(&mut self) -> Option<Month>
+    pub(crate) fn take_plain_year_and_month(&mut self) -> Option<PlainMonth>
         ensures { MatchOption result (words_left self.new ≡ words_left self.old)
-            (λ m. next_word field_read (words_left self.old) ≡ Some (bags.Month (month_parts m), words_left self.new)) }
+            (λ m. SaysMonth (words_left self.old) m (words_left self.new)) }
     {
-        let (month, others) = plain_month(self.rest?)?;
+        let (month, others) = plain_year_and_month(self.rest?)?;
         self.rest = Some(others);
         Some(month)
     }
 
-    /// Takes the next word if it is `day=` with two digits. Returns the day.
+    /// Takes the next word if it is `day=` with one or two digits. Returns the day.
     #[inline(always)]
     pub(crate) fn take_plain_day(&mut self) -> Option<u8>
         ensures { MatchOption result (words_left self.new ≡ words_left self.old)

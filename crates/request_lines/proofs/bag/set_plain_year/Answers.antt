@@ -7,8 +7,8 @@ use Rattle.request_lines.proofs.KeyLemmas.{with_words}
 use Rattle.request_lines.proofs.PlainDateLemmas.{year_goes_on, not_set-plain}
 use Rattle.request_lines.proofs.bag.set_plain_year.Goals as goal
 
-pub returns : goal.returns
-returns c =
+pub returns-in-Some : goal.returns-in-Some
+returns-in-Some c =
     let year = c.in-Some.year in
     let left = words_left c.take_plain_year.new.self in
     let fits : FitsSigned w32 year = search rules in
