@@ -3,6 +3,7 @@ pub mod DayLemmas
 pub mod DaySetLemmas
 pub mod ListingLemmas
 pub mod LookLemmas
+pub mod NearLemmas
 pub mod NumberLemmas
 pub mod PassingLemmas
 pub mod PlaceLemmas

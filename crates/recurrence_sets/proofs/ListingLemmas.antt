@@ -398,8 +398,9 @@ new-state Has b w rest is start first last starts begins ends p (passing, from, 
 
 -- and of one that is told how many lie before it
 pub resumed-state : (Has : ℕ → ℤ → Type 0) (b : Bounds) (w rest : Window) → IsRestOf b w rest → (index : ℕ) → HasBefore (IsOfSome Has) b w.first index →
-    (looks : Looks) (last : ℤ) → last ≡ rest.last → AreLooks Has last looks → looks.period ≡ 0 → IsListing Has b index looks rest
-resumed-state Has b w rest is index count looks last ends looked none =
+    (looks : Looks) (first last : ℤ) → first ≡ rest.first → last ≡ rest.last → AreLooks Has last looks → ArePassed Has looks.period first last →
+    IsListing Has b index looks rest
+resumed-state Has b w rest is index count looks first last begins ends looked passed =
     let bounds = rest-bounds (IsOfSome Has) b w rest is in
     let before = before-rest (IsOfSome Has) b w rest index is count in
     let span = count-span (λ m. Recurs (IsOfSome Has) b m × (m <ℤ rest.first)) index (negsuc 365242498) rest.first (omega (arith, signed, rest.days.from))
@@ -410,7 +411,7 @@ resumed-state Has b w rest is index count looks last ends looked none =
       counted = before;
       few = omega (arith, signed, span);
       looked = subst (λ (n : ℤ). AreLooks Has n looks) ends looked;
-      passed = λ i lt. absurd (omega (arith, lt, none));
+      passed = subst₂ (λ (a z : ℤ). ArePassed Has looks.period a z) begins ends passed;
     }
 
 -- for callers: where a call gives nothing, no occurrence was left

@@ -9,6 +9,7 @@ mod day_bits;
 mod day_sets;
 mod listing;
 mod looks;
+mod near_looks;
 mod occurrence;
 mod passing;
 mod period_days;

@@ -2,11 +2,12 @@
 
 ghost use Rattle.std.specs.Prelude.{◌≡◌, ◌<◌};
 ghost use Rattle.std.specs.Option.{ForSome};
-ghost use Rattle.cal_days.specs.Day.{IsValidDay};
-ghost use Rattle.recurrence_sets.specs.Listing.{AreLooks, IsListing};
+ghost use Rattle.cal_types.specs.Windows.{IsWindow};
+ghost use Rattle.recurrence_sets.specs.Listing.{AreLooks, ArePassed, IsListing};
 
 use crate::bounds::Bounds;
-use crate::looks::{Looks, first_looks, next_day};
+use crate::looks::{Looks, next_day};
+use crate::near_looks::near_looks;
 use crate::occurrence::Occurrence;
 use crate::passing::pass_before;
 use crate::periods::Periods;
@@ -20,8 +21,9 @@ use std::sync::ledger::{Blank, Ledger};
 ///
 /// The call [`Listing::new`] counts the days before the window. [`Listing::resume`] is given their number.
 ///
-/// A look at a period is one call of [`Periods::days`], and each period is looked at once: [`Listing::next_counted`] adds
-/// at most as many ticks as periods are passed, and [`Listing::new_counted`] at most two more. No memory is allocated.
+/// A look at a period is one call of [`Periods::days`]. [`Listing::next_counted`] adds at most as many ticks as periods
+/// are passed, and [`Listing::new_counted`] at most two more, so that each period is looked at once. Only
+/// [`Listing::resume`] looks at some more, to begin near its window. No memory is allocated.
 #[derive(Drop)]
 pub struct Listing<S: Periods> {
     periods: S,
@@ -104,7 +106,8 @@ impl<S: Periods> Listing<S> {
     }
 
     /// Lists the occurrences in a window, given how many days of the set lie before it from the start on. It goes on
-    /// where another listing was left, and counts nothing.
+    /// where another listing was left, and counts nothing. It takes at most 870 looks before those of the first item,
+    /// whatever lies before the window.
     pub fn resume(periods: S, bounds: Bounds, window: Window, index: u32) -> Listing<S>
         requires { HasBefore (IsOfSome (S.has periods)) bounds window.first index }
         ensures items { (xs : List Occurrence) → AreLeft (IsOfSome (S.has periods)) bounds result.rest xs
@@ -115,8 +118,8 @@ impl<S: Periods> Listing<S> {
         let Some(rest) = bounds.days_within(window) else {
             return Listing::ended(periods, bounds, 0);
         };
-        let (_, last) = rest.ends();
-        let looks = first_looks_with_blank::<S, Brand>(&periods, last, Blank::new(1));
+        let (first, last) = rest.ends();
+        let looks = near_looks_with_blank::<S, Brand>(&periods, first, last, Blank::new(1));
         Listing {
             periods,
             bounds,
@@ -210,17 +213,22 @@ impl<S: Periods> Listing<S> {
     }
 }
 
-/// Looks at the first two periods, with a counter that nobody reads.
-fn first_looks_with_blank<S: Periods, L: Ledger>(periods: &S, last: RataDie, blank: Blank) -> Looks
-    requires valid { IsValidDay last }
+/// Looks at two periods near a window, with a counter that nobody reads.
+fn near_looks_with_blank<S: Periods, L: Ledger>(
+    periods: &S,
+    first: RataDie,
+    last: RataDie,
+    blank: Blank,
+) -> Looks
+    requires days { IsWindow first last }
     requires name { blank.name ≡ L.name }
     requires parts { blank.parts ≡ L.parts }
     requires some { 0 < blank.parts }
     ensures looks { AreLooks (S.has periods.now) last result }
-    ensures period { result.period ≡ 0 }
+    ensures passed { ArePassed (S.has periods.now) result.period first last }
 {
     let mut steps = Steps::<L>::new(blank);
-    first_looks(periods, last, &mut steps)
+    near_looks(periods, first, last, &mut steps)
 }
 
 impl<S: Periods> Iterator for Listing<S> {

@@ -28,7 +28,7 @@ pub(crate) struct Looks {
 }
 
 /// Returns the days of a period as [`Periods::days`] does, at the cost of one tick.
-fn days_counted<S: Periods, L: Ledger>(
+pub(crate) fn days_counted<S: Periods, L: Ledger>(
     periods: &S,
     period: u32,
     last: RataDie,
@@ -43,21 +43,22 @@ fn days_counted<S: Periods, L: Ledger>(
     periods.days(period, last)
 }
 
-/// Looks at the first two periods, at the cost of at most two ticks.
-pub(crate) fn first_looks<S: Periods, L: Ledger>(
+/// Looks at a period and the next one, at the cost of at most two ticks.
+pub(crate) fn looks_from<S: Periods, L: Ledger>(
     periods: &S,
+    period: u32,
     last: RataDie,
     steps: &mut Steps<L>,
 ) -> Looks
     requires { IsValidDay last }
     ensures looks { AreLooks (S.has periods.now) last result }
-    ensures period { result.period ≡ 0 }
+    ensures period { result.period ≡ period }
     ensures ticks { steps.new ≤ steps.old + 2 }
 {
-    let current = days_counted(periods, 0, last, steps);
-    let following = days_behind(periods, 0, &current, last, steps);
+    let current = days_counted(periods, period, last, steps);
+    let following = days_behind(periods, period, &current, last, steps);
     Looks {
-        period: 0,
+        period,
         current,
         following,
     }

@@ -7,7 +7,7 @@ ghost use Rattle.recurrence_sets.specs.Passing.{IsFullBefore, IsPassing};
 ghost use Rattle.recurrence_sets.specs.Occurrences.{IsOfSome};
 
 use crate::bounds::Bounds;
-use crate::looks::{Looks, first_looks, next_day};
+use crate::looks::{Looks, looks_from, next_day};
 use crate::periods::Periods;
 use cal_arith::Steps;
 use cal_days::RataDie;
@@ -44,7 +44,7 @@ pub(crate) fn pass_before<S: Periods, L: Ledger>(
     ensures period { ForSome result.1 (λ p. p.looks.period ≡ result.0) }
     ensures ticks { steps.new ≤ steps.old + 2 + result.0 }
 {
-    let looks = first_looks(periods, last, steps);
+    let looks = looks_from(periods, 0, last, steps);
     let mut passed = Passed {
         first,
         next: first,

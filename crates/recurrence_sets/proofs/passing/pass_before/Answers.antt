@@ -7,10 +7,10 @@ use Rattle.recurrence_sets.proofs.passing.pass_before.Goals as goal
 
 pub days-init : goal.days-init
 days-init g c = record {
-  passed = pass-first (g.S.Periods.has c.args.periods.now) c.args.first c.args.last c.first_looks-looks.result c.first_looks-looks.ensures.looks c.first_looks-looks.ensures.period;
+  passed = pass-first (g.S.Periods.has c.args.periods.now) c.args.first c.args.last c.looks_from-looks.result c.looks_from-looks.ensures.looks c.looks_from-looks.ensures.period;
   first = refl;
   most = c.requires.before.order;
-  ticks = omega (arith, c.first_looks-looks.ensures.ticks, c.first_looks-looks.ensures.period);
+  ticks = omega (arith, c.looks_from-looks.ensures.ticks, c.looks_from-looks.ensures.period);
 }
 
 pub returns-then-has_all-clause-passed : goal.returns-then-has_all-clause-passed

@@ -12,11 +12,11 @@ invariant_of-result g c =
     let Has = g.S.Periods.has c.args.periods in
     let b = c.args.bounds in
     let rest = c.in-Some.rest in
-    let looks = c.first_looks_with_blank-looks in
+    let looks = c.near_looks_with_blank-looks in
     record {
       listing = for-some (λ w. IsListing Has b c.args.index looks.result w) rest
-          (resumed-state Has b c.args.window rest c.in-Some.ensures c.args.index c.requires looks.result c.ends-last.result.1 c.ends-last.ensures.last
-          looks.ensures.looks looks.ensures.period);
+          (resumed-state Has b c.args.window rest c.in-Some.ensures c.args.index c.requires looks.result c.ends-first.result.0 c.ends-first.result.1
+          c.ends-first.ensures.first c.ends-first.ensures.last looks.ensures.looks looks.ensures.passed);
     }
 
 pub returns-in_default-clause-items : goal.returns-in_default-clause-items
