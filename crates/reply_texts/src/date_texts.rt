@@ -9,7 +9,9 @@ ghost use Rattle.reply_texts.specs.DateTexts.{year_text, date_text, day_text, pa
 ghost use Rattle.reply_texts.specs.DateParts.{IsDayParts};
 
 use crate::day_parts::DayParts;
-use crate::text::{Pending, push_all, push_number, push_signed, push_two_digits};
+use crate::text::{
+    Pending, push_all, push_day_number, push_number, push_two_digits, push_year_number,
+};
 use cal_types::{BagSide, DateDuration, DateFromFieldsError, Month, SpanError, YearInfo};
 
 /// Appends a year of an era or of a cycle.
@@ -22,7 +24,7 @@ fn push_year(text: &mut Pending, year: &YearInfo)
         YearInfo::Era(era) => {
             push_all(text, era.era.as_bytes());
             text.push(b'.');
-            push_signed(text, i64::from(era.year));
+            push_year_number(text, era.year);
         }
         YearInfo::Cyclic(cyclic) => {
             push_all(text, b"cycle.");
@@ -161,7 +163,7 @@ pub fn push_date(text: &mut Pending, parts: &DayParts)
         → text.new.items ≡ text.old.items ++ date_text s t }
     ensures len { array_vec_len text.new ≤ array_vec_len text.old + 92 }
 {
-    push_signed(text, i64::from(parts.year.extended_year()));
+    push_year_number(text, parts.year.extended_year());
     text.push(b'/');
     push_year(text, &parts.year);
     text.push(b'/');
@@ -169,7 +171,7 @@ pub fn push_date(text: &mut Pending, parts: &DayParts)
     text.push(b'/');
     push_two_digits(text, parts.day);
     text.push(b'@');
-    push_signed(text, parts.rata_die.to_i64_date());
+    push_day_number(text, parts.rata_die.to_i64_date());
 }
 
 /// Appends a date and the same day in a second calendar, at most 185 bytes.

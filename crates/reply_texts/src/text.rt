@@ -82,6 +82,56 @@ pub fn push_signed(text: &mut Pending, number: i64)
     }
 }
 
+/// Appends a number of four digits in decimal.
+fn push_four_digits(text: &mut Pending, number: u32)
+    requires room { array_vec_len text.old + 4 ≤ 8192 }
+    requires least { 1000 ≤ number }
+    requires small { number < 10000 }
+    ensures items { text.new.items ≡ text.old.items ++ decimal number }
+    ensures len { array_vec_len text.new ≤ array_vec_len text.old + 4 }
+{
+    push_two_digits(text, (number / 100) as u8);
+    push_two_digits(text, (number % 100) as u8);
+}
+
+/// Appends a number of six digits in decimal.
+fn push_six_digits(text: &mut Pending, number: u32)
+    requires room { array_vec_len text.old + 6 ≤ 8192 }
+    requires least { 100000 ≤ number }
+    requires small { number < 1000000 }
+    ensures items { text.new.items ≡ text.old.items ++ decimal number }
+    ensures len { array_vec_len text.new ≤ array_vec_len text.old + 6 }
+{
+    push_four_digits(text, number / 100);
+    push_two_digits(text, (number % 100) as u8);
+}
+
+/// Appends a year in decimal, at most 21 bytes. Whether it has four digits is tested first.
+pub(crate) fn push_year_number(text: &mut Pending, year: i32)
+    requires { array_vec_len text.old + 21 ≤ 8192 }
+    ensures items { text.new.items ≡ text.old.items ++ signed_decimal year }
+    ensures len { array_vec_len text.new ≤ array_vec_len text.old + 21 }
+{
+    if year >= 1000 && year < 10_000 {
+        push_four_digits(text, year as u32);
+    } else {
+        push_signed(text, i64::from(year));
+    }
+}
+
+/// Appends a day number in decimal, at most 21 bytes. Whether it has six digits is tested first.
+pub(crate) fn push_day_number(text: &mut Pending, number: i64)
+    requires { array_vec_len text.old + 21 ≤ 8192 }
+    ensures items { text.new.items ≡ text.old.items ++ signed_decimal number }
+    ensures len { array_vec_len text.new ≤ array_vec_len text.old + 21 }
+{
+    if number >= 100_000 && number < 1_000_000 {
+        push_six_digits(text, number as u32);
+    } else {
+        push_signed(text, number);
+    }
+}
+
 /// Appends a number below 100 in two digits.
 pub fn push_two_digits(text: &mut Pending, number: u8)
     requires room { array_vec_len text.old + 2 ≤ 8192 }

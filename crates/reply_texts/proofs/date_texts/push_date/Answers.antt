@@ -20,11 +20,10 @@ returns-clause-items c s t h =
     let old = c.args.text.now.items in
     let extended : c.extended_year.result ≡ t.year = c.extended_year.ensures ∙ h.extended_year in
     let small : FitsSigned w32 c.extended_year.result = search rules in
-    let fits : FitsSigned w64 c.from.result = search rules in
-    let year : to_z w64 (of_z w64 c.from.result) ≡ t.year = to_z-of_z fits ∙ c.from.ensures ∙ to_z-of_z small ∙ extended in
+    let year : to_z w32 (of_z w32 c.extended_year.result) ≡ t.year = to_z-of_z small ∙ extended in
     let number : to_z w64 (of_z w64 c.to_i64_date.result) ≡ day_number s.list t = omega (arith, signed, c.to_i64_date.ensures.value, h.rata_die) in
-    pushed old _ _ _ _ _ _ _ _ _ _ _ _ _ _ c.push_signed.ensures.items c.push.ensures.items c.push_year.ensures.items c.push-2.ensures.items
-    c.push_month.ensures.items c.push-3.ensures.items c.push_two_digits.ensures c.push-4.ensures.items c.push_signed-2.ensures.items
+    pushed old _ _ _ _ _ _ _ _ _ _ _ _ _ _ c.push_year_number.ensures.items c.push.ensures.items c.push_year.ensures.items c.push-2.ensures.items
+    c.push_month.ensures.items c.push-3.ensures.items c.push_two_digits.ensures c.push-4.ensures.items c.push_day_number.ensures.items
     ∙ λ i. old ++ (signed_decimal (year i) ++ 47 ∷ year_text (h.year i) ++ 47 ∷ code_text (h.month i) ++ 47 ∷ two_digits (h.day i) ++ 64 ∷ signed_decimal (number i))
 
 pub returns-clause-len : goal.returns-clause-len
@@ -33,5 +32,5 @@ returns-clause-len c = grind (arith, common_steps)
 pub push-requires-4 : goal.push-requires-4
 push-requires-4 c = grind (arith, common_steps)
 
-pub push_signed-requires-2 : goal.push_signed-requires-2
-push_signed-requires-2 c = grind (arith, common_steps)
+pub push_day_number-requires : goal.push_day_number-requires
+push_day_number-requires c = grind (arith, common_steps)

@@ -11,8 +11,8 @@ returns-in-Cyclic-clause-items c = grind (arith, common_steps)
 pub returns-in-Era-clause-len : goal.returns-in-Era-clause-len
 returns-in-Era-clause-len c = grind (arith, common_steps)
 
-pub push_signed-requires : goal.push_signed-requires
-push_signed-requires c = grind (arith, common_steps)
+pub push_year_number-requires : goal.push_year_number-requires
+push_year_number-requires c = grind (arith, common_steps)
 
 pub push-requires : goal.push-requires
 push-requires c = grind (arith, common_steps)
