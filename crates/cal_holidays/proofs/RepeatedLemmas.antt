@@ -409,9 +409,10 @@ module _ (c : CalendarList) (law : IsLawful c) (r : Repeated) (rule : Recurrence
       from n within h =
           let (index, occurs) = of-text h.own h.occurs in
           let here = around h.own occurs.recurs.valid (moved-near moves first last reach h.own n near h.moved within) in
+          let (i, o) = of-rule index h.own here.0 occurs in
           record {
             own = h.own;
-            is_own = (at-first rest rests items index h.own occurs here, of-rule index h.own here.0 occurs);
+            is_own = (at-first rest rests items index h.own occurs here, i, o);
             year = h.year;
             in_year = h.in_year;
             kept = h.kept;
