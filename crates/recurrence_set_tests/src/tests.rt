@@ -2,6 +2,8 @@
 
 mod expected;
 
+ghost use Rattle.std.specs.Prelude.{◌≡◌};
+
 use crate::hundreds::Hundreds;
 use cal_days::RataDie;
 use cal_kinds::AnyCalendarKind;
@@ -104,6 +106,40 @@ fn the_first_and_the_last_valid_days(rt: HostRuntime) {
     assert_same(&rt, parts(items.next()), Some((1, -365242399)));
     assert_same(&rt, parts(items.next()), Some((2, -365242349)));
     assert_same(&rt, items.next(), None);
+}
+
+/// Returns the next item of a listing that goes on where another one was left.
+fn resumed_item(
+    items: &Listing<Hundreds>,
+    periods: &Hundreds,
+    bounds: &Bounds,
+) -> Option<Occurrence>
+    requires periods { items.now.periods ≡ periods.now }
+    requires bounds { items.now.bounds ≡ bounds.now }
+{
+    let rest = items.rest()?;
+    let mut resumed = Listing::resume(*periods, *bounds, rest, items.next_index());
+    resumed.next()
+}
+
+/// Returns the first item in a window, of a listing that goes on where another one was left at once.
+fn first_resumed(periods: &Hundreds, bounds: &Bounds, window: Window) -> Option<Occurrence> {
+    let items = Listing::new(*periods, *bounds, window);
+    resumed_item(&items, periods, bounds)
+}
+
+/// Asserts what the first item of a resumed listing is.
+fn assert_resumed(rt: &impl Abort, bounds: &Bounds, ends: (i64, i64), expected: (u32, i64)) {
+    let window = window_of(rt, ends.0, ends.1);
+    let item = first_resumed(&Hundreds::new(1000), bounds, window);
+    assert_same(rt, parts(item), Some(expected));
+}
+
+#[test]
+fn resumed_far_from_the_start(rt: HostRuntime) {
+    let bounds = bounds_of(&rt, 1000, 0, 0);
+    assert_resumed(&rt, &bounds, (100001, 100300), (1980, 100050));
+    assert_resumed(&rt, &bounds, (100101, 100300), (1982, 100150));
 }
 
 /// Returns the days of a set from 1000 on, counted from 1000.
